@@ -3,7 +3,7 @@
 
     tools/check_docs.py
 
-- README.md's picture has the rooms of crates.txt; in crates.txt each crate stands on crates before it, and in the picture on its own room or on those of
+- README.md's picture has the layers of crates.txt; in crates.txt each crate stands on crates before it, and in the picture on its own layer or on those of
   rows below it, but for those of ACROSS.
 - Each crate of crates.txt that is no test and measures nothing stands, in bold, in docs/proved.md, and no other does; so does each law by its name.
 - docs/definitions.md is what tools/made_docs.py makes of the sources.
@@ -33,9 +33,10 @@ BESIDE_CODES = {"200", "409", "422", "503"}
 INSIDE = re.compile(r"(?<![\w/.])((?:specs|proofs|src|must-fail|wrong-bodies)/[\w./-]*\w)(?![\w*])")
 NAMED = re.compile(r"(?<![\w/.])((?:docs|bench|tools|examples|rows)/[\w./-]*\w|crates/\w+/(?:src|specs|proofs)/[\w/]+\.\w+)")
 
-# what the small program reads stands on names and entities, of the room that its own room is below
+# what the small program reads stands on names and entities, of the layer that its own layer is below
 ACROSS = {"decision_texts"}
-MOST_BYTES = 150_000
+# of which docs/surface.md has some 12,000
+MOST_BYTES = 162_000
 # between a case and its outcome
 ARROW = "  ->  "
 
@@ -43,7 +44,7 @@ ARROW = "  ->  "
 LONG = {
     "crates/decision_texts/src/request.rt": 1,
     "crates/entities/src/requests.rt": 1,
-    "crates/known_pairs/src/compared.rt": 2,
+    "crates/type_capabilities/src/compared.rt": 2,
 }
 
 
@@ -62,27 +63,27 @@ def crates():
     return [it[0] for it in lines if it]
 
 
-def rows_of_rooms():
-    """The rooms of each row of README.md's picture, highest first."""
-    known = {name for name, _, _ in made_docs.rooms()} - {"ground", "tests"}
+def rows_of_layers():
+    """The layers of each row of README.md's picture, highest first."""
+    known = {name for name, _, _ in made_docs.layers()} - {"ground", "tests"}
     rows = ([it for it in re.split(r" {2,}", line.strip()) if it in known] for line in text_of("README.md").split("\n") if re.match(r"    \w+ ", line))
     return [it for it in rows if it]
 
 
-def about_rooms():
-    rows = rows_of_rooms()
-    shown, known = [it for row in rows for it in row], [name for name, _, _ in made_docs.rooms() if name not in ("ground", "tests")]
+def about_layers():
+    rows = rows_of_layers()
+    shown, known = [it for row in rows for it in row], [name for name, _, _ in made_docs.layers() if name not in ("ground", "tests")]
     if sorted(shown) != sorted(known):
         yield f"README.md's picture has {', '.join(shown)}, and crates.txt {', '.join(known)}"
     row_of = {name: -number for number, row in enumerate(rows) for name in row}
-    room_of = {crate: name for name, _, names in made_docs.rooms() for crate in names}
+    layer_of = {crate: name for name, _, names in made_docs.layers() for crate in names}
     before = set()
     for line in text_of("crates.txt").split("\n"):
         name, _, named = line.partition("#")[0].partition(":")
         for other in named.split():
             if other in crates() and other not in before and name.strip() not in ACROSS:
                 yield f"crates.txt: {name} stands on {other}, which is not before it"
-            low, high = room_of.get(other), room_of.get(name.strip())
+            low, high = layer_of.get(other), layer_of.get(name.strip())
             if low in row_of and high in row_of and low != high and row_of[low] >= row_of[high] and name.strip() not in ACROSS:
                 yield f"README.md: {name} stands on {other}, which its picture has not below it"
         before.add(name.strip())
@@ -206,7 +207,7 @@ def about_reading():
 
 
 def main():
-    found = [*about_rooms(), *about_crates(), *about_paths(), *about_numbers(), *about_lines(), *about_long_lines(), *about_codes()]
+    found = [*about_layers(), *about_crates(), *about_paths(), *about_numbers(), *about_lines(), *about_long_lines(), *about_codes()]
     found += [*about_cases(), *made_docs.stale(), *about_reading()]
     print("\n".join(found) or "documents: as they should be")
     return 1 if found else 0

@@ -8,7 +8,7 @@ again on each path that leads to it (kit 13b, 16 ms a path; kit 13f walks the pa
 it needs, and these pass on the crates below them (docs/proving.md).
 
 Prints the total, the crates with the most paths, and the edges that cost the most of those that could go: the library is also reached
-through another one that the crate names. Fails if there are over 60,000 paths (--total), or over 12,000 from one crate (--most).
+through another one that the crate names. Fails if there are over 30,000 paths (--total), or over 12,000 from one crate (--most).
 Standard library alone.
 """
 import argparse
@@ -67,7 +67,7 @@ def spared(named, start, end):
 
 def main():
     parser = argparse.ArgumentParser(description=__doc__.split("\n", maxsplit=1)[0])
-    parser.add_argument("--total", type=int, default=60_000)
+    parser.add_argument("--total", type=int, default=30_000)
     parser.add_argument("--most", type=int, default=12_000)
     limits = parser.parse_args()
     named = read_crates()

@@ -1,11 +1,11 @@
 #!/usr/bin/env python3
-"""Makes docs/definitions.md from the sources, so that it says what the sources say, and tells what they give out.
+"""Makes docs/definitions.md and docs/surface.md from the sources, so that they say what the sources say, and tells what these give out.
 
     tools/made_docs.py [--check | --missing | --laws | --calls [CRATE ..] | --where NAME]
 
 docs/definitions.md: of each file of specs/ outside specs/inner the first clause of its head comment, its public source,
 those of its names that a public contract cites, and how many of its lines the contract of the whole program rests on,
-as tools/reading_list.py counts them. With --check nothing is written: it prints what differs, and ends with status 1
+as tools/reading_list.py counts them. docs/surface.md: what tools/surface.py demands, with the first clause of each doc comment. With --check nothing is written: it prints what differs, and ends with status 1
 where something does. With --missing it prints what is given out without a doc comment, and which files of specs/ have
 no head comment; with --laws the laws, which are functions that do nothing; with --calls what crates give out: types and
 traits with their public methods, functions and constants, each with the first clause of its doc comment; with --where
@@ -53,7 +53,7 @@ Made from the sources by `tools/made_docs.py`: to change it, change a head comme
 
 The files of specs/, highest crate first, each with what it defines, in short, and its source.
 **With a number**, and with its relations that a public contract cites (or functions, where there
-are none): the contract of a whole run, `site_commands::run`, rests on so many of its lines
+are none): the contract of a whole run, `program::run`, rests on so many of its lines
 (docs/reading.md); these stand in the order in which a reader meets their names.
 **Without one**: of laws (docs/proved.md), and of what code shows to contracts: those that have a
 public source, and by name the rest but for laws. `tools/made_docs.py --where NAME` tells of any.
@@ -173,8 +173,8 @@ def quoted(names):
     return f"`{' '.join(names)}`" if names else ""
 
 
-def rooms():
-    """The rooms of crates.txt, lowest first: the name of each, what it is for, and its crates."""
+def layers():
+    """The layers of crates.txt, lowest first: the name of each, what it is for, and its crates."""
     for part in re.split(r"(?m)^# ---- ", text_of("crates.txt"))[1:]:
         name, _, what = part.partition("\n")[0].partition(": ")
         yield name, what, [it for it in re.findall(r"(?m)^(\w+):", part.partition("\n")[2]) if not TESTS.search(it)]
@@ -312,7 +312,19 @@ def missing():
         yield from (f"{crate.name}, specs/{module}" for path, module in modules_of(crate.name) if not head_of(path))
 
 
-MADE = (("docs/definitions.md", definitions),)
+def purpose_of(layer):
+    """What a layer of crates.txt is for, as a sentence without its full stop."""
+    what = next(what for name, what, _ in layers() if name == layer).partition(". ")[0]
+    return what[:1].upper() + what[1:]
+
+
+def surface_page():
+    import surface  # which imports this module
+
+    return surface.page()
+
+
+MADE = (("docs/definitions.md", definitions), ("docs/surface.md", surface_page))
 
 
 def stale():

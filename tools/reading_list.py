@@ -3,7 +3,7 @@
 
     tools/reading_list.py [--names] [CRATE MODULE NAME ..]
 
-Without words it starts at the contract of the program's runs, `site_commands::run`, and at what it is over: the clauses of the trait `Host`, and what
+Without words it starts at the contract of the program's runs, `program::run`, and at what it is over: the clauses of the trait `Host`, and what
 `SystemHost` means by them. It walks names: from those that the contract cites to those that their definitions cite, over the `use` lines of specs/, and
 leaves out what no definition on the way names (lemmas, helpers of proofs). A file counts with the lines of those of its definitions that are reached, and
 of the comments above them. Types and traits that are declared in code count with their file. Of std and the ported libraries it follows nothing: it tells
@@ -19,7 +19,7 @@ import sys
 import textwrap
 
 TOP = os.path.dirname(os.path.dirname(os.path.abspath(__file__)))
-START = "site_commands"
+START = "program"
 # what the clauses of its contract cite, and what they are over: each file of its code with what is declared there
 CITED = [("Events", "Runs"), ("Runs", "IsRun")]
 OVER = [("host", "Host"), ("system", "SystemHost")]

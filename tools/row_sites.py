@@ -638,7 +638,7 @@ class Sites(Served):
     """
 
     BETWEEN = " ¶ "
-    OTHERS = ("context", "cuts", "prefixes", "reads", "serve", "standing", "tried", "world", "writes")
+    OTHERS = ("context", "cuts", "prefixes", "reads", "says", "serve", "standing", "tried", "world", "writes")
 
     @staticmethod
     def rows_of(table):

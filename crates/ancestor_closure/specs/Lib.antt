@@ -1,8 +1,6 @@
-pub mod LeastCycle
-pub mod SearchedMeaning
+pub mod Lists
 pub mod inner
--- what crates above cite of `parent_graphs`, passed on
-pub use Rattle.parent_graphs.specs.Decided
-pub use Rattle.parent_graphs.specs.Deciding
-pub use Rattle.parent_graphs.specs.Hierarchy
-pub use Rattle.parent_graphs.specs.Search
+pub mod ClosedMeaning
+pub mod Kept
+-- crates below, passed on to those above
+pub use Rattle.ancestor_search.specs as ancestor_search

@@ -1,14 +1,24 @@
-//! Who is above whom in a hierarchy of entities, by search, and which cycle is named where there are cycles.
+//! Ancestors kept at hand: of each entity of a hierarchy the list of all above it, its children, and who is on a cycle;
+//! and how these follow a change of one entity's parents.
 #![tactic(auto)]
 
-pub mod hierarchy;
-pub mod laws;
-mod named_cycle;
-pub mod searched;
+mod anew;
+mod changing;
+mod children;
+pub mod closed;
+mod cycles;
+pub mod keeping;
+mod lists;
+mod relatives;
+mod room;
 
-pub use hierarchy::{Ancestry, Hierarchy};
-pub use named_cycle::{least_cycle, least_cycle_among};
-pub use parent_graphs::{
-    Changed, Graph, ParentsOf, ancestors_of, is_above, is_among, listed, on_cycles, would_cycle,
-};
-pub use searched::Searched;
+pub use ancestor_search::laws::paths_are_decided;
+pub use ancestor_search::{Ancestry, Graph, Hierarchy, ParentsOf, Searched, would_cycle};
+pub use changing::{follow, make_room, parents_by};
+pub use children::add_to_all;
+pub use closed::Closed;
+pub use cycles::{are_none, members};
+pub use keeping::KeptAncestors;
+pub use lists::{is_in, lent, list_within, shared_all};
+pub use relatives::{Relatives, ancestors_at, shared, write_list};
+pub use room::Room;

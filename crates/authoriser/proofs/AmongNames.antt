@@ -5,7 +5,7 @@ use Rattle.std.proofs.Common.{inl, inr, sym, ap, subst, ◌∙◌, take}
 use Rattle.std.proofs.lemmas.List.{take_more, take_all}
 use Rattle.std.proofs.lemmas.List.Elements.{Contains-push_cases}
 use Rattle.values.specs.declared.entity_uid.EntityUid.{EntityUid}
-use Rattle.evaluator.specs.ancestor_closure.Hierarchy.{names}
+use Rattle.evaluator.specs.ancestor_search.Hierarchy.{names}
 
 names_push : (ps : List (Bor EntityUid)) (p : Bor EntityUid) → names (ps ++ p ∷ []) ≡ names ps ++ p.now ∷ []
 names_push [] p = refl

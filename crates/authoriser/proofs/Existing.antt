@@ -5,12 +5,12 @@ use Rattle.std.proofs.lemmas.Bool.{false≢true}
 use Rattle.values.specs.declared.entity_uid.EntityUid.{EntityUid}
 use Rattle.values.specs.declared.request.Request.{Request}
 use Rattle.values.specs.Values.{PlainValue, boolean, long, text, entity, set, record_of, decimal, ipaddr}
-use Rattle.evaluator.specs.ancestor_closure.Hierarchy.{Parents, Path, IsOnCycle}
-use Rattle.evaluator.specs.ancestor_closure.LeastCycle.{HasNoCycle, IsLeastCycle, CyclesHaveALeast}
-use Rattle.evaluator.specs.ancestor_closure.Decided.{Decides, HaveAllParents, reaches, PathsAreDecided}
-use Rattle.expressions.specs.declared.expr.Expr.{Expr}
-use Rattle.expressions.specs.declared.expr.Expr.TheVariants as core
-use Rattle.expressions.specs.declared.leaf.Variable.TheVariants.{Principal, Resource}
+use Rattle.evaluator.specs.ancestor_search.Hierarchy.{Parents, Path, IsOnCycle}
+use Rattle.evaluator.specs.ancestor_search.LeastCycle.{HasNoCycle, IsLeastCycle, CyclesHaveALeast}
+use Rattle.evaluator.specs.ancestor_search.Decided.{Decides, HaveAllParents, reaches, PathsAreDecided}
+use Rattle.grammar_core.specs.declared.expr.Expr.{Expr}
+use Rattle.grammar_core.specs.declared.expr.Expr.TheVariants as core
+use Rattle.grammar_core.specs.declared.leaf.Variable.TheVariants.{Principal, Resource}
 use Rattle.scope_index.specs.policy_grammar.declared.policy.Policy.{Policy}
 use Rattle.scope_index.specs.policy_grammar.Whole.{entity_part, action_part, expression_of}
 use Rattle.evaluator.specs.declared.fault.EvalFault.{EvalFault}

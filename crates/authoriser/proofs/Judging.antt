@@ -10,10 +10,10 @@ use Rattle.std.proofs.lemmas.List.Elements.{Contains-push_cases}
 use Rattle.values.specs.declared.entity_uid.EntityUid.{EntityUid}
 use Rattle.values.specs.declared.request.Request.{Request}
 use Rattle.plain.proofs.Members.{Contains-none}
-use Rattle.evaluator.specs.ancestor_closure.Hierarchy.{Parents, Path, IsAllAbove, IsAscending, names, IsIn}
-use Rattle.evaluator.specs.ancestor_closure.LeastCycle.{HasNoCycle, IsLeastCycle}
-use Rattle.evaluator.specs.ancestor_closure.Decided.{Decides}
-use Rattle.expressions.specs.declared.expr.Expr.{Expr}
+use Rattle.evaluator.specs.ancestor_search.Hierarchy.{Parents, Path, IsAllAbove, IsAscending, names, IsIn}
+use Rattle.evaluator.specs.ancestor_search.LeastCycle.{HasNoCycle, IsLeastCycle}
+use Rattle.evaluator.specs.ancestor_search.Decided.{Decides}
+use Rattle.grammar_core.specs.declared.expr.Expr.{Expr}
 use Rattle.scope_index.specs.policy_grammar.declared.policy.Policy.{Policy}
 use Rattle.scope_index.specs.policy_grammar.declared.policy.EntityScope.{EntityScope}
 use Rattle.scope_index.specs.policy_grammar.declared.policy.ActionScope.{ActionScope}

@@ -10,9 +10,9 @@ use Rattle.values.specs.declared.entity_uid.EntityUid.{EntityUid}
 use Rattle.values.specs.declared.request.Request.{Request}
 use Rattle.values.specs.Values.{boolean}
 use Rattle.values.specs.Names.{text_cmp}
-use Rattle.evaluator.specs.ancestor_closure.Hierarchy.{Parents, IsOnCycle}
-use Rattle.evaluator.specs.ancestor_closure.LeastCycle.{IsLeastCycle, LeastCyclesAreOne}
-use Rattle.expressions.specs.declared.expr.Expr.{Expr}
+use Rattle.evaluator.specs.ancestor_search.Hierarchy.{Parents, IsOnCycle}
+use Rattle.evaluator.specs.ancestor_search.LeastCycle.{IsLeastCycle, LeastCyclesAreOne}
+use Rattle.grammar_core.specs.declared.expr.Expr.{Expr}
 use Rattle.scope_index.specs.policy_grammar.declared.policy.Effect.{Effect}
 use Rattle.scope_index.specs.policy_grammar.declared.policy.Effect.TheVariants.{Permit, Forbid}
 use Rattle.scope_index.specs.policy_grammar.declared.policy.Policy.{Policy}

@@ -13,14 +13,14 @@ use Rattle.values.specs.Sets.{set_list}
 use Rattle.values.specs.Laws.{SetsHoldTheirMembers}
 use Rattle.values.specs.Values.{PlainValue, boolean, long, text, entity, set, record_of, decimal, ipaddr}
 use Rattle.values.specs.Values.{list_of-values_of}
-use Rattle.evaluator.specs.ancestor_closure.Decided.{Decides}
-use Rattle.expressions.specs.declared.leaf.Literal.TheVariants as literal
-use Rattle.expressions.specs.declared.leaf.Variable.{Variable}
-use Rattle.expressions.specs.declared.leaf.Variable.TheVariants.{Principal, Action, Resource}
-use Rattle.expressions.specs.declared.operator.Unary.TheVariants.{Is}
-use Rattle.expressions.specs.declared.operator.Binary.TheVariants.{Equal, In}
-use Rattle.expressions.specs.declared.expr.Expr.{Expr}
-use Rattle.expressions.specs.declared.expr.Expr.TheVariants as core
+use Rattle.evaluator.specs.ancestor_search.Decided.{Decides}
+use Rattle.grammar_core.specs.declared.leaf.Literal.TheVariants as literal
+use Rattle.grammar_core.specs.declared.leaf.Variable.{Variable}
+use Rattle.grammar_core.specs.declared.leaf.Variable.TheVariants.{Principal, Action, Resource}
+use Rattle.grammar_core.specs.declared.operator.Unary.TheVariants.{Is}
+use Rattle.grammar_core.specs.declared.operator.Binary.TheVariants.{Equal, In}
+use Rattle.grammar_core.specs.declared.expr.Expr.{Expr}
+use Rattle.grammar_core.specs.declared.expr.Expr.TheVariants as core
 use Rattle.scope_index.specs.policy_grammar.declared.policy.EntityScope.{EntityScope}
 use Rattle.scope_index.specs.policy_grammar.declared.policy.EntityScope.TheVariants as part
 use Rattle.scope_index.specs.policy_grammar.declared.policy.ActionScope.{ActionScope}
@@ -34,7 +34,7 @@ use Rattle.evaluator.specs.Operators as op
 use Rattle.evaluator.specs.Operators.{World}
 use Rattle.evaluator.specs.Evaluation as rule
 use Rattle.evaluator.specs.Evaluation.{EvaluatesTo, EachEvaluatesTo, variable_value}
-use Rattle.evaluator.specs.ancestor_closure.Hierarchy.{IsIn}
+use Rattle.evaluator.specs.ancestor_search.Hierarchy.{IsIn}
 use Rattle.scope_index.specs.Scopes.{IsEntityScopeTrue, IsActionScopeTrue, IsScopeTrue}
 use Rattle.authoriser.specs.Parts.{PartsDecide, ConditionDecides, ScopesDoNotErr, TrueScopesLeaveToConditions}
 use Rattle.authoriser.specs.Parts.{OtherScopesGiveFalse}

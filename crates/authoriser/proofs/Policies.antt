@@ -3,7 +3,7 @@ use Rattle.std.specs.Prelude.{◌≡◌, ◌↔◌, ℕ, List, [], ◌∷◌, �
 use Rattle.std.specs.List.{filter}
 use Rattle.std.proofs.Common.{inl, inr, sym, ap, subst, ◌∙◌, append_assoc}
 use Rattle.values.specs.declared.request.Request.{Request}
-use Rattle.evaluator.specs.ancestor_closure.LeastCycle.{LeastCyclesAreOne}
+use Rattle.evaluator.specs.ancestor_search.LeastCycle.{LeastCyclesAreOne}
 use Rattle.scope_index.specs.policy_grammar.declared.policy.Effect.{Effect}
 use Rattle.scope_index.specs.policy_grammar.declared.policy.Effect.TheVariants.{Permit, Forbid}
 use Rattle.scope_index.specs.policy_grammar.Whole.{expression_of}

@@ -7,8 +7,8 @@ use Rattle.std.specs.List.{flat_map}
 use Rattle.values.specs.declared.entity_uid.EntityUid.{EntityUid}
 use Rattle.values.specs.declared.request.Request.{Request}
 use Rattle.values.specs.Values.{boolean}
-use Rattle.evaluator.specs.ancestor_closure.Hierarchy.{Parents, Above}
-use Rattle.evaluator.specs.ancestor_closure.LeastCycle.{IsLeastCycle}
+use Rattle.evaluator.specs.ancestor_search.Hierarchy.{Parents, Above}
+use Rattle.evaluator.specs.ancestor_search.LeastCycle.{IsLeastCycle}
 use Rattle.scope_index.specs.policy_grammar.declared.policy.Policy.{Policy}
 use Rattle.scope_index.specs.policy_grammar.declared.policy.Effect.{Effect}
 use Rattle.scope_index.specs.policy_grammar.declared.policy.Effect.TheVariants.{Permit, Forbid}

@@ -6,8 +6,8 @@ use Rattle.std.specs.List.Sorted.{IsStrictlySortedBy}
 use Rattle.values.specs.declared.entity_uid.EntityUid.{EntityUid}
 use Rattle.values.specs.declared.request.Request.{Request}
 use Rattle.values.specs.Uids.{text_cmp}
-use Rattle.evaluator.specs.ancestor_closure.Hierarchy.{Above}
-use Rattle.evaluator.specs.ancestor_closure.Decided.{Decides, HaveAllParents}
+use Rattle.evaluator.specs.ancestor_search.Hierarchy.{Above}
+use Rattle.evaluator.specs.ancestor_search.Decided.{Decides, HaveAllParents}
 use Rattle.scope_index.specs.policy_grammar.declared.policy.Effect.{Effect}
 use Rattle.scope_index.specs.policy_grammar.declared.policy.Effect.TheVariants.{Permit, Forbid}
 use Rattle.evaluator.specs.Operators.{World}

@@ -5,6 +5,6 @@ pub mod Views
 pub mod inner
 -- crates below, passed on to those above
 pub use Rattle.evaluator.specs as evaluator
-pub use Rattle.evaluator.specs.ancestor_closure
-pub use Rattle.expressions.specs as expressions
+pub use Rattle.evaluator.specs.ancestor_search
+pub use Rattle.grammar_core.specs as grammar_core
 pub use Rattle.scope_index.specs.policy_grammar

@@ -5,16 +5,16 @@ use Rattle.std.specs.Prelude.{Bool, true, false, Ok, Err}
 use Rattle.values.specs.declared.entity_uid.EntityUid.{EntityUid}
 use Rattle.values.specs.declared.request.Request.{Request}
 use Rattle.values.specs.Values.{boolean}
-use Rattle.evaluator.specs.ancestor_closure.Decided.{Decides}
-use Rattle.expressions.specs.declared.leaf.Variable.TheVariants.{Principal, Resource}
-use Rattle.expressions.specs.declared.expr.Expr.{Expr}
+use Rattle.evaluator.specs.ancestor_search.Decided.{Decides}
+use Rattle.grammar_core.specs.declared.leaf.Variable.TheVariants.{Principal, Resource}
+use Rattle.grammar_core.specs.declared.expr.Expr.{Expr}
 use Rattle.scope_index.specs.policy_grammar.declared.policy.Policy.{Policy}
 use Rattle.scope_index.specs.policy_grammar.declared.policy.Scope.{Scope}
 use Rattle.scope_index.specs.policy_grammar.Whole.{entity_part, action_part, expression_of}
 use Rattle.evaluator.specs.declared.fault.EvalFault.{EvalFault}
 use Rattle.evaluator.specs.Operators.{World}
 use Rattle.evaluator.specs.Evaluation.{EvaluatesTo, TestFails}
-use Rattle.evaluator.specs.ancestor_closure.Hierarchy.{IsIn}
+use Rattle.evaluator.specs.ancestor_search.Hierarchy.{IsIn}
 use Rattle.scope_index.specs.Scopes.{IsEntityScopeTrue, IsActionScopeTrue, IsScopeTrue}
 
 -- the expression gives whether P holds

@@ -10,7 +10,7 @@ use crate::outcome::{Outcome, PolicyError};
 use crate::request_entities::RequestEntities;
 use crate::scopes::is_scope_true;
 use evaluator::{EvalFault, Question, evaluate_asked_test};
-use expressions::Expr;
+use grammar_core::Expr;
 use plain::NoMemory;
 use scope_index::Policy;
 use std::alloc::Global;

@@ -1,7 +1,7 @@
 //! Decisions: the answer to a request over policies and stored entities.
 ghost use Rattle.std.specs.Prelude.{◌≡◌, [], List, IfOk};
-ghost use Rattle.evaluator.specs.ancestor_closure.Hierarchy.{names};
-ghost use Rattle.evaluator.specs.ancestor_closure.LeastCycle.{HasNoCycle};
+ghost use Rattle.evaluator.specs.ancestor_search.Hierarchy.{names};
+ghost use Rattle.evaluator.specs.ancestor_search.LeastCycle.{HasNoCycle};
 ghost use Rattle.evaluator.specs.Operators.{world_of};
 ghost use Rattle.authoriser.specs.declared.answer.Decision.TheVariants.{Deny};
 ghost use Rattle.authoriser.specs.Answers.{PolicyOutcome, ArePolicyOutcomes, answer_by, IsAnswer};

@@ -4,7 +4,7 @@ ghost use Rattle.authoriser.specs.inner.Views.{HasRequestAncestors};
 
 use crate::request_entities::{RequestEntities, request_entities_of};
 use evaluator::{Ancestry, Lookup, Question, is_among};
-use expressions::Variable;
+use grammar_core::Variable;
 use plain::NoMemory;
 use std::alloc::Global;
 use std::marker::Model;

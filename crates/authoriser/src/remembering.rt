@@ -5,7 +5,7 @@ ghost use Rattle.authoriser.specs.inner.Views.{HasAllAbove};
 use crate::known::copied;
 use crate::others::{Other, Others};
 use evaluator::{Ancestry, Lookup, Question, is_among};
-use expressions::Variable;
+use grammar_core::Variable;
 use plain::NoMemory;
 use std::alloc::Global;
 use std::marker::Model;

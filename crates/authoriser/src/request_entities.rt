@@ -1,6 +1,6 @@
 //! A request's three entities: where they stand in the hierarchy, and what they have, looked up once.
 ghost use Rattle.std.specs.Prelude.{◌↔◌, ⊤, IsTrue, IfOk, MatchOption};
-ghost use Rattle.evaluator.specs.ancestor_closure.Hierarchy.{Parents, IsAscending, names};
+ghost use Rattle.evaluator.specs.ancestor_search.Hierarchy.{Parents, IsAscending, names};
 ghost use Rattle.evaluator.specs.Operators.{World, world_of};
 ghost use Rattle.authoriser.specs.inner.Views.{IsWithin, HasItsAncestors, HasRequestAncestors, AllHaveTheirAncestors};
 ghost use Rattle.authoriser.specs.inner.Views.{HasItsAttributes, HasRequestAttributes, AllHaveTheirAttributes};

@@ -1,7 +1,7 @@
 //! Whether a policy's scope is true.
 ghost use Rattle.std.specs.Prelude.{◌↔◌, IsTrue, Contains};
 ghost use Rattle.values.specs.declared.entity_uid.EntityUid.{EntityUid};
-ghost use Rattle.evaluator.specs.ancestor_closure.Hierarchy.{IsAscending, names};
+ghost use Rattle.evaluator.specs.ancestor_search.Hierarchy.{IsAscending, names};
 ghost use Rattle.scope_index.specs.Scopes.{IsEntityScopeTrue, IsActionScopeTrue};
 ghost use Rattle.authoriser.specs.inner.Views.{IsWithin, AreAscending, IsTrueOf};
 

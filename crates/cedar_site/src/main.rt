@@ -2,7 +2,7 @@
 //! pulled from and merged.
 #![tactic(auto)]
 
-use site_commands::{LineFault, SystemHost, report_words, run};
+use program::{LineFault, SystemHost, report_words, run};
 use std::env;
 use std::io::ErrorKind;
 use std::process::ExitCode;

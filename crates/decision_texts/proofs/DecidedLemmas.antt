@@ -1,10 +1,10 @@
 -- What three texts come to, from what was read of each.
 use Rattle.std.proofs.Common.{◌≡◌, ℕ, List, None, subst}
 use Rattle.values.specs.declared.request.Request.{Request}
-use Rattle.uid_json.specs.policy_grammar.declared.policy.Policy.{Policy}
-use Rattle.entity_worlds.specs.evaluator.Operators.{World}
+use Rattle.entity_uids.specs.policy_grammar.declared.policy.Policy.{Policy}
+use Rattle.entity_data.specs.evaluator.Operators.{World}
 use Rattle.authoriser.specs.Answers.{IsAnswer}
-use Rattle.entity_worlds.specs.Keeping.{Entries}
+use Rattle.entity_data.specs.Keeping.{Entries}
 use Rattle.decision_texts.specs.declared.refusal.Refusal.{Refusal}
 use Rattle.decision_texts.specs.Refusals.{bad_shape}
 use Rattle.decision_texts.specs.Bare.{entities_of}

@@ -1,7 +1,7 @@
 -- A fault of the policies, or want of memory.
 use Rattle.std.proofs.Common.{◌≡◌, ℕ, List, refl, ap}
-use Rattle.uid_json.specs.text_trees.declared.fault.ReadFault.{ReadFault}
-use Rattle.uid_json.specs.text_trees.declared.fault.ReadFault.TheVariants as fault
+use Rattle.entity_uids.specs.policy_grammar.declared.fault.ReadFault.{ReadFault}
+use Rattle.entity_uids.specs.policy_grammar.declared.fault.ReadFault.TheVariants as fault
 use Rattle.plain.specs.Refused.{OrNoMemory}
 use Rattle.decision_texts.specs.Refusals.{no_memory}
 use Rattle.decision_texts.specs.Decisions.{IsFileFault, refusal_by, ArePoliciesRefused}

@@ -6,12 +6,12 @@ use Rattle.serde_json.specs.Find.{get, as_str}
 use Rattle.json_words.specs.Json.{json_of}
 use Rattle.values.specs.declared.entity_uid.EntityUid.{EntityUid}
 use Rattle.values.specs.declared.request.Request.{Request}
-use Rattle.uid_json.specs.text_trees.declared.fault.ReadFault.{ReadFault}
-use Rattle.uid_json.specs.policy_grammar.declared.policy.Policy.{Policy}
-use Rattle.uid_json.specs.policy_grammar.PolicyText.{IsUidText, IsUidRefused, IsFileRefused}
-use Rattle.uid_json.specs.policy_grammar.Unique.{HasOneReading, IsFileOf}
-use Rattle.uid_json.specs.Uids.{IsUid, NamesEntity, IsRead, uid_in}
-use Rattle.uid_json.specs.Laws.{UidsAreFound}
+use Rattle.entity_uids.specs.policy_grammar.declared.fault.ReadFault.{ReadFault}
+use Rattle.entity_uids.specs.policy_grammar.declared.policy.Policy.{Policy}
+use Rattle.entity_uids.specs.policy_grammar.PolicyText.{IsUidText, IsUidRefused, IsFileRefused}
+use Rattle.entity_uids.specs.policy_grammar.Unique.{HasOneReading, IsFileOf}
+use Rattle.entity_uids.specs.Uids.{IsUid, NamesEntity, IsRead, uid_in}
+use Rattle.entity_uids.specs.Laws.{UidsAreFound}
 use Rattle.authoriser.specs.Laws.{OneAnswerInFiniteHierarchies}
 use Rattle.decision_texts.specs.declared.refusal.Refusal.{Refusal}
 use Rattle.decision_texts.specs.declared.bare.BareEntity.{BareEntity}

@@ -5,7 +5,7 @@ use Rattle.std.specs.List.Sorted.{IsSortedByKey}
 use Rattle.std.specs.Ordering.{nat_cmp}
 use Rattle.std.specs.Cmp.Lexicographic.{slice_cmp}
 use Rattle.std.proofs.lemmas.List.{get_or-map}
-use Rattle.uid_json.specs.policy_grammar.declared.policy.Policy.{Policy}
+use Rattle.entity_uids.specs.policy_grammar.declared.policy.Policy.{Policy}
 use Rattle.authoriser.specs.Answers.{NamedPolicy}
 use Rattle.authoriser.specs.Views.{named}
 use Rattle.decision_texts.specs.Decisions.{named_policies}

@@ -6,11 +6,11 @@ use Rattle.serde_json.specs.Find.{get}
 use Rattle.json_words.specs.Json.{json_of}
 use Rattle.values.specs.declared.entity_uid.EntityUid.{EntityUid}
 use Rattle.values.specs.declared.request.Request.{Request}
-use Rattle.uid_json.specs.policy_grammar.declared.policy.Policy.{Policy}
-use Rattle.uid_json.specs.policy_grammar.PolicyText.{IsFileRefused}
-use Rattle.uid_json.specs.policy_grammar.Unique.{HasOneReading, IsFileOf, EachIsNamed, NamesDiffer}
-use Rattle.uid_json.specs.Uids.{NamesEntity}
-use Rattle.uid_json.specs.Laws.{OneName}
+use Rattle.entity_uids.specs.policy_grammar.declared.policy.Policy.{Policy}
+use Rattle.entity_uids.specs.policy_grammar.PolicyText.{IsFileRefused}
+use Rattle.entity_uids.specs.policy_grammar.Unique.{HasOneReading, IsFileOf, EachIsNamed, NamesDiffer}
+use Rattle.entity_uids.specs.Uids.{NamesEntity}
+use Rattle.entity_uids.specs.Laws.{OneName}
 use Rattle.authoriser.specs.declared.answer.Answer.{Answer}
 use Rattle.authoriser.specs.Answers.{NamedPolicy, IsAnswer}
 use Rattle.authoriser.specs.Laws.{OneAnswerInFiniteHierarchies, ListsAscend}

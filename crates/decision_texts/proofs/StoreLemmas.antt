@@ -10,13 +10,12 @@ use Rattle.values.specs.Names.{uid_cmp, uid_cmp-IsTotalOrder, uid_cmp-IsAntisymm
 use Rattle.values.specs.Fields.{Field}
 use Rattle.values.specs.Uids.{equal-is}
 use Rattle.plain.proofs.Members.{Contains-here, Contains-there, Contains-none}
-use Rattle.entity_worlds.specs.ancestor_closure.Decided.{is_same, HaveAllParents}
-use Rattle.entity_worlds.specs.evaluator.Operators.{world_of}
-use Rattle.entity_worlds.specs.declared.entity.Entity.{Entity}
-use Rattle.entity_worlds.specs.declared.data.EntityData.{EntityData}
-use Rattle.entity_worlds.specs.Entities.{attributes_of, kept_parents}
-use Rattle.entity_worlds.specs.Keeping.{Entries, kept_in, Puts}
-use Rattle.entity_worlds.specs.Keeping.{data_of as data_in}
+use Rattle.entity_data.specs.ancestor_search.Decided.{is_same, HaveAllParents}
+use Rattle.entity_data.specs.evaluator.Operators.{world_of}
+use Rattle.entity_data.specs.declared.entity.Entity.{Entity}
+use Rattle.entity_data.specs.declared.data.EntityData.{EntityData}
+use Rattle.entity_data.specs.Entities.{attributes_of, kept_parents}
+use Rattle.entity_data.specs.Keeping.{Entries, kept_in, Puts, data_of as data_in}
 use Rattle.decision_texts.specs.declared.bare.BareEntity.{BareEntity}
 use Rattle.decision_texts.specs.Decisions.{parents_in, stored_in, world_in}
 use Rattle.decision_texts.specs.inner.Stores.{data_of, stated_at, Holds, world_held}

@@ -13,8 +13,8 @@ use Rattle.json_words.specs.Keys.{has_only}
 use Rattle.json_words.specs.Each.{each, list_of}
 use Rattle.json_words.specs.ReadsAs.{◌>>=◌, or_fault, demand}
 use Rattle.values.specs.declared.entity_uid.EntityUid.{EntityUid}
-use Rattle.uid_json.specs.Uids.{uid_in}
-use Rattle.entity_worlds.specs.ancestor_closure.Decided.{is_same}
+use Rattle.entity_uids.specs.Uids.{uid_in}
+use Rattle.entity_data.specs.ancestor_search.Decided.{is_same}
 use Rattle.decision_texts.specs.declared.refusal.Refusal.{Refusal}
 use Rattle.decision_texts.specs.declared.bare.ShapeFault.{ShapeFault}
 use Rattle.decision_texts.specs.declared.bare.ShapeFault.TheVariants.{BadShape}

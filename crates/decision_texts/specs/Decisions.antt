@@ -11,15 +11,15 @@ use Rattle.std.specs.Str.{IsUtf8}
 use Rattle.values.specs.declared.entity_uid.EntityUid.{EntityUid}
 use Rattle.values.specs.declared.request.Request.{Request}
 use Rattle.values.specs.Fields.{Field}
-use Rattle.entity_worlds.specs.ancestor_closure.Hierarchy.{Parents, no_parents, with_parents}
-use Rattle.entity_worlds.specs.ancestor_closure.Decided.{is_same}
-use Rattle.uid_json.specs.text_trees.declared.fault.ReadFault.{ReadFault}
-use Rattle.uid_json.specs.text_trees.declared.fault.ReadFault.TheVariants.{TooLong, BadToken}
-use Rattle.uid_json.specs.policy_grammar.declared.policy.Policy.{Policy}
-use Rattle.uid_json.specs.policy_grammar.Faults.{code_of, place_of}
-use Rattle.uid_json.specs.policy_grammar.Limits.{most_file_bytes}
-use Rattle.uid_json.specs.policy_grammar.PolicyText.{IsPolicyFile, IsFileRefused}
-use Rattle.entity_worlds.specs.evaluator.Operators.{World, world_of}
+use Rattle.entity_data.specs.ancestor_search.Hierarchy.{Parents, no_parents, with_parents}
+use Rattle.entity_data.specs.ancestor_search.Decided.{is_same}
+use Rattle.entity_uids.specs.policy_grammar.declared.fault.ReadFault.{ReadFault}
+use Rattle.entity_uids.specs.policy_grammar.declared.fault.ReadFault.TheVariants.{TooLong, BadToken}
+use Rattle.entity_uids.specs.policy_grammar.declared.policy.Policy.{Policy}
+use Rattle.entity_uids.specs.policy_grammar.Faults.{code_of, place_of}
+use Rattle.entity_uids.specs.policy_grammar.Limits.{most_file_bytes}
+use Rattle.entity_uids.specs.policy_grammar.PolicyText.{IsPolicyFile, IsFileRefused}
+use Rattle.entity_data.specs.evaluator.Operators.{World, world_of}
 use Rattle.authoriser.specs.declared.answer.Answer.{Answer}
 use Rattle.authoriser.specs.Answers.{NamedPolicy, IsAnswer}
 use Rattle.decision_texts.specs.declared.refusal.Refusal.{Refusal}

@@ -7,8 +7,7 @@ pub mod Outcomes
 pub mod inner
 -- crates below, passed on to those above
 pub use Rattle.authoriser.specs as authoriser
-pub use Rattle.entity_worlds.specs as entity_worlds
+pub use Rattle.entity_data.specs as entity_data
 pub use Rattle.json_values.specs as json_values
-pub use Rattle.uid_json.specs as uid_json
-pub use Rattle.uid_json.specs.policy_grammar
-pub use Rattle.uid_json.specs.text_trees
+pub use Rattle.entity_uids.specs as entity_uids
+pub use Rattle.entity_uids.specs.policy_grammar

@@ -3,7 +3,7 @@ use Rattle.std.specs.Prelude.{ℕ, List, map, codes}
 use Rattle.serde_json.specs.Data.{Data, string, object, array, no_members, member}
 use Rattle.serde_json.specs.View.{items_of}
 use Rattle.serde_json.specs.Written.{compact_text}
-use Rattle.uid_json.specs.Uids.{uid_json}
+use Rattle.entity_uids.specs.Uids.{uid_json}
 use Rattle.authoriser.specs.declared.answer.Answer.{Answer}
 use Rattle.authoriser.specs.declared.answer.Decision.{Decision}
 use Rattle.authoriser.specs.declared.answer.Decision.TheVariants.{Allow, Deny}

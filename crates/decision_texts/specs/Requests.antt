@@ -9,7 +9,7 @@ use Rattle.serde_json.specs.Find.{get}
 use Rattle.json_words.specs.Json.{json_of}
 use Rattle.values.specs.declared.entity_uid.EntityUid.{EntityUid}
 use Rattle.values.specs.declared.request.Request.{Request}
-use Rattle.uid_json.specs.Uids.{NamesEntity}
+use Rattle.entity_uids.specs.Uids.{NamesEntity}
 use Rattle.decision_texts.specs.Bare.{is_absent_or_empty}
 
 -- what stands at a key of a value names this entity

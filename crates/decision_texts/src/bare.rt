@@ -10,14 +10,17 @@ use json_words::only_keys;
 use plain::{Items, NoMemory, beside};
 use serde_json::Value;
 use std::alloc::Global;
+use thiserror::Error;
 use values::EntityUid;
 
 /// Why a value is not read.
-#[derive(Clone, Copy, PartialEq, Eq)]
+#[derive(Clone, Copy, PartialEq, Eq, Debug, Error)]
 pub enum ShapeFault {
     /// An allocation was refused.
+    #[error("entity 1: out of memory")]
     NoMemory,
     /// It is no entity, no uid, no request.
+    #[error("entity 30: JSON without the form of an entity or a request")]
     BadShape,
 }
 
@@ -42,7 +45,7 @@ pub struct BareEntity {
 pub(crate) fn read_uid(alloc: Global, value: &Value) -> Result<EntityUid, ShapeFault>
     ensures { ReadsAs ShapeFault.NoMemory (λ u. u) result (stated_uid (view value.now)) }
 {
-    match uid_json::read_uid(alloc, value)? {
+    match entity_uids::read_uid(alloc, value)? {
         Some(uid) => Ok(uid),
         None => Err(ShapeFault::BadShape),
     }
@@ -52,7 +55,7 @@ pub(crate) fn read_uid(alloc: Global, value: &Value) -> Result<EntityUid, ShapeF
 fn parent_uids(alloc: Global, values: &[Value]) -> Result<Items<EntityUid>, ShapeFault>
     ensures { ReadsAs ShapeFault.NoMemory (λ us. us) result (uids_of (items_view values.now)) }
 {
-    match uid_json::read_uids(alloc, values)? {
+    match entity_uids::read_uids(alloc, values)? {
         Some(uids) => Ok(uids),
         None => Err(ShapeFault::BadShape),
     }

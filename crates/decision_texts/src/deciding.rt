@@ -12,10 +12,10 @@ use crate::policies::policies_in;
 use crate::refusal::Refusal;
 use crate::request::read_request;
 use authoriser::{Answer, decide};
-use entity_worlds::{EntityStore, NoActions, World};
+use entity_data::{EntityStore, NoActions, World};
+use entity_uids::Policy;
 use plain::{NoMemory, beside};
 use std::alloc::Global;
-use uid_json::Policy;
 use values::Request;
 
 /// Returns the policies by reference, in the same order.

@@ -11,7 +11,7 @@ ghost use Rattle.decision_texts.specs.inner.Stores.{Holds, KeepsNext, ReadsStore
 use crate::bare::{BareEntity, ShapeFault, read_entity};
 use crate::refusal::Refusal;
 use crate::store::without_attributes;
-use entity_worlds::EntityStore;
+use entity_data::EntityStore;
 use json_values::{Member, Members, Scratch, members_of};
 use serde_json::Value;
 use std::alloc::Global;

@@ -1,9 +1,8 @@
 //! Laws of the definitions.
-ghost use Rattle.decision_texts.specs.Outcomes.{OneLine, NotBoth, OneRefusal, LineOrRefusal};
-ghost use Rattle.decision_texts.specs.Outcomes.{ListsOfLinesAscend};
+ghost use Rattle.decision_texts.specs.Outcomes.{OneLine, NotBoth, OneRefusal, LineOrRefusal, ListsOfLinesAscend};
 
 use authoriser::answers_are_lawful;
-use uid_json::{file_names_differ, names_read_back, texts_have_one_reading};
+use entity_uids::{file_names_differ, names_read_back, texts_have_one_reading};
 
 /// Proves that three texts come to exactly one thing, a line or a refusal, and that the ids in an answer's line ascend.
 /// It does nothing; its clauses are laws of the definitions.

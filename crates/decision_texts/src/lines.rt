@@ -1,16 +1,16 @@
 //! The line of an answer, written token by token.
 ghost use Rattle.std.specs.Prelude.{◌≡◌, IfOk, OnOk};
 ghost use Rattle.serde_json.specs.Data.{string};
-ghost use Rattle.uid_json.specs.Tokens.{Adds, tokens_of};
-ghost use Rattle.uid_json.specs.Uids.{uid_json};
+ghost use Rattle.entity_uids.specs.Tokens.{Adds, tokens_of};
+ghost use Rattle.entity_uids.specs.Uids.{uid_json};
 ghost use Rattle.decision_texts.specs.Lines.{decision_word, error_word, erring_json, each_json};
 ghost use Rattle.decision_texts.specs.Lines.{answer_json, answer_line};
 
 use authoriser::{Answer, Decision, ErringPolicy, PolicyError};
+use entity_uids::write_uid;
 use json::Writer;
 use plain::{NoMemory, Text};
 use std::alloc::Global;
-use uid_json::write_uid;
 use values::EntityUid;
 
 /// So much room is made at once for the line of an answer, in bytes: most lines take less, and none of these grows.

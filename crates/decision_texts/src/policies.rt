@@ -1,13 +1,13 @@
 //! The policies of a file, each with its name.
 ghost use Rattle.std.specs.Prelude.{◌≡◌, IfOk, IfErr, map, string_bytes};
-ghost use Rattle.uid_json.specs.text_trees.declared.fault.ReadFault.TheVariants as ReadFault;
+ghost use Rattle.entity_uids.specs.policy_grammar.declared.fault.ReadFault.TheVariants as ReadFault;
 ghost use Rattle.plain.specs.Refused.{OrNoMemory};
 ghost use Rattle.decision_texts.specs.Decisions.{ArePoliciesOf, ArePoliciesRefused, IsFileFault, refusal_by};
 ghost use Rattle.decision_texts.specs.Refusals.{no_memory};
 
 use crate::refusal::Refusal;
+use entity_uids::{MOST_FILE_BYTES, Policy, ReadFault, parse_policies};
 use std::alloc::Global;
-use uid_json::{MOST_FILE_BYTES, Policy, ReadFault, parse_policies};
 
 /// Returns a fault of the policies' text (10 to 19, or 1) as a refusal, at the same byte.
 fn refusal_by(fault: ReadFault) -> Refusal

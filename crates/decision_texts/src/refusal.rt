@@ -8,9 +8,11 @@ use json_words::write_json;
 use plain::{NoMemory, beside};
 use serde_json::{Map, Value, put};
 use std::alloc::{AllocFailed, Global};
+use thiserror::Error;
 
 /// Why texts are not decided.
-#[derive(Clone, Copy, PartialEq, Eq)]
+#[derive(Clone, Copy, PartialEq, Eq, Debug, Error)]
+#[error("refused with code {code}")]
 pub struct Refusal {
     /// The number: 1 for want of memory, 10 to 19 for policies, 30 for entities and requests.
     pub code: u8,

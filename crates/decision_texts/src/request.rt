@@ -7,11 +7,11 @@ ghost use Rattle.decision_texts.specs.Requests.{NamesAt, StatesRequest, IsReques
 ghost use Rattle.decision_texts.specs.declared.bare.ShapeFault.TheVariants as ShapeFault;
 
 use crate::bare::{ShapeFault, is_absent_or_empty};
+use entity_uids::read_name;
 use json_words::read_json;
 use plain::beside;
 use serde_json::Value;
 use std::alloc::Global;
-use uid_json::read_name;
 use values::{EntityUid, Record, Request};
 
 /// Returns the entity that what stands at a key names.

@@ -2,7 +2,7 @@
 ghost use Rattle.std.specs.Prelude.{◌≡◌, []};
 
 use crate::bare::BareEntity;
-use entity_worlds::Entity;
+use entity_data::Entity;
 use std::alloc::Global;
 use values::Record;
 

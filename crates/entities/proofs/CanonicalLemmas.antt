@@ -7,11 +7,11 @@ use Rattle.serde_json.specs.Data.{Data, object, array, Members, no_members, memb
 use Rattle.serde_json.specs.View.{items_of}
 use Rattle.values.specs.Values.{fields_of}
 use Rattle.values.specs.declared.entity_uid.EntityUid.{EntityUid}
-use Rattle.typed_values.specs.uid_json.Tokens.{Adds, tokens_of, AppendsValue}
-use Rattle.typed_values.specs.uid_json.Uids.{uid_json}
-use Rattle.typed_values.proofs.of_uid_json.Nested.{object_begun, member_next, member_written, object_ended}
-use Rattle.typed_values.specs.Canonical.{fields_json}
-use Rattle.entity_worlds.specs.declared.entity.Entity.{Entity}
+use Rattle.entity_values.specs.entity_uids.Tokens.{Adds, tokens_of, AppendsValue}
+use Rattle.entity_values.specs.entity_uids.Uids.{uid_json}
+use Rattle.entity_values.proofs.of_entity_uids.Nested.{object_begun, member_next, member_written, object_ended}
+use Rattle.entity_values.specs.Canonical.{fields_json}
+use Rattle.entity_data.specs.declared.entity.Entity.{Entity}
 use Rattle.entities.specs.Canonical.{canonical_json}
 
 pub uid_written : {old new : Written} (uid : EntityUid) → Adds old new (tokens_of (uid_json uid)) → AppendsValue old new (uid_json uid)

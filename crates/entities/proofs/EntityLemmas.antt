@@ -14,29 +14,29 @@ use Rattle.plain.specs.Words.{IsPath}
 use Rattle.values.specs.declared.entity_uid.EntityUid.{EntityUid}
 use Rattle.values.specs.Values.{fields_of}
 use Rattle.values.specs.Fields.{Field}
-use Rattle.entity_worlds.specs.ancestor_closure.Hierarchy.{IsAscending}
-use Rattle.typed_values.specs.uid_json.Uids.{IsPlainUid, IsUid, IsUnderEntity, IsRead, uid_in, uid_json}
-use Rattle.typed_values.specs.uid_json.Laws.{OneUid, UidsAreFound, WrittenIsRead}
+use Rattle.entity_data.specs.ancestor_search.Hierarchy.{IsAscending}
+use Rattle.entity_values.specs.entity_uids.Uids.{IsPlainUid, IsUid, IsUnderEntity, IsRead, uid_in, uid_json}
+use Rattle.entity_values.specs.entity_uids.Laws.{OneUid, UidsAreFound, WrittenIsRead}
 use Rattle.schema_types.specs.Cedar.{Cedar, deep, IsTooLarge}
 use Rattle.schema.specs.Schemas.{StatedSchema}
 use Rattle.schema.specs.WellFormed.{IsWellFormed}
-use Rattle.typed_values.specs.declared.fault.ValueFault.{ValueFault}
-use Rattle.typed_values.specs.Typing.{record_in}
-use Rattle.typed_values.specs.Canonical.{fields_json}
-use Rattle.typed_values.specs.Laws.{RecordIsReadAgain, RecordNests}
+use Rattle.entity_values.specs.declared.fault.ValueFault.{ValueFault}
+use Rattle.entity_values.specs.Typing.{record_in}
+use Rattle.entity_values.specs.Canonical.{fields_json}
+use Rattle.entity_values.specs.Laws.{RecordIsReadAgain, RecordNests}
 use Rattle.entities.specs.declared.fault.EntityFault.{EntityFault}
 use Rattle.entities.specs.declared.fault.EntityFault.TheVariants.{BadShape, ActionEntity, UnknownType, TagsLeftOut}
 use Rattle.entities.specs.declared.stated.StatedEntity.{StatedEntity}
-use Rattle.entity_worlds.specs.declared.entity.Entity.{Entity}
+use Rattle.entity_data.specs.declared.entity.Entity.{Entity}
 use Rattle.entities.specs.Faults.{told}
 use Rattle.entities.specs.Stated.{stated_uid, uids_of, stated_parents, has_objects, is_absent_or_empty, or_empty}
 use Rattle.entities.specs.Stated.{stated_in}
 use Rattle.entities.specs.Entities.{is_action_type, shape_of, attributes_in, parent_fits, parents_fit, parents_in}
 use Rattle.entities.specs.Entities.{entity_stated_in}
-use Rattle.entity_worlds.specs.UidSets.{uid_set}
+use Rattle.entity_data.specs.UidSets.{uid_set}
 use Rattle.entities.specs.Canonical.{canonical_json}
 use Rattle.entities.specs.Laws.{CanonicalIsRead, CanonicalNests, CanonicalIsOne, ParentsAscend}
-use Rattle.entity_worlds.proofs.UidLemmas.{sorted_set}
+use Rattle.entity_data.proofs.UidLemmas.{sorted_set}
 use Rattle.entities.proofs.UidSetLemmas.{all_set, set_same}
 
 -- the laws of the crates below

@@ -13,7 +13,7 @@ use Rattle.std.proofs.lemmas.Map.Text.{is_eq-slice_cmp}
 use Rattle.values.specs.declared.entity_uid.EntityUid.{EntityUid}
 use Rattle.values.specs.Names.{uid_cmp, text_cmp, uid_cmp-IsTotalOrder, text_cmp-IsTotalOrder, uid_cmp-IsAntisymmetric}
 use Rattle.schema_types.specs.Cedar.{Cedar}
-use Rattle.schema.specs.schema_parts.declared.parts.Place.{Place}
+use Rattle.schema.specs.declared.parts.Place.{Place}
 use Rattle.schema.specs.Schemas.{EnvironmentOf, place_cmp}
 use Rattle.entities.specs.declared.requests.Asked.{Asked}
 use Rattle.entities.specs.Contexts.{context_where, is_of_action, is_place}

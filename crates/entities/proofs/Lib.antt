@@ -6,3 +6,13 @@ mod ParentLemmas
 mod RequestLemmas
 mod RequestOrRefusal
 mod UidSetLemmas
+pub mod Utf8Strings
+pub mod Utf8Tokens
+pub mod Utf8Texts
+pub mod AsciiTexts
+pub mod CompactUtf8
+pub mod Steps
+pub mod PlainParts
+pub mod PlainValues
+pub mod PlainEntities
+pub mod ReadAgain

@@ -4,10 +4,10 @@ use Rattle.std.specs.List.{AllByRecursion, Contains}
 use Rattle.std.specs.List.Sorted.{IsStrictlySortedBy}
 use Rattle.values.specs.declared.entity_uid.EntityUid.{EntityUid}
 use Rattle.values.specs.Names.{uid_cmp}
-use Rattle.entity_worlds.specs.ancestor_closure.Hierarchy.{IsAscending}
-use Rattle.entity_worlds.specs.Listing.{set_has}
-use Rattle.entity_worlds.specs.UidSets.{put_uid, uid_set}
-use Rattle.entity_worlds.proofs.UidLemmas.{all_put, set_from}
+use Rattle.entity_data.specs.ancestor_search.Hierarchy.{IsAscending}
+use Rattle.entity_data.specs.Listing.{set_has}
+use Rattle.entity_data.specs.UidSets.{put_uid, uid_set}
+use Rattle.entity_data.proofs.UidLemmas.{all_put, set_from}
 
 -- ---- what holds of each
 

@@ -6,9 +6,9 @@ use Rattle.serde_json.specs.Data.{Data, object, array, no_members, member}
 use Rattle.serde_json.specs.View.{items_of}
 use Rattle.serde_json.specs.Written.{compact_text}
 use Rattle.values.specs.Values.{fields_of}
-use Rattle.typed_values.specs.uid_json.Uids.{uid_json}
-use Rattle.typed_values.specs.Canonical.{fields_json}
-use Rattle.entity_worlds.specs.declared.entity.Entity.{Entity}
+use Rattle.entity_values.specs.entity_uids.Uids.{uid_json}
+use Rattle.entity_values.specs.Canonical.{fields_json}
+use Rattle.entity_data.specs.declared.entity.Entity.{Entity}
 
 abbrev pub canonical_json : Entity → Data
 canonical_json e = object (member (codes "attrs") (object (fields_json (fields_of e.attrs)))

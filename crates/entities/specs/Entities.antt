@@ -10,17 +10,17 @@ use Rattle.serde_json.specs.Find.{get}
 use Rattle.json_words.specs.ReadsAs.{◌>>=◌, or_fault, demand}
 use Rattle.values.specs.declared.entity_uid.EntityUid.{EntityUid}
 use Rattle.values.specs.Fields.{Field}
-use Rattle.entity_worlds.specs.ancestor_closure.Decided.{is_same}
+use Rattle.entity_data.specs.ancestor_search.Decided.{is_same}
 use Rattle.schema_types.specs.Cedar.{Cedar}
 use Rattle.schema.specs.Schemas.{StatedSchema}
-use Rattle.typed_values.specs.Typing.{record_in}
+use Rattle.entity_values.specs.Typing.{record_in}
 use Rattle.entities.specs.declared.fault.EntityFault.{EntityFault}
 use Rattle.entities.specs.declared.fault.EntityFault.TheVariants.{UnknownType, ActionEntity, BadParent, SelfParent}
 use Rattle.entities.specs.declared.fault.EntityFault.TheVariants.{TagsLeftOut}
-use Rattle.entity_worlds.specs.declared.entity.Entity.{Entity}
+use Rattle.entity_data.specs.declared.entity.Entity.{Entity}
 use Rattle.entities.specs.Faults.{told}
 use Rattle.entities.specs.Stated.{is_absent_or_empty, or_empty, stated_in}
-use Rattle.entity_worlds.specs.UidSets.{uid_set}
+use Rattle.entity_data.specs.UidSets.{uid_set}
 
 -- the last word of a type's name is `Action`
 abbrev pub is_action_type : List ℕ → Bool

@@ -1,7 +1,7 @@
 -- The refusals by number, which are a rule of this product, and those of values among them.
 use Rattle.std.specs.Prelude.{ℕ, Result, Ok, Err}
-use Rattle.typed_values.specs.declared.fault.ValueFault.{ValueFault}
-use Rattle.typed_values.specs.declared.fault.ValueFault.TheVariants as value
+use Rattle.entity_values.specs.declared.fault.ValueFault.{ValueFault}
+use Rattle.entity_values.specs.declared.fault.ValueFault.TheVariants as value
 use Rattle.entities.specs.declared.fault.EntityFault.{EntityFault}
 use Rattle.entities.specs.declared.fault.EntityFault.TheVariants.{NoMemory, BadShape, UnknownType, ActionEntity}
 use Rattle.entities.specs.declared.fault.EntityFault.TheVariants.{Undeclared, Missing, WrongType, BadParent}

@@ -4,15 +4,15 @@ use Rattle.serde_json.specs.Data.{Data, depth}
 use Rattle.serde_json.specs.Read.{max_depth}
 use Rattle.values.specs.declared.entity_uid.EntityUid.{EntityUid}
 use Rattle.values.specs.declared.request.Request.{Request}
-use Rattle.entity_worlds.specs.ancestor_closure.Hierarchy.{IsAscending}
+use Rattle.entity_data.specs.ancestor_search.Hierarchy.{IsAscending}
 use Rattle.schema.specs.Schemas.{StatedSchema}
 use Rattle.schema.specs.WellFormed.{IsActionType, IsWellFormed}
 use Rattle.entities.specs.declared.fault.EntityFault.{EntityFault}
-use Rattle.entity_worlds.specs.declared.entity.Entity.{Entity}
+use Rattle.entity_data.specs.declared.entity.Entity.{Entity}
 use Rattle.entities.specs.Entities.{is_action_type, entity_stated_in}
 use Rattle.entities.specs.Requests.{StatesRequest, RequestRefused}
 use Rattle.entities.specs.Canonical.{canonical_json}
-use Rattle.entity_worlds.specs.UidSets.{uid_set}
+use Rattle.entity_data.specs.UidSets.{uid_set}
 
 -- ---- types of actions
 

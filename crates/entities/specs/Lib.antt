@@ -6,14 +6,15 @@ pub mod Requests
 pub mod Canonical
 pub mod Laws
 pub mod inner
+pub mod Texts
+pub mod CanonicalLaws
 -- crates below, passed on to those above
-pub use Rattle.entity_worlds.specs as entity_worlds
-pub use Rattle.entity_worlds.specs.ancestor_closure
+pub use Rattle.entity_data.specs as entity_data
+pub use Rattle.entity_data.specs.ancestor_search
 pub use Rattle.schema.specs as schema
 pub use Rattle.schema.specs.schema_file
 pub use Rattle.schema.specs.schema_names
-pub use Rattle.schema.specs.schema_parts
 pub use Rattle.schema_types.specs as schema_types
-pub use Rattle.typed_values.specs as typed_values
-pub use Rattle.typed_values.specs.policy_grammar
-pub use Rattle.typed_values.specs.uid_json
+pub use Rattle.entity_values.specs as entity_values
+pub use Rattle.entity_values.specs.policy_grammar
+pub use Rattle.entity_values.specs.entity_uids

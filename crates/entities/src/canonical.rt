@@ -4,15 +4,15 @@ ghost use Rattle.serde_json.specs.Data.{array, depth};
 ghost use Rattle.serde_json.specs.Read.{max_depth};
 ghost use Rattle.serde_json.specs.View.{items_of};
 ghost use Rattle.json_words.specs.Json.{json_of};
-ghost use Rattle.typed_values.specs.uid_json.Tokens.{AppendsValue};
-ghost use Rattle.typed_values.specs.uid_json.Uids.{uid_json};
+ghost use Rattle.entity_values.specs.entity_uids.Tokens.{AppendsValue};
+ghost use Rattle.entity_values.specs.entity_uids.Uids.{uid_json};
 ghost use Rattle.entities.specs.Canonical.{canonical_json, canonical_text};
 
-use entity_worlds::Entity;
+use entity_data::Entity;
+use entity_values::{write_record, write_uid};
 use json::Writer;
 use plain::NoMemory;
 use std::alloc::Global;
-use typed_values::{write_record, write_uid};
 use values::EntityUid;
 
 /// So much room is made at once for a text, in bytes: most entities take less, and their texts do not grow.

@@ -2,7 +2,7 @@
 ghost use Rattle.std.specs.Prelude.{◌≡◌, Bool, Some, option_map, slice_get};
 ghost use Rattle.std.specs.Ordering.{is_eq, is_lt};
 ghost use Rattle.std.specs.declared.cmp.Ordering.{Ordering as PlainOrdering};
-ghost use Rattle.schema.specs.schema_parts.declared.parts.Place.{Place as PlainPlace};
+ghost use Rattle.schema.specs.declared.parts.Place.{Place as PlainPlace};
 ghost use Rattle.schema_types.specs.CedarViews.{cedar_view};
 ghost use Rattle.schema.specs.Views.{schema_view, environment_view};
 ghost use Rattle.entities.specs.Contexts.{context_where};

@@ -3,33 +3,45 @@ ghost use Rattle.std.specs.Prelude.{◌≡◌};
 ghost use Rattle.entities.specs.Faults.{code_of, of_value};
 ghost use Rattle.entities.specs.declared.fault.EntityFault.TheVariants.{NoMemory};
 
+use entity_values::ValueFault;
 use plain::NoMemory;
-use typed_values::ValueFault;
+use thiserror::Error;
 
 /// The first cause for which JSON states no entity, no context or no request under a schema.
-#[derive(Clone, Copy, PartialEq, Eq)]
+#[derive(Clone, Copy, PartialEq, Eq, Debug, Error)]
 pub enum EntityFault {
     /// An allocation was refused.
+    #[error("entity 1: out of memory")]
     NoMemory,
     /// The JSON has not the form of an entity, of a context or of a request.
+    #[error("entity 30: JSON without the form of an entity, a context or a request")]
     BadShape,
     /// The entity's type is not declared.
+    #[error("entity 31: undeclared entity type")]
     UnknownType,
     /// The last word of the entity's type is `Action`: actions are declared by the schema.
+    #[error("entity 32: action; only the schema declares actions")]
     ActionEntity,
     /// An attribute is not declared.
+    #[error("entity 33: undeclared attribute")]
     Undeclared,
     /// A required attribute is missing.
+    #[error("entity 34: missing required attribute")]
     Missing,
     /// The value of an attribute is not of its declared type.
+    #[error("entity 35: attribute value of the wrong type")]
     WrongType,
     /// An entity of this type may not have a parent of that.
+    #[error("entity 36: parent of a type that the schema does not allow")]
     BadParent,
     /// The entity is one of its own parents.
+    #[error("entity 37: entity that is its own parent")]
     SelfParent,
     /// The entity has tags.
+    #[error("entity 38: tags; entity tags are not supported")]
     TagsLeftOut,
     /// The action is not declared, or it does not apply to the types of principal and resource.
+    #[error("entity 39: action undeclared, or not applicable to these types of principal and resource")]
     NotApplicable,
 }
 

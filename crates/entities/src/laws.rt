@@ -3,7 +3,7 @@ ghost use Rattle.entities.specs.Laws.{CanonicalIsRead, CanonicalNests, Canonical
 ghost use Rattle.entities.specs.Laws.{SetsHoldTheirMembers, ActionTypeTestIsExact};
 ghost use Rattle.entities.specs.Laws.{OneRequest, NotBoth, OneRefusal, RequestOrRefusal};
 
-use typed_values::{names_read_back, records_are_read_again, texts_have_one_reading};
+use entity_values::{names_read_back, records_are_read_again, texts_have_one_reading};
 
 /// Proves that the one JSON of an entity that was read is read as that entity under the same schema, can be written,
 /// and is that of no other; and that its parents ascend, and are those that were stated.

@@ -1,10 +1,12 @@
 //! Entities, contexts and requests, read from JSON by what a schema declares, and the one text of an entity.
 //!
 //! What is read follows from the JSON and the schema alone: no other entity is looked at, so parents need not be
-//! stored.
+//! stored. Whatever bytes an entity was read from under a schema, its canonical text is read as that entity again, and
+//! no other entity has it.
 #![tactic(auto)]
 
 mod canonical;
+mod canonical_laws;
 mod contexts;
 mod environments;
 mod fault;
@@ -16,8 +18,10 @@ mod stated;
 mod uid_set;
 
 pub use canonical::canonical_text;
+pub use canonical_laws::{canonical_texts_are_read, json_texts_are_utf8};
 pub use contexts::read_context;
-pub use entity_worlds::{ActionSource, Entity, EntityData, EntitySource, EntityStore, World};
+pub use entity_data::{ActionSource, Entity, EntitySource, EntityStore, World};
+pub use entity_values::{ActionScope, EntityScope, Policy, Scope};
 pub use fault::EntityFault;
 pub use laws::{action_types_are_told, entities_read_back, requests_have_one_outcome};
 pub use reading::read_entity;
@@ -26,4 +30,3 @@ pub use schema::{
     Environment, Schema, SchemaFault, bytes_have_one_outcome, read_schema,
     stated_schemas_are_well_formed,
 };
-pub use typed_values::{ActionScope, EntityScope, Policy, Scope};

@@ -4,7 +4,7 @@ ghost use Rattle.serde_json.specs.View.{view};
 ghost use Rattle.json_words.specs.ReadsAs.{ReadsAs, AlwaysReadsAs};
 ghost use Rattle.schema_types.specs.CedarViews.{cedar_view};
 ghost use Rattle.schema.specs.Views.{schema_view};
-ghost use Rattle.typed_values.specs.Typing.{record_in};
+ghost use Rattle.entity_values.specs.Typing.{record_in};
 ghost use Rattle.entities.specs.declared.fault.EntityFault.TheVariants as EntityFault;
 ghost use Rattle.entities.specs.Faults.{told};
 ghost use Rattle.entities.specs.Stated.{or_empty};
@@ -13,12 +13,12 @@ ghost use Rattle.entities.specs.Entities.{is_action_type, shape_of, attributes_i
 use crate::fault::EntityFault;
 use crate::parents::checked_parents;
 use crate::stated::{StatedEntity, is_absent_or_empty, read_stated};
-use entity_worlds::Entity;
+use entity_data::Entity;
+use entity_values::read_record;
 use schema::Schema;
 use schema_types::CedarType;
 use serde_json::{Map, Value};
 use std::alloc::Global;
-use typed_values::read_record;
 use values::{Record, TypeName};
 
 /// Returns whether the last word of a type's name is `Action`.

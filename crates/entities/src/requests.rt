@@ -15,12 +15,12 @@ use crate::environments::{Sought, context_of};
 use crate::fault::EntityFault;
 use crate::reading::read_fields;
 use crate::stated::is_absent_or_object;
+use entity_values::read_name;
 use schema::{Place, Schema};
 use schema_types::CedarType;
 use serde_json::Value;
 use std::alloc::Global;
 use std::cmp::Ordering;
-use typed_values::read_name;
 use values::{EntityUid, Record, Request};
 
 /// Who asks, what for, and of what.

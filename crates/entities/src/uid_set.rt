@@ -1,8 +1,8 @@
 //! Uids in order.
 ghost use Rattle.std.specs.Prelude.{◌≡◌, IfOk};
-ghost use Rattle.entity_worlds.specs.UidSets.{uid_set};
+ghost use Rattle.entity_data.specs.UidSets.{uid_set};
 
-use entity_worlds::ascending_lists_are_one;
+use entity_data::ascending_lists_are_one;
 use plain::{Items, NoMemory};
 use values::{EntityUid, entity_uids_are_ordered};
 

@@ -1,7 +1,7 @@
 -- What `&&` gives as a test, by what its operands give as tests.
 use Rattle.std.specs.Prelude.{◌≡◌, Bool, true, false, Option, Result, Ok, Err, if◌then◌else◌, refl}
 use Rattle.std.proofs.Common.{sym, ap, ◌∙◌, subst}
-use Rattle.evaluation_steps.specs.Connectives.{AndGives, and_false, and_true, and_left_fails, and_right_fails}
+use Rattle.evaluator_steps.specs.Connectives.{AndGives, and_false, and_true, and_left_fails, and_right_fails}
 use Rattle.evaluator.specs.declared.fault.EvalFault.{EvalFault}
 use Rattle.evaluator.specs.Outcomes.{EvaluationResult}
 use Rattle.evaluator.specs.inner.Computing.{Answers, and_then, as_test, truth, both}

@@ -17,18 +17,18 @@ use Rattle.values.specs.Values.{decimal, ipaddr, list_of, pairs_of}
 use Rattle.values.specs.ValueOrder.{value_cmp}
 use Rattle.values.specs.Laws.{SetsHoldTheirMembers, SetsAreOneList, MemberTestIsExact}
 use Rattle.plain.proofs.Members.{Contains-here, Contains-there, Contains-cases, Contains-none}
-use Rattle.ancestor_closure.specs.Decided.{Decides}
-use Rattle.expressions.specs.LikeTest.{is_match, is_match-Decides}
-use Rattle.expressions.specs.declared.operator.Unary.{Unary}
-use Rattle.expressions.specs.declared.operator.Unary.TheVariants.{Not, Negate, Like, Is}
-use Rattle.expressions.specs.declared.operator.Binary.{Binary}
-use Rattle.expressions.specs.declared.operator.Binary.TheVariants as ops
-use Rattle.evaluation_steps.specs.Attributes.{AttributeGives}
-use Rattle.evaluation_steps.specs.Attributes as of_stored
+use Rattle.ancestor_search.specs.Decided.{Decides}
+use Rattle.grammar_core.specs.LikeTest.{is_match, is_match-Decides}
+use Rattle.grammar_core.specs.declared.operator.Unary.{Unary}
+use Rattle.grammar_core.specs.declared.operator.Unary.TheVariants.{Not, Negate, Like, Is}
+use Rattle.grammar_core.specs.declared.operator.Binary.{Binary}
+use Rattle.grammar_core.specs.declared.operator.Binary.TheVariants as ops
+use Rattle.evaluator_steps.specs.Attributes.{AttributeGives}
+use Rattle.evaluator_steps.specs.Attributes as of_stored
 use Rattle.evaluator.specs.declared.fault.EvalFault.TheVariants.{EntityDoesNotExist, AttrDoesNotExist, TypeError}
 use Rattle.evaluator.specs.Outcomes.{EvaluationResult, boolean_in, long_in, text_in, entity_uid_in, members_in}
 use Rattle.evaluator.specs.Outcomes.{record_fields_in}
-use Rattle.ancestor_closure.specs.Hierarchy.{IsIn}
+use Rattle.ancestor_search.specs.Hierarchy.{IsIn}
 use Rattle.evaluator.specs.Operators as rule
 use Rattle.evaluator.specs.Operators.{World, UnaryGives, BinaryGives, FieldGives, HasGives, NumbersGive, TakesNumbers}
 use Rattle.evaluator.specs.Operators.{TakesSets}

@@ -5,10 +5,10 @@ use Rattle.values.specs.extensions.Network.{Network, loopback_v4, loopback_v6, m
 use Rattle.values.specs.extensions.DecimalText.{IsDecimalText}
 use Rattle.values.specs.extensions.NetworkText.{IsNetworkText}
 use Rattle.values.specs.Values.{PlainValue, text, decimal, ipaddr}
-use Rattle.expressions.specs.declared.operator.UnaryCall.{UnaryCall}
-use Rattle.expressions.specs.declared.operator.UnaryCall.TheVariants as one
-use Rattle.expressions.specs.declared.operator.BinaryCall.{BinaryCall}
-use Rattle.expressions.specs.declared.operator.BinaryCall.TheVariants as two
+use Rattle.grammar_core.specs.declared.operator.UnaryCall.{UnaryCall}
+use Rattle.grammar_core.specs.declared.operator.UnaryCall.TheVariants as one
+use Rattle.grammar_core.specs.declared.operator.BinaryCall.{BinaryCall}
+use Rattle.grammar_core.specs.declared.operator.BinaryCall.TheVariants as two
 use Rattle.evaluator.specs.declared.fault.EvalFault.TheVariants.{TypeError, ExtensionError}
 use Rattle.values.specs.extensions.Decided.{Decided, told}
 use Rattle.values.specs.extensions.TextsDecided.{decimal_text_decided, network_text_decided, in_either_decided}

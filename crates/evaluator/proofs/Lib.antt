@@ -10,4 +10,4 @@ pub mod TestsTold
 pub mod Variables
 pub mod Wanting
 -- crates below, passed on to those above
-pub use Rattle.expressions.proofs as of_expressions
+pub use Rattle.grammar_core.proofs as of_grammar_core

@@ -5,8 +5,8 @@ use Rattle.std.proofs.lemmas.List.{drop_more}
 use Rattle.values.specs.declared.entity_uid.EntityUid.{EntityUid}
 use Rattle.values.specs.Values.{PlainValue}
 use Rattle.std.proofs.lemmas.Bool.Decides.{same_from_decides}
-use Rattle.ancestor_closure.specs.Hierarchy.{IsAllAbove, IsIn}
-use Rattle.ancestor_closure.specs.Decided.{Decides}
+use Rattle.ancestor_search.specs.Hierarchy.{IsAllAbove, IsIn}
+use Rattle.ancestor_search.specs.Decided.{Decides}
 use Rattle.evaluator.specs.declared.fault.EvalFault.{EvalFault}
 use Rattle.evaluator.specs.Outcomes.{entity_uid_in}
 use Rattle.evaluator.specs.Operators.{World}

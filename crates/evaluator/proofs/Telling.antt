@@ -16,10 +16,10 @@ use Rattle.values.specs.Uids.{equal-is}
 use Rattle.values.specs.Values.{PlainValue, long}
 use Rattle.values.specs.ValueOrder.{value_cmp, value_cmp-IsTotalOrder, value_cmp-IsAntisymmetric}
 use Rattle.plain.proofs.Members.{Contains-here, Contains-there, Contains-cases, Contains-none}
-use Rattle.ancestor_closure.specs.Decided.{Decides}
+use Rattle.ancestor_search.specs.Decided.{Decides}
 use Rattle.evaluator.specs.declared.fault.EvalFault.TheVariants.{ArithBoundsError}
 use Rattle.evaluator.specs.Outcomes.{EvaluationResult, IsTruthOf, holds, fails, IsChecked, fits, overflows}
-use Rattle.ancestor_closure.specs.Hierarchy.{IsIn}
+use Rattle.ancestor_search.specs.Hierarchy.{IsIn}
 use Rattle.evaluator.specs.Operators.{World}
 use Rattle.evaluator.specs.inner.Computing.{decided_world, truth, is_bounded, bounded, is_in, is_v4}
 

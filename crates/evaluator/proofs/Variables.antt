@@ -4,8 +4,8 @@ use Rattle.std.proofs.Common.{ap, ◌∙◌}
 use Rattle.values.specs.declared.request.Request.{Request}
 use Rattle.values.specs.Fields.{Field, find_field}
 use Rattle.values.specs.Values.{PlainValue, pairs_of-fields_of}
-use Rattle.expressions.specs.declared.leaf.Variable.{Variable}
-use Rattle.expressions.specs.declared.leaf.Variable.TheVariants.{Principal, Action, Resource, Context}
+use Rattle.grammar_core.specs.declared.leaf.Variable.{Variable}
+use Rattle.grammar_core.specs.declared.leaf.Variable.TheVariants.{Principal, Action, Resource, Context}
 use Rattle.evaluator.specs.declared.fault.EvalFault.TheVariants.{AttrDoesNotExist}
 use Rattle.evaluator.specs.Asked.{fields_under}
 use Rattle.evaluator.specs.Evaluation.{variable_value}

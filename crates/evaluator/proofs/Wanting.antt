@@ -2,13 +2,13 @@
 use Rattle.std.specs.Prelude.{ℕ, ℤ, List, Result, Ok, Err}
 use Rattle.values.specs.declared.request.Request.{Request}
 use Rattle.values.specs.Values.{PlainValue}
-use Rattle.expressions.specs.declared.operator.Unary.{Unary}
-use Rattle.expressions.specs.declared.operator.Binary.{Binary}
-use Rattle.expressions.specs.declared.operator.Binary.TheVariants.{Less, LessOrEqual, Add, Subtract, Multiply}
-use Rattle.expressions.specs.declared.operator.UnaryCall.{UnaryCall}
-use Rattle.expressions.specs.declared.operator.BinaryCall.{BinaryCall}
-use Rattle.expressions.specs.declared.expr.Expr.{Expr}
-use Rattle.evaluation_steps.specs.Attributes.{attribute, no_attribute, not_stored}
+use Rattle.grammar_core.specs.declared.operator.Unary.{Unary}
+use Rattle.grammar_core.specs.declared.operator.Binary.{Binary}
+use Rattle.grammar_core.specs.declared.operator.Binary.TheVariants.{Less, LessOrEqual, Add, Subtract, Multiply}
+use Rattle.grammar_core.specs.declared.operator.UnaryCall.{UnaryCall}
+use Rattle.grammar_core.specs.declared.operator.BinaryCall.{BinaryCall}
+use Rattle.grammar_core.specs.declared.expr.Expr.{Expr}
+use Rattle.evaluator_steps.specs.Attributes.{attribute, no_attribute, not_stored}
 use Rattle.evaluator.specs.declared.fault.EvalFault.{EvalFault}
 use Rattle.evaluator.specs.declared.fault.EvalFault.TheVariants.{EntityDoesNotExist, AttrDoesNotExist, TypeError, ArithBoundsError, ExtensionError, NoMemory}
 use Rattle.evaluator.specs.Outcomes.{EvaluationResult, IsTruthOf, holds, fails, IsChecked, fits, overflows}

@@ -4,8 +4,8 @@ use Rattle.std.specs.Prelude.{List, Option, Some}
 use Rattle.values.specs.declared.entity_uid.EntityUid.{EntityUid}
 use Rattle.values.specs.declared.request.Request.{Request}
 use Rattle.values.specs.Fields.{Field}
-use Rattle.expressions.specs.declared.leaf.Variable.{Variable}
-use Rattle.expressions.specs.declared.leaf.Variable.TheVariants.{Principal, Action, Resource, Context}
+use Rattle.grammar_core.specs.declared.leaf.Variable.{Variable}
+use Rattle.grammar_core.specs.declared.leaf.Variable.TheVariants.{Principal, Action, Resource, Context}
 
 -- the attributes of the entity, where it is stored, or the fields of the context
 abbrev pub fields_under : (EntityUid → Option (List Field)) → Request → Variable → Option (List Field)

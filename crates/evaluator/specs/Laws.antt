@@ -2,8 +2,8 @@
 use Rattle.std.specs.Prelude.{◌≡◌, List, Bool, Err}
 use Rattle.values.specs.declared.entity_uid.EntityUid.{EntityUid}
 use Rattle.values.specs.declared.request.Request.{Request}
-use Rattle.ancestor_closure.specs.Decided.{Decides, HaveAllParents}
-use Rattle.expressions.specs.declared.expr.Expr.{Expr}
+use Rattle.ancestor_search.specs.Decided.{Decides, HaveAllParents}
+use Rattle.grammar_core.specs.declared.expr.Expr.{Expr}
 use Rattle.evaluator.specs.declared.fault.EvalFault.TheVariants.{NoMemory}
 use Rattle.evaluator.specs.Outcomes.{EvaluationResult}
 use Rattle.evaluator.specs.Operators.{World}

@@ -6,6 +6,6 @@ pub mod Operators
 pub mod Outcomes
 pub mod inner
 -- crates below, passed on to those above
-pub use Rattle.ancestor_closure.specs as ancestor_closure
-pub use Rattle.evaluation_steps.specs as evaluation_steps
-pub use Rattle.expressions.specs as expressions
+pub use Rattle.ancestor_search.specs as ancestor_search
+pub use Rattle.evaluator_steps.specs as evaluator_steps
+pub use Rattle.grammar_core.specs as grammar_core

@@ -11,21 +11,21 @@ use Rattle.values.specs.declared.entity_uid.EntityUid.{EntityUid}
 use Rattle.values.specs.Fields.{Field, find_field}
 use Rattle.values.specs.Values.{PlainValue, PlainValues, PlainFields, boolean, long, text, entity, set, record_of}
 use Rattle.values.specs.Values.{decimal, ipaddr, list_of, pairs_of}
-use Rattle.ancestor_closure.specs.Hierarchy.{Parents, IsIn}
-use Rattle.expressions.specs.Like.{Matches}
-use Rattle.expressions.specs.declared.operator.Unary.{Unary}
-use Rattle.expressions.specs.declared.operator.Unary.TheVariants.{Not, Negate, Like, Is}
-use Rattle.expressions.specs.declared.operator.Binary.{Binary}
-use Rattle.expressions.specs.declared.operator.Binary.TheVariants.{Equal, In, Less, LessOrEqual, Add, Subtract}
-use Rattle.expressions.specs.declared.operator.Binary.TheVariants.{Multiply, Contains as ContainsOne, ContainsAll}
-use Rattle.expressions.specs.declared.operator.Binary.TheVariants.{ContainsAny}
-use Rattle.expressions.specs.declared.operator.UnaryCall.{UnaryCall}
-use Rattle.expressions.specs.declared.operator.UnaryCall.TheVariants.{Ip, Decimal, IsIpv4, IsIpv6, IsLoopback}
-use Rattle.expressions.specs.declared.operator.UnaryCall.TheVariants.{IsMulticast}
-use Rattle.expressions.specs.declared.operator.BinaryCall.{BinaryCall}
-use Rattle.expressions.specs.declared.operator.BinaryCall.TheVariants.{LessThan, LessThanOrEqual, GreaterThan}
-use Rattle.expressions.specs.declared.operator.BinaryCall.TheVariants.{GreaterThanOrEqual, IsInRange}
-use Rattle.evaluation_steps.specs.Attributes.{AttributeGives}
+use Rattle.ancestor_search.specs.Hierarchy.{Parents, IsIn}
+use Rattle.grammar_core.specs.Like.{Matches}
+use Rattle.grammar_core.specs.declared.operator.Unary.{Unary}
+use Rattle.grammar_core.specs.declared.operator.Unary.TheVariants.{Not, Negate, Like, Is}
+use Rattle.grammar_core.specs.declared.operator.Binary.{Binary}
+use Rattle.grammar_core.specs.declared.operator.Binary.TheVariants.{Equal, In, Less, LessOrEqual, Add, Subtract}
+use Rattle.grammar_core.specs.declared.operator.Binary.TheVariants.{Multiply, Contains as ContainsOne, ContainsAll}
+use Rattle.grammar_core.specs.declared.operator.Binary.TheVariants.{ContainsAny}
+use Rattle.grammar_core.specs.declared.operator.UnaryCall.{UnaryCall}
+use Rattle.grammar_core.specs.declared.operator.UnaryCall.TheVariants.{Ip, Decimal, IsIpv4, IsIpv6, IsLoopback}
+use Rattle.grammar_core.specs.declared.operator.UnaryCall.TheVariants.{IsMulticast}
+use Rattle.grammar_core.specs.declared.operator.BinaryCall.{BinaryCall}
+use Rattle.grammar_core.specs.declared.operator.BinaryCall.TheVariants.{LessThan, LessThanOrEqual, GreaterThan}
+use Rattle.grammar_core.specs.declared.operator.BinaryCall.TheVariants.{GreaterThanOrEqual, IsInRange}
+use Rattle.evaluator_steps.specs.Attributes.{AttributeGives}
 use Rattle.evaluator.specs.declared.fault.EvalFault.TheVariants.{EntityDoesNotExist, AttrDoesNotExist, TypeError}
 use Rattle.evaluator.specs.declared.fault.EvalFault.TheVariants.{ExtensionError}
 use Rattle.evaluator.specs.Outcomes.{EvaluationResult, IsTruthOf, IsChecked, boolean_in, long_in, text_in}

@@ -10,7 +10,7 @@ ghost use Rattle.evaluator.specs.inner.Computing.{apply_binary_call, and_then, t
 use crate::borrowed_or_owned::BorrowedOrOwned;
 use crate::fault::EvalFault;
 use crate::operands::{decimals_of, network_of, text_of};
-use expressions::{BinaryCall, UnaryCall};
+use grammar_core::{BinaryCall, UnaryCall};
 use values::{Decimal, IpNet, Value, one_decimal_a_text, one_network_a_text};
 
 /// Returns the decimal of a text.

@@ -8,8 +8,8 @@ use crate::fault::EvalFault;
 use crate::question::Question;
 use crate::steps::truth_of;
 use crate::testing::test_of;
-use evaluation_steps::decided_by_first;
-use expressions::Expr;
+use evaluator_steps::decided_by_first;
+use grammar_core::Expr;
 use plain::Shared;
 use std::alloc::Global;
 

@@ -21,7 +21,7 @@ use crate::steps::{
     owned, record_with, set_with,
 };
 use crate::testing::test_of;
-use expressions::{Binary, BinaryCall, Expr, Named, Unary, UnaryCall};
+use grammar_core::{Binary, BinaryCall, Expr, Named, Unary, UnaryCall};
 use plain::{Items, Shared, Text};
 use std::alloc::Global;
 use values::{Record, Request, Value};

@@ -10,8 +10,8 @@ use crate::fault::EvalFault;
 use crate::lookup::Lookup;
 use crate::numbers::number_or_none;
 use crate::question::Question;
-use evaluation_steps::attribute_in;
-use expressions::Variable;
+use evaluator_steps::attribute_in;
+use grammar_core::Variable;
 use std::alloc::Global;
 use values::{BorrowedKind, EntityUid, Kind, Record, Value};
 

@@ -2,7 +2,7 @@
 ghost use Rattle.evaluator.specs.Laws.{HaveOneOutcome, HaveOneOutcomeInFiniteHierarchies, NothingWantsMemory};
 ghost use Rattle.evaluator.specs.inner.Meanings.{MeaningsAreGiven};
 
-use ancestor_closure::laws::paths_are_decided;
+use ancestor_search::laws::paths_are_decided;
 use values::{one_decimal_a_text, one_network_a_text, sets_hold_their_members};
 
 /// What an expression computes is what it gives, and it gives nothing else, wherever a test decides who is above whom.

@@ -6,7 +6,7 @@ ghost use Rattle.evaluator.specs.Evaluation.{literal_value, variable_value};
 use crate::borrowed_or_owned::{BorrowedOrOwned, Ownership};
 use crate::fault::EvalFault;
 use crate::question::Question;
-use expressions::{Literal, Variable};
+use grammar_core::{Literal, Variable};
 use values::{Request, ValueRef};
 
 /// Returns the value of a literal, where it stands.

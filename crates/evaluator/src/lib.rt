@@ -17,10 +17,10 @@ mod question;
 mod steps;
 mod testing;
 
-pub use ancestor_closure::laws::{
+pub use ancestor_search::laws::{
     ascending_lists_are_one, cycles_have_one_least, paths_are_decided,
 };
-pub use ancestor_closure::{
+pub use ancestor_search::{
     Ancestry, Graph, ParentsOf, ancestors_of, is_above, is_among, least_cycle, on_cycles,
 };
 pub use borrowed_or_owned::BorrowedOrOwned;
@@ -28,5 +28,4 @@ pub use evaluating::{evaluate, evaluate_asked, evaluate_asked_test, evaluate_tes
 pub use fault::EvalFault;
 pub use laws::expressions_have_one_outcome;
 pub use lookup::Lookup;
-pub use plain::NoMemory;
 pub use question::{Asking, Question};

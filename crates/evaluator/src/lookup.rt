@@ -3,7 +3,7 @@ ghost use Rattle.std.specs.Prelude.{◌≡◌, ⊤, Option, List, [], MatchOptio
 ghost use Rattle.values.specs.declared.entity_uid.EntityUid.{EntityUid};
 ghost use Rattle.values.specs.Fields.{Field};
 
-use ancestor_closure::Ancestry;
+use ancestor_search::Ancestry;
 use values::{EntityUid, Record};
 
 /// The stored entities: who is above whom, and the attributes of each.

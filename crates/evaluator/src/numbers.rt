@@ -1,6 +1,6 @@
 //! Numbers that were given, outside the recursion: none of what is of another kind.
 ghost use Rattle.std.specs.Prelude.{◌≡◌};
-ghost use Rattle.expressions.specs.declared.operator.Binary.TheVariants.{Less, LessOrEqual};
+ghost use Rattle.grammar_core.specs.declared.operator.Binary.TheVariants.{Less, LessOrEqual};
 ghost use Rattle.evaluator.specs.Outcomes.{EvaluationResult, long_in};
 ghost use Rattle.evaluator.specs.Evaluation.{literal_value};
 ghost use Rattle.evaluator.specs.inner.Computing.{DecidedWorld, Answers, and_then, as_test, apply_binary};
@@ -8,7 +8,7 @@ ghost use Rattle.evaluator.specs.inner.Computing.{two_demanded, TellsNumber, Tel
 
 use crate::borrowed_or_owned::BorrowedOrOwned;
 use crate::fault::EvalFault;
-use expressions::Literal;
+use grammar_core::Literal;
 use values::{Kind, Value};
 
 /// What two operands gave, where these are numbers.

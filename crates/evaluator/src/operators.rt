@@ -3,18 +3,17 @@ ghost use Rattle.std.specs.Prelude.{◌≡◌, ◌⊎◌, ◌↔◌, ◌+ℤ◌,
 ghost use Rattle.std.specs.Prelude.{MatchResult, Ok, Err};
 ghost use Rattle.std.specs.List.{list_all, list_any};
 ghost use Rattle.values.specs.Sets.{has_member};
-ghost use Rattle.ancestor_closure.specs.Hierarchy.{IsAscending, names};
+ghost use Rattle.ancestor_search.specs.Hierarchy.{IsAscending, names};
 ghost use Rattle.evaluator.specs.Outcomes.{entity_uid_in};
-ghost use Rattle.evaluator.specs.inner.Computing.{decided_world, demanded, Answers, number_or_fault, apply_unary};
+ghost use Rattle.evaluator.specs.inner.Computing.{decided_world, demanded, Answers, number_or_fault, apply_unary, sets};
 ghost use Rattle.evaluator.specs.inner.Computing.{apply_binary, is_in, in_members, in_value, and_then, truth, bounded};
-ghost use Rattle.evaluator.specs.inner.Computing.{sets};
 
 use crate::borrowed_or_owned::BorrowedOrOwned;
 use crate::fault::EvalFault;
 use crate::lookup::Lookup;
 use crate::operands::{boolean_of, entity_of, long_of, longs_of, set_of, text_of};
-use ancestor_closure::is_among;
-use expressions::{Binary, Unary};
+use ancestor_search::is_among;
+use grammar_core::{Binary, Unary};
 use plain::NoMemory;
 use values::{BorrowedKind, EntityUid, Kind, Set, Value, sets_hold_their_members};
 

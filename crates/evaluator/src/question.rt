@@ -4,8 +4,8 @@ ghost use Rattle.values.specs.declared.request.Request.{Request};
 ghost use Rattle.evaluator.specs.Asked.{fields_under};
 
 use crate::lookup::Lookup;
-use ancestor_closure::Ancestry;
-use expressions::Variable;
+use ancestor_search::Ancestry;
+use grammar_core::Variable;
 use plain::NoMemory;
 use values::{EntityUid, Record, Request};
 

@@ -1,7 +1,7 @@
 //! What forms make of what their operands gave, outside the recursion: an error stays. An outcome is read where it
 //! stands, since each function that takes one by value copies it.
 ghost use Rattle.std.specs.Prelude.{◌≡◌, ◌≢◌, ◌++◌, ◌∷◌, [], List, MatchResult, Result, Ok, Err};
-ghost use Rattle.expressions.specs.declared.operator.Unary.TheVariants.{Not};
+ghost use Rattle.grammar_core.specs.declared.operator.Unary.TheVariants.{Not};
 ghost use Rattle.values.specs.Fields.{put};
 ghost use Rattle.values.specs.Sets.{set_list};
 ghost use Rattle.values.specs.Values.{PlainValue, set, record_of, values_of, fields_of};
@@ -17,7 +17,7 @@ use crate::fields::{field, has};
 use crate::lookup::Lookup;
 use crate::operands::boolean_of;
 use crate::operators::{binary, unary};
-use expressions::{Binary, BinaryCall, Unary, UnaryCall};
+use grammar_core::{Binary, BinaryCall, Unary, UnaryCall};
 use plain::{Text, beside};
 use std::alloc::Global;
 use values::{Record, Value};

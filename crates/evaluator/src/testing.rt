@@ -10,7 +10,7 @@ use crate::fields::{variable_has, variable_number};
 use crate::numbers::{Numbers, is_less, is_less_or_equal, literal_number, number_in};
 use crate::question::Question;
 use crate::steps::{has_told, opposite, tested};
-use expressions::{Binary, Expr, Unary};
+use grammar_core::{Binary, Expr, Unary};
 use plain::{Shared, Text};
 use std::alloc::Global;
 

@@ -1,15 +1,15 @@
 -- What is said of routes over a borrowed site is said of the site in the midst of its run, and the borrow stays the
 -- same; and what is said of a site in its run is said of the site.
 use Rattle.std.proofs.Common.{◌≡◌, ℕ, Option, Result, List, [], ◌∷◌, ◌++◌, refl, sym, ap, ◌∙◌, subst}
-use Rattle.service_replies.specs.http_texts.declared.status.Status.{Status}
+use Rattle.http_replies.specs.http_texts.declared.status.Status.{Status}
 use Rattle.http_streams.specs.Serving.{IsAnswered}
 use Rattle.http_streams.specs.declared.serve.StreamFault.{StreamFault}
 use Rattle.http_streams.proofs.Simulated.{answered}
-use Rattle.site_runs.specs.schema.Views.{schema_view}
-use Rattle.site_runs.specs.site.Seen.{Seen, schema_of, store_in, IsSameSite}
-use Rattle.site_runs.specs.Runs.{Run}
-use Rattle.site_runs.proofs.RunLemmas.{run_push, same_step}
-use Rattle.service_routes.specs.Routes.{route_stated}
+use Rattle.http_replies.specs.site_steps.schema.Views.{schema_view}
+use Rattle.http_replies.specs.site_steps.Seen.{Seen, schema_of, store_in, IsSameSite}
+use Rattle.http_replies.specs.site_steps.Runs.{Run}
+use Rattle.http_replies.proofs.of_site_steps.RunLemmas.{run_push, same_step}
+use Rattle.http_routes.specs.Routes.{route_stated}
 use Rattle.http_service.specs.Asked.{Asked, asked, hands, refused, unserved}
 use Rattle.http_service.specs.Answered.{Replies, answers_over}
 use Rattle.http_service.specs.Serving.{Served, unasked, Continues, continues_run, IsServed}

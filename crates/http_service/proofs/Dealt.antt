@@ -4,32 +4,33 @@ use Rattle.std.proofs.Common.{IsTrue, refl, sym, ap, ◌∙◌, subst, inl, inr}
 use Rattle.std.proofs.lemmas.Bool.{false≢true}
 use Rattle.std.specs.Str.{IsUtf8, is_utf8}
 use Rattle.std.proofs.lemmas.Str.{IsUtf8-from_is_utf8}
-use Rattle.service_replies.specs.http_texts.declared.status.Status.{Status}
+use Rattle.http_replies.specs.http_texts.declared.status.Status.{Status}
 use Rattle.values.specs.declared.entity_uid.EntityUid.{EntityUid}
-use Rattle.site_runs.specs.entities.declared.fault.EntityFault.TheVariants.{BadShape}
-use Rattle.service_replies.specs.text_trees.declared.fault.ReadFault.{ReadFault}
-use Rattle.service_replies.specs.text_trees.declared.fault.ReadFault.TheVariants.{BadId}
-use Rattle.site_runs.specs.site.Seen.{Seen, schema_of, store_in, IsSameSite}
-use Rattle.site_runs.specs.site.declared.fault.SiteFault.{SiteFault}
-use Rattle.site_runs.specs.site.declared.fault.SiteFault.TheVariants as fault
-use Rattle.site_runs.specs.site.declared.outcome.Put.{Put}
-use Rattle.site_runs.specs.site.Steps.{PutsPolicy, Deletes, policy_found}
-use Rattle.site_runs.specs.stamped_entries.declared.entry.Stamp.{Stamp}
-use Rattle.site_runs.specs.stamped_store.Store.{entity_name}
-use Rattle.site_runs.specs.declared.reply.Found.{Found}
-use Rattle.site_runs.specs.Runs.{Step}
-use Rattle.site_runs.specs.declared.input.Input.{Input}
-use Rattle.site_runs.specs.declared.input.Input.TheVariants as input
-use Rattle.site_runs.specs.declared.reply.Reply.{Reply}
-use Rattle.site_runs.specs.declared.reply.Reply.TheVariants as reply
-use Rattle.service_routes.specs.declared.route.PolicyId.TheVariants.{Named, NotUtf8}
-use Rattle.service_routes.specs.declared.route.Route.{Route}
-use Rattle.service_routes.specs.declared.route.Route.TheVariants as route
-use Rattle.service_routes.specs.Routes.{has_id}
+use Rattle.http_replies.specs.site_steps.entities.declared.fault.EntityFault.TheVariants.{BadShape}
+use Rattle.http_replies.specs.policy_grammar.declared.fault.ReadFault.{ReadFault}
+use Rattle.http_replies.specs.policy_grammar.declared.fault.ReadFault.TheVariants.{BadId}
+use Rattle.http_replies.specs.site_steps.Seen.{Seen, schema_of, store_in, IsSameSite}
+use Rattle.http_replies.specs.site_steps.declared.fault.SiteFault.{SiteFault}
+use Rattle.http_replies.specs.site_steps.declared.fault.SiteFault.TheVariants as fault
+use Rattle.http_replies.specs.site_steps.declared.outcome.Put.{Put}
+use Rattle.http_replies.specs.site_steps.Steps.{PutsPolicy, Deletes, policy_found}
+use Rattle.http_replies.specs.site_steps.stamped_store.declared.entry.Stamp.{Stamp}
+use Rattle.http_replies.specs.site_steps.stamped_store.Store.{entity_name, Store}
+use Rattle.http_replies.specs.site_steps.declared.reply.Found.{Found}
+use Rattle.http_replies.specs.site_steps.Runs.{Step}
+use Rattle.http_replies.specs.site_steps.Inputs.{Input}
+use Rattle.http_replies.specs.site_steps.Inputs as input
+use Rattle.http_replies.specs.site_steps.declared.reply.Reply.{Reply}
+use Rattle.http_replies.specs.site_steps.declared.reply.Reply.TheVariants as reply
+use Rattle.http_routes.specs.declared.route.PolicyId.TheVariants.{Named, NotUtf8}
+use Rattle.http_routes.specs.declared.route.Route.{Route}
+use Rattle.http_routes.specs.declared.route.Route.TheVariants as route
+use Rattle.http_routes.specs.Routes.{has_id}
 use Rattle.http_service.specs.Asked.{asked, hands, refused, unserved, put_asked, removal_asked, not_text}
-use Rattle.service_replies.specs.Replies.{fault_reply, found_reply, put_reply, stamp_reply, status_reply}
+use Rattle.http_replies.specs.Replies.{fault_reply, found_reply, put_reply, stamp_reply, status_reply}
 use Rattle.http_service.specs.Answered.{told}
-use Rattle.http_service.specs.inner.Dealing.{ReportsOrNoMemory, Deals}
+use Rattle.http_service.specs.inner.Dealing.{ReportsOrNoMemory, Deals, Tells, lacking}
+use Rattle.http_replies.specs.site_steps.schema.Schemas.{StatedSchema}
 
 pub handed : (old new : Seen) (i : Input) (r : Reply) (status : Status) (before after : List ℕ)
     → Step (schema_of old) old.name (store_in old) i r (store_in new) → IsSameSite old new
@@ -37,13 +38,61 @@ pub handed : (old new : Seen) (i : Input) (r : Reply) (status : Status) (before 
 handed old new i r status before after step same e f =
     ((told r).1, f, (r, step, same, ap (λ (s : Status). (s, (told r).1)) e))
 
--- what is asked may meet want of memory when it is told
-pub asked_of : (old : Seen) (i : Input) (r m : Reply) (status : Status) (before after : List ℕ)
-    → Step (schema_of old) old.name (store_in old) i r (store_in old)
-    → Step (schema_of old) old.name (store_in old) i m (store_in old) → told m ≡ fault_reply fault.NoMemory
-    → ReportsOrNoMemory (told r) status before after → Deals old (hands i) status before after old
-asked_of old i r m status before after step short e (line, f, inl h) = (line, f, (r, step, (refl, refl), h))
-asked_of old i r m status before after step short e (line, f, inr h) = (line, f, (m, short, (refl, refl), h.1 ∙ sym e))
+-- ---- replies as they are told
+
+pub told_so : (r : Reply) (status : Status) (before after : List ℕ) → status ≡ (told r).0 → after ≡ before ++ (told r).1
+    → Tells r status before after
+told_so r status before after e f = ((told r).1, f, inl (ap (λ (s : Status). (s, (told r).1)) e))
+
+pub told_or_lacks : (r : Reply) (status : Status) (before after : List ℕ) → told (lacking r) ≡ fault_reply fault.NoMemory
+    → ReportsOrNoMemory (told r) status before after → Tells r status before after
+told_or_lacks r status before after e (line, f, inl h) = (line, f, inl h)
+told_or_lacks r status before after e (line, f, inr h) = (line, f, inr (h.1 ∙ sym e))
+
+-- a question may be answered by want of memory
+step_lacks : (schema : StatedSchema) (n : List ℕ) (s : Store) (i : Input) (r : Reply) (t : Store) → Step schema n s i r t
+    → Step schema n s i (lacking r) t
+step_lacks schema n s i (reply.Put r) t h = h
+step_lacks schema n s i (reply.Stamped r) t h = h
+step_lacks schema n s i (reply.Taken r) t h = h
+step_lacks schema n s (input.Authorize b) (reply.Answered r) t h = (tt, h.1)
+step_lacks schema n s (input.PutPolicy id text) (reply.Answered r) t h = absurd h
+step_lacks schema n s (input.DeletePolicy id) (reply.Answered r) t h = absurd h
+step_lacks schema n s (input.PutEntity b) (reply.Answered r) t h = absurd h
+step_lacks schema n s (input.DeleteEntity uid) (reply.Answered r) t h = absurd h
+step_lacks schema n s (input.Take b) (reply.Answered r) t h = absurd h
+step_lacks schema n s (input.GetPolicy id) (reply.Answered r) t h = absurd h
+step_lacks schema n s input.State (reply.Answered r) t h = absurd h
+step_lacks schema n s input.Summary (reply.Answered r) t h = absurd h
+step_lacks schema n s (input.Delta b) (reply.Answered r) t h = absurd h
+step_lacks schema n s (input.GetPolicy id) (reply.Found r) t h = (tt, h.1)
+step_lacks schema n s (input.PutPolicy id text) (reply.Found r) t h = absurd h
+step_lacks schema n s (input.DeletePolicy id) (reply.Found r) t h = absurd h
+step_lacks schema n s (input.PutEntity b) (reply.Found r) t h = absurd h
+step_lacks schema n s (input.DeleteEntity uid) (reply.Found r) t h = absurd h
+step_lacks schema n s (input.Take b) (reply.Found r) t h = absurd h
+step_lacks schema n s (input.Authorize b) (reply.Found r) t h = absurd h
+step_lacks schema n s input.State (reply.Found r) t h = absurd h
+step_lacks schema n s input.Summary (reply.Found r) t h = absurd h
+step_lacks schema n s (input.Delta b) (reply.Found r) t h = absurd h
+step_lacks schema n s input.State (reply.Written r) t h = (tt, h.1)
+step_lacks schema n s input.Summary (reply.Written r) t h = (tt, h.1)
+step_lacks schema n s (input.Delta b) (reply.Written r) t h = (tt, h.1)
+step_lacks schema n s (input.PutPolicy id text) (reply.Written r) t h = absurd h
+step_lacks schema n s (input.DeletePolicy id) (reply.Written r) t h = absurd h
+step_lacks schema n s (input.PutEntity b) (reply.Written r) t h = absurd h
+step_lacks schema n s (input.DeleteEntity uid) (reply.Written r) t h = absurd h
+step_lacks schema n s (input.Take b) (reply.Written r) t h = absurd h
+step_lacks schema n s (input.Authorize b) (reply.Written r) t h = absurd h
+step_lacks schema n s (input.GetPolicy id) (reply.Written r) t h = absurd h
+
+-- what the site replied is told
+pub dealt : (old new : Seen) (i : Input) (r : Reply) (status : Status) (before after : List ℕ)
+    → Step (schema_of old) old.name (store_in old) i r (store_in new) → IsSameSite old new
+    → Tells r status before after → Deals old (hands i) status before after new
+dealt old new i r status before after step same (line, f, inl h) = (line, f, (r, step, same, h))
+dealt old new i r status before after step same (line, f, inr h) =
+    (line, f, (lacking r, step_lacks (schema_of old) old.name (store_in old) i r (store_in new) step, same, h))
 
 pub refuses : (old : Seen) (f : SiteFault) (status : Status) (before after : List ℕ) → status ≡ (fault_reply f).0
     → after ≡ before ++ (fault_reply f).1 → Deals old (refused f) status before after old
@@ -61,32 +110,13 @@ pub unserves : (old : Seen) (u status : Status) (before after : List ℕ) → st
 unserves old u status before after e g =
     ((status_reply u).1, g, (ap (λ (s : Status). (s, (status_reply u).1)) e, refl))
 
--- a policy that was looked up
-shown : Option (List ℕ × Stamp) → Option Found
-shown p = option_map (λ f. record { text = f.0; stamp = f.1 }) p
-
-shown_is : (p : Option (List ℕ × Stamp)) → option_map (λ (f : Found). (f.text, f.stamp)) (shown p) ≡ p
-unfolding shown
-shown_is None = refl
-shown_is (Some f) = refl
-
-pub found_is_told : (old : Seen) (id : List ℕ) (p : Option (List ℕ × Stamp)) (status : Status) (before after : List ℕ)
-    → p ≡ policy_found (store_in old) id → ReportsOrNoMemory (found_reply p) status before after
-    → Deals old (hands (input.GetPolicy id)) status before after old
-found_is_told old id p status before after is h =
-    asked_of old (input.GetPolicy id) (reply.Found (Ok (shown p))) (reply.Found (Err fault.NoMemory)) status before after
-    (shown_is p ∙ is, refl) (tt, refl) refl
-    (subst (λ (q : Option (List ℕ × Stamp)). ReportsOrNoMemory (found_reply q) status before after) (sym (shown_is p)) h)
-
 -- ---- a policy that is put
 
-pub put_text : (old new : Seen) (body id text : List ℕ) (r : Result Put SiteFault) (status : Status)
-    (before after : List ℕ) → is_utf8 body ≡ true → text ≡ body
-    → PutsPolicy (schema_of old) old.name (store_in old) id text r (store_in new) → IsSameSite old new
-    → status ≡ (put_reply r).0 → after ≡ before ++ (put_reply r).1 → Deals old (put_asked body id) status before after new
-put_text old new body id text r status before after utf8 e step same f g =
-    rw utf8 (handed old new (input.PutPolicy id body) (reply.Put r) status before after
-    (subst (λ (t : List ℕ). PutsPolicy (schema_of old) old.name (store_in old) id t r (store_in new)) e step) same f g)
+pub put_text : (old new : Seen) (body id text : List ℕ) (status : Status) (before after : List ℕ) → is_utf8 body ≡ true
+    → text ≡ body → Deals old (hands (input.PutPolicy id text)) status before after new
+    → Deals old (put_asked body id) status before after new
+put_text old new body id text status before after utf8 e h =
+    rw utf8 (subst (λ (t : List ℕ). Deals old (hands (input.PutPolicy id t)) status before after new) e h)
 
 pub put_other : (old : Seen) (body id : List ℕ) (why : ReadFault) (status : Status) (before after : List ℕ)
     → is_utf8 body ≡ false → why ≡ not_text id body → status ≡ (fault_reply (fault.Policy why)).0
@@ -102,13 +132,11 @@ not_utf8 bytes false e h = e
 
 -- ---- an entity that is taken away
 
-pub removed : (old new : Seen) (o : Option EntityUid) (uid : EntityUid) (r : Result Stamp SiteFault) (status : Status)
-    (before after : List ℕ) → o ≡ Some uid → Deletes old.name (store_in old) (entity_name uid) r (store_in new)
-    → IsSameSite old new → status ≡ (stamp_reply r).0 → after ≡ before ++ (stamp_reply r).1
+pub removed : (old new : Seen) (o : Option EntityUid) (uid : EntityUid) (status : Status) (before after : List ℕ)
+    → o ≡ Some uid → Deals old (hands (input.DeleteEntity uid)) status before after new
     → Deals old (removal_asked o) status before after new
-removed old new o uid r status before after e step same f g =
-    subst (λ (x : Option EntityUid). Deals old (removal_asked x) status before after new) (sym e)
-    (handed old new (input.DeleteEntity uid) (reply.Stamped r) status before after step same f g)
+removed old new o uid status before after e h =
+    subst (λ (x : Option EntityUid). Deals old (removal_asked x) status before after new) (sym e) h
 
 pub removal_lacks : (old : Seen) (o : Option EntityUid) (status : Status) (before after : List ℕ)
     → status ≡ (fault_reply fault.NoMemory).0 → after ≡ before ++ (fault_reply fault.NoMemory).1

@@ -1,25 +1,23 @@
 -- A request has one reply from sites that are alike, want of memory aside.
 use Rattle.std.proofs.Common.{◌≡◌, ◌≢◌, ◌⊎◌, ℕ, List, Ok, Err, refl, sym, ap, ◌∙◌, subst, inl, inr}
-use Rattle.service_replies.specs.http_texts.declared.status.Status.{Status}
-use Rattle.service_replies.specs.http_texts.declared.status.Status.TheVariants.{ServiceUnavailable}
+use Rattle.http_replies.specs.http_texts.declared.status.Status.{Status}
+use Rattle.http_replies.specs.http_texts.declared.status.Status.TheVariants.{ServiceUnavailable}
 use Rattle.http_streams.specs.Laws.{HasOneAnswer, in_memory}
-use Rattle.site_runs.specs.schema.Schemas.{StatedSchema}
-use Rattle.site_runs.specs.schema.Views.{schema_view}
-use Rattle.site_runs.specs.schema.SchemaEntries.{SchemaEntries}
-use Rattle.site_runs.specs.schema.Schemas.{IsSchemaOf}
-use Rattle.site_runs.specs.schema.Views.{IsStated}
-use Rattle.site_runs.specs.stamped_store.Store.{Store}
-use Rattle.site_runs.specs.site.Seen.{Seen, schema_of, store_in, IsSameSite}
-use Rattle.site_runs.specs.site.declared.fault.SiteFault.{SiteFault}
-use Rattle.site_runs.specs.site.declared.fault.SiteFault.TheVariants as fault
-use Rattle.service_replies.specs.Replies.{fault_reply}
-use Rattle.site_runs.specs.site.declared.outcome.Taken.TheVariants.{All, Short}
-use Rattle.site_runs.specs.declared.input.Input.{Input}
-use Rattle.site_runs.specs.declared.reply.Reply.{Reply}
-use Rattle.site_runs.specs.declared.reply.Reply.TheVariants as reply
-use Rattle.site_runs.specs.Outcomes.{IsWhole, InputsHaveOneOutcome}
-use Rattle.site_runs.specs.Runs.{Step}
-use Rattle.service_routes.specs.Routes.{route_stated}
+use Rattle.http_replies.specs.site_steps.schema.Schemas.{StatedSchema, IsSchemaOf}
+use Rattle.http_replies.specs.site_steps.schema.Views.{schema_view, IsStated}
+use Rattle.http_replies.specs.site_steps.schema.SchemaEntries.{SchemaEntries}
+use Rattle.http_replies.specs.site_steps.stamped_store.Store.{Store}
+use Rattle.http_replies.specs.site_steps.Seen.{Seen, schema_of, store_in, IsSameSite}
+use Rattle.http_replies.specs.site_steps.declared.fault.SiteFault.{SiteFault}
+use Rattle.http_replies.specs.site_steps.declared.fault.SiteFault.TheVariants as fault
+use Rattle.http_replies.specs.Replies.{fault_reply}
+use Rattle.http_replies.specs.site_steps.declared.outcome.Taken.TheVariants.{All, Short}
+use Rattle.http_replies.specs.site_steps.Inputs.{Input}
+use Rattle.http_replies.specs.site_steps.declared.reply.Reply.{Reply}
+use Rattle.http_replies.specs.site_steps.declared.reply.Reply.TheVariants as reply
+use Rattle.http_replies.specs.site_steps.Outcomes.{IsWhole, InputsHaveOneOutcome}
+use Rattle.http_replies.specs.site_steps.Runs.{Step}
+use Rattle.http_routes.specs.Routes.{route_stated}
 use Rattle.http_service.specs.Asked.{Asked, asked, hands, refused, unserved}
 use Rattle.http_service.specs.Answered.{IsAlike, Replies, answers, told}
 

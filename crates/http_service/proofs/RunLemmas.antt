@@ -1,16 +1,16 @@
 -- What a stream leaves is what a run leaves.
 use Rattle.std.proofs.Common.{◌≡◌, ℕ, zero, suc, Bool, true, false, List, [], ◌∷◌, ◌++◌, refl, sym, ap, ◌∙◌, subst, inl}
 use Rattle.std.proofs.Common.{inr}
-use Rattle.service_replies.specs.http_texts.declared.status.Status.{Status}
+use Rattle.http_replies.specs.http_texts.declared.status.Status.{Status}
 use Rattle.http_streams.specs.Stream.{Closes, Ends, Exchanges, Halts, Rests, Serves, Stops}
-use Rattle.site_runs.specs.schema.Schemas.{StatedSchema}
-use Rattle.site_runs.specs.schema.Views.{schema_view}
-use Rattle.site_runs.specs.stamped_store.Store.{Store, store_of, updates}
-use Rattle.site_runs.specs.site.Seen.{Seen, schema_of, store_in, IsSameSite}
-use Rattle.site_runs.specs.Runs.{Run, took}
-use Rattle.site_runs.specs.declared.input.Input.{Input}
-use Rattle.site_runs.specs.declared.reply.Reply.{Reply}
-use Rattle.service_routes.specs.Routes.{route_stated}
+use Rattle.http_replies.specs.site_steps.schema.Schemas.{StatedSchema}
+use Rattle.http_replies.specs.site_steps.schema.Views.{schema_view}
+use Rattle.http_replies.specs.site_steps.stamped_store.Store.{Store, store_of, updates}
+use Rattle.http_replies.specs.site_steps.Seen.{Seen, schema_of, store_in, IsSameSite}
+use Rattle.http_replies.specs.site_steps.Runs.{Run, took}
+use Rattle.http_replies.specs.site_steps.Inputs.{Input}
+use Rattle.http_replies.specs.site_steps.declared.reply.Reply.{Reply}
+use Rattle.http_routes.specs.Routes.{route_stated}
 use Rattle.http_service.specs.Asked.{Asked, asked, hands, refused, unserved}
 use Rattle.http_service.specs.Answered.{answers, Replies}
 use Rattle.http_service.specs.Streams.{inputs_of, AskFor, LeavesRun}

@@ -1,15 +1,15 @@
 -- What is answered to a request, and what it leaves of the site. Rules of this product.
 use Rattle.std.specs.Prelude.{◌≡◌, ◌⊎◌, ℕ, List, Ok, Err, option_map}
-use Rattle.service_replies.specs.http_texts.declared.status.Status.{Status}
-use Rattle.site_runs.specs.schema.Views.{IsStated}
-use Rattle.site_runs.specs.site.Seen.{Seen, schema_of, store_in, IsSameSite}
-use Rattle.site_runs.specs.site.declared.fault.SiteFault.TheVariants as fault
-use Rattle.site_runs.specs.Runs.{Step}
-use Rattle.site_runs.specs.declared.reply.Reply.{Reply}
-use Rattle.site_runs.specs.declared.reply.Reply.TheVariants as reply
-use Rattle.service_routes.specs.Routes.{route_stated}
-use Rattle.service_replies.specs.Replies.{fault_reply, status_reply, put_reply, stamp_reply, taken_reply, answer_reply}
-use Rattle.service_replies.specs.Replies.{found_reply, message_reply}
+use Rattle.http_replies.specs.http_texts.declared.status.Status.{Status}
+use Rattle.http_replies.specs.site_steps.schema.Views.{IsStated}
+use Rattle.http_replies.specs.site_steps.Seen.{Seen, schema_of, store_in, IsSameSite}
+use Rattle.http_replies.specs.site_steps.declared.fault.SiteFault.TheVariants as fault
+use Rattle.http_replies.specs.site_steps.Runs.{Step}
+use Rattle.http_replies.specs.site_steps.declared.reply.Reply.{Reply}
+use Rattle.http_replies.specs.site_steps.declared.reply.Reply.TheVariants as reply
+use Rattle.http_routes.specs.Routes.{route_stated}
+use Rattle.http_replies.specs.Replies.{fault_reply, status_reply, put_reply, stamp_reply, taken_reply, answer_reply}
+use Rattle.http_replies.specs.Replies.{found_reply, message_reply}
 use Rattle.http_service.specs.Asked.{Asked, asked, hands, refused, unserved}
 use Rattle.http_service.specs.declared.site_service.SiteService.{SiteService}
 

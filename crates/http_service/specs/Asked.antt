@@ -5,21 +5,21 @@ use Rattle.std.specs.Prelude.{ℕ, Bool, ◌&&◌, List, length, Option, Some, N
 use Rattle.std.specs.Str.{is_utf8}
 use Rattle.json_words.specs.Json.{json_of}
 use Rattle.values.specs.declared.entity_uid.EntityUid.{EntityUid}
-use Rattle.service_replies.specs.uid_json.Uids.{uid_in}
-use Rattle.service_replies.specs.policy_grammar.Limits.{most_id_bytes, most_policy_bytes}
-use Rattle.service_replies.specs.text_trees.declared.fault.ReadFault.{ReadFault}
-use Rattle.service_replies.specs.text_trees.declared.fault.ReadFault.TheVariants.{BadId, BadToken, TooLong}
-use Rattle.site_runs.specs.entities.declared.fault.EntityFault.TheVariants.{BadShape}
-use Rattle.service_replies.specs.http_texts.declared.status.Status.{Status}
-use Rattle.service_replies.specs.http_texts.declared.status.Status.TheVariants.{NotFound, MethodNotAllowed}
-use Rattle.site_runs.specs.site.declared.fault.SiteFault.{SiteFault}
-use Rattle.site_runs.specs.site.declared.fault.SiteFault.TheVariants as fault
-use Rattle.site_runs.specs.declared.input.Input.{Input}
-use Rattle.site_runs.specs.declared.input.Input.TheVariants as input
-use Rattle.service_routes.specs.declared.route.PolicyId.{PolicyId}
-use Rattle.service_routes.specs.declared.route.PolicyId.TheVariants.{Named, NotUtf8}
-use Rattle.service_routes.specs.declared.route.Route.{Route}
-use Rattle.service_routes.specs.declared.route.Route.TheVariants as route
+use Rattle.http_replies.specs.entity_uids.Uids.{uid_in}
+use Rattle.http_replies.specs.policy_grammar.Limits.{most_id_bytes, most_policy_bytes}
+use Rattle.http_replies.specs.policy_grammar.declared.fault.ReadFault.{ReadFault}
+use Rattle.http_replies.specs.policy_grammar.declared.fault.ReadFault.TheVariants.{BadId, BadToken, TooLong}
+use Rattle.http_replies.specs.site_steps.entities.declared.fault.EntityFault.TheVariants.{BadShape}
+use Rattle.http_replies.specs.http_texts.declared.status.Status.{Status}
+use Rattle.http_replies.specs.http_texts.declared.status.Status.TheVariants.{NotFound, MethodNotAllowed}
+use Rattle.http_replies.specs.site_steps.declared.fault.SiteFault.{SiteFault}
+use Rattle.http_replies.specs.site_steps.declared.fault.SiteFault.TheVariants as fault
+use Rattle.http_replies.specs.site_steps.Inputs.{Input}
+use Rattle.http_replies.specs.site_steps.Inputs as input
+use Rattle.http_routes.specs.declared.route.PolicyId.{PolicyId}
+use Rattle.http_routes.specs.declared.route.PolicyId.TheVariants.{Named, NotUtf8}
+use Rattle.http_routes.specs.declared.route.Route.{Route}
+use Rattle.http_routes.specs.declared.route.Route.TheVariants as route
 
 -- the site is handed an input; or it is handed nothing, since a fault is seen before, or no deed is asked for
 pub data Asked : Type 0 where

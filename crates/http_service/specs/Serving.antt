@@ -2,15 +2,15 @@
 -- Source: RFC 9112, section 9.3 (replies in the order of the requests); that each request is one step at most is a rule
 -- of this product.
 use Rattle.std.specs.Prelude.{◌≡◌, ℕ, List, [], ◌∷◌, ◌++◌, Option, Result}
-use Rattle.service_replies.specs.http_texts.declared.status.Status.{Status}
+use Rattle.http_replies.specs.http_texts.declared.status.Status.{Status}
 use Rattle.http_streams.specs.Serving.{IsAnswered}
 use Rattle.http_streams.specs.declared.serve.StreamFault.{StreamFault}
-use Rattle.site_runs.specs.stamped_store.Store.{store_of, updates}
-use Rattle.site_runs.specs.site.Seen.{Seen, schema_of, store_in, IsSameSite}
-use Rattle.site_runs.specs.Runs.{Step, Run, took}
-use Rattle.site_runs.specs.declared.input.Input.{Input}
-use Rattle.site_runs.specs.declared.reply.Reply.{Reply}
-use Rattle.service_routes.specs.Routes.{route_stated}
+use Rattle.http_replies.specs.site_steps.stamped_store.Store.{store_of, updates}
+use Rattle.http_replies.specs.site_steps.Seen.{Seen, schema_of, store_in, IsSameSite}
+use Rattle.http_replies.specs.site_steps.Runs.{Step, Run, took}
+use Rattle.http_replies.specs.site_steps.Inputs.{Input}
+use Rattle.http_replies.specs.site_steps.declared.reply.Reply.{Reply}
+use Rattle.http_routes.specs.Routes.{route_stated}
 use Rattle.http_service.specs.Asked.{Asked, asked, hands, refused, unserved}
 use Rattle.http_service.specs.Answered.{Replies, told}
 

@@ -3,12 +3,12 @@
 use Rattle.std.specs.Prelude.{◌≡◌, ℕ, suc, zero, List, [], ◌∷◌, ◌++◌}
 use Rattle.httparse.specs.Grammar.{RequestHead}
 use Rattle.http_streams.specs.http_framing.Request.{ReadsWhole}
-use Rattle.site_runs.specs.stamped_store.Store.{store_of, updates}
-use Rattle.site_runs.specs.site.Seen.{Seen, schema_of, store_in, IsSameSite}
-use Rattle.site_runs.specs.Runs.{Run, took}
-use Rattle.site_runs.specs.declared.input.Input.{Input}
-use Rattle.site_runs.specs.declared.reply.Reply.{Reply}
-use Rattle.service_routes.specs.Routes.{route_stated}
+use Rattle.http_replies.specs.site_steps.stamped_store.Store.{store_of, updates}
+use Rattle.http_replies.specs.site_steps.Seen.{Seen, schema_of, store_in, IsSameSite}
+use Rattle.http_replies.specs.site_steps.Runs.{Run, took}
+use Rattle.http_replies.specs.site_steps.Inputs.{Input}
+use Rattle.http_replies.specs.site_steps.declared.reply.Reply.{Reply}
+use Rattle.http_routes.specs.Routes.{route_stated}
 use Rattle.http_service.specs.Asked.{Asked, asked, hands, refused, unserved}
 
 -- the inputs that a request hands to the site: one, or none

@@ -3,98 +3,41 @@ ghost use Rattle.std.specs.Prelude.{◌≡◌, ◌≤◌, ◌+◌, IfOk, MatchOp
 ghost use Rattle.std.specs.Str.{is_utf8};
 ghost use Rattle.std.specs.Vec.{vec_capacity};
 ghost use Rattle.json_words.specs.Json.{json_of};
-ghost use Rattle.service_replies.specs.uid_json.Uids.{uid_in};
-ghost use Rattle.site_runs.specs.site.Seen.{schema_of, store_in, IsSameSite};
-ghost use Rattle.site_runs.specs.site.Steps.{Answers, PutsEntity};
+ghost use Rattle.http_replies.specs.entity_uids.Uids.{uid_in};
+ghost use Rattle.http_replies.specs.site_steps.Seen.{schema_of, store_in, IsSameSite};
+ghost use Rattle.http_replies.specs.site_steps.Steps.{Answers, PutsEntity};
 ghost use Rattle.http_streams.specs.declared.TheConstants.{REPLY_ROOM};
-ghost use Rattle.service_routes.specs.Routes.{route_stated};
-ghost use Rattle.site_runs.specs.declared.input.Input.TheVariants as input;
+ghost use Rattle.http_routes.specs.Routes.{route_stated};
+ghost use Rattle.http_replies.specs.site_steps.Inputs.{input_of};
 ghost use Rattle.http_service.specs.Asked.{asked, hands, put_asked, removal_asked, not_text};
 ghost use Rattle.http_service.specs.inner.Dealing.{Deals};
 
-use plain::NoMemory;
-use service_replies::{
-    Answer, MOST_ID_BYTES, MOST_POLICY_BYTES, ReadFault, Scratch, Site, SiteFault, Status,
-    read_json_by, read_uid, report_answer, report_fault, report_found, report_message, report_put,
-    report_stamp, report_status, report_taken,
+use crate::replies::report_reply;
+use http_replies::{
+    EntityFault, Input, MOST_ID_BYTES, MOST_POLICY_BYTES, ReadFault, Scratch, Site, SiteFault,
+    Status, answer as answer_input, read_json_by, read_uid, report_fault, report_status,
 };
-use service_routes::{PolicyId, Route, route_of};
-use site_runs::{EntityFault, Stamp, delta_bytes, state_bytes, summary_bytes, take_bytes};
+use http_routes::{PolicyId, Route, route_of};
+use plain::NoMemory;
 use std::alloc::Global;
 use values::EntityUid;
 
-// ---- questions
+// ---- inputs of the site
 
-/// Returns the answer to the request that a body states, as `authorize_bytes` of `site_runs` does.
-fn answer_to(
+/// Hands an input to the site, and reports its reply.
+fn reply_to(
     alloc: Global,
     scratch: &mut Scratch,
-    site: &Site,
-    body: &[u8],
-) -> Result<Answer, SiteFault>
-    ensures { Answers (schema_of site.now) (store_in site.now) (json_of body.now) result }
-{
-    match read_json_by(scratch, alloc, body) {
-        Ok(Some(json)) => site.authorize(&json),
-        Ok(None) => Err(SiteFault::Request(EntityFault::BadShape)),
-        Err(_) => Err(SiteFault::NoMemory),
-    }
-}
-
-/// Answers the request that a body states.
-fn authorize(
-    alloc: Global,
-    scratch: &mut Scratch,
-    site: &Site,
-    body: &[u8],
+    site: &mut Site,
+    input: &Input<'_>,
     text: &mut Vec<u8>,
 ) -> Status
     requires room { vec_len text.old + REPLY_ROOM ≤ vec_capacity text.old }
-    ensures reply { Deals site.now (hands (input.Authorize body.now)) result text.old.items text.new.items site.now }
+    ensures reply { Deals site.old (hands (input_of input.now)) result text.old.items text.new.items site.new }
     ensures kept { vec_capacity text.old ≤ vec_capacity text.new }
 {
-    let outcome = answer_to(alloc, scratch, site, body);
-    report_answer(alloc, text, &outcome)
-}
-
-/// Answers with the text and the stamp of a policy.
-fn get_policy(alloc: Global, site: &Site, id: &str, text: &mut Vec<u8>) -> Status
-    requires room { vec_len text.old + REPLY_ROOM ≤ vec_capacity text.old }
-    ensures reply { Deals site.now (hands (input.GetPolicy id.now)) result text.old.items text.new.items site.now }
-    ensures kept { vec_capacity text.old ≤ vec_capacity text.new }
-{
-    let found = site.get_policy(id);
-    report_found(alloc, text, &found)
-}
-
-/// Answers with the state.
-fn state(site: &Site, text: &mut Vec<u8>) -> Status
-    requires room { vec_len text.old + REPLY_ROOM ≤ vec_capacity text.old }
-    ensures reply { Deals site.now (hands input.State) result text.old.items text.new.items site.now }
-    ensures kept { vec_capacity text.old ≤ vec_capacity text.new }
-{
-    let outcome = state_bytes(site);
-    report_message(text, &outcome)
-}
-
-/// Answers with the summary.
-fn summary(site: &Site, text: &mut Vec<u8>) -> Status
-    requires room { vec_len text.old + REPLY_ROOM ≤ vec_capacity text.old }
-    ensures reply { Deals site.now (hands input.Summary) result text.old.items text.new.items site.now }
-    ensures kept { vec_capacity text.old ≤ vec_capacity text.new }
-{
-    let outcome = summary_bytes(site);
-    report_message(text, &outcome)
-}
-
-/// Answers with what is news to whoever has the summary that a body is.
-fn delta(alloc: Global, site: &Site, body: &[u8], text: &mut Vec<u8>) -> Status
-    requires room { vec_len text.old + REPLY_ROOM ≤ vec_capacity text.old }
-    ensures reply { Deals site.now (hands (input.Delta body.now)) result text.old.items text.new.items site.now }
-    ensures kept { vec_capacity text.old ≤ vec_capacity text.new }
-{
-    let outcome = delta_bytes(alloc, site, body);
-    report_message(text, &outcome)
+    let reply = answer_input(alloc, scratch, site, input);
+    report_reply(alloc, text, &reply)
 }
 
 // ---- changes
@@ -124,62 +67,22 @@ fn not_text(id: &str, body: &[u8]) -> ReadFault
 }
 
 /// Puts the policy whose text a body is.
-fn put_policy(site: &mut Site, id: &str, body: &[u8], text: &mut Vec<u8>) -> Status
+fn put_policy(
+    alloc: Global,
+    scratch: &mut Scratch,
+    site: &mut Site,
+    id: &str,
+    body: &[u8],
+    text: &mut Vec<u8>,
+) -> Status
     requires room { vec_len text.old + REPLY_ROOM ≤ vec_capacity text.old }
     ensures reply { Deals site.old (put_asked body.now id.now) result text.old.items text.new.items site.new }
     ensures kept { vec_capacity text.old ≤ vec_capacity text.new }
 {
     match text_of(body) {
-        Some(policy) => {
-            let outcome = site.put_policy(id, policy);
-            report_put(text, outcome)
-        }
+        Some(policy) => reply_to(alloc, scratch, site, &Input::PutPolicy(id, policy), text),
         None => report_fault(text, SiteFault::Policy(not_text(id, body))),
     }
-}
-
-/// Takes a policy away.
-fn delete_policy(site: &mut Site, id: &str, text: &mut Vec<u8>) -> Status
-    requires room { vec_len text.old + REPLY_ROOM ≤ vec_capacity text.old }
-    ensures reply { Deals site.old (hands (input.DeletePolicy id.now)) result text.old.items text.new.items site.new }
-    ensures kept { vec_capacity text.old ≤ vec_capacity text.new }
-{
-    let outcome = site.delete_policy(id);
-    report_stamp(text, outcome)
-}
-
-/// Puts the entity that a body states, as `put_entity_bytes` of `site_runs` does.
-fn put_stated(
-    alloc: Global,
-    scratch: &mut Scratch,
-    site: &mut Site,
-    body: &[u8],
-) -> Result<Stamp, SiteFault>
-    ensures puts { PutsEntity (schema_of site.old) site.old.name (store_in site.old) (json_of body.now) result
-        (store_in site.new) }
-    ensures same { IsSameSite site.old site.new }
-{
-    match read_json_by(scratch, alloc, body) {
-        Ok(Some(json)) => site.put_entity(&json),
-        Ok(None) => Err(SiteFault::Entity(EntityFault::BadShape)),
-        Err(_) => Err(SiteFault::NoMemory),
-    }
-}
-
-/// Puts the entity that a body states.
-fn put_entity(
-    alloc: Global,
-    scratch: &mut Scratch,
-    site: &mut Site,
-    body: &[u8],
-    text: &mut Vec<u8>,
-) -> Status
-    requires room { vec_len text.old + REPLY_ROOM ≤ vec_capacity text.old }
-    ensures reply { Deals site.old (hands (input.PutEntity body.now)) result text.old.items text.new.items site.new }
-    ensures kept { vec_capacity text.old ≤ vec_capacity text.new }
-{
-    let outcome = put_stated(alloc, scratch, site, body);
-    report_stamp(text, outcome)
 }
 
 /// Returns the entity that a body names, or None.
@@ -210,23 +113,10 @@ fn delete_entity(
     ensures kept { vec_capacity text.old ≤ vec_capacity text.new }
 {
     match named_entity(alloc, scratch, body) {
-        Ok(Some(uid)) => {
-            let outcome = site.delete_entity(&uid);
-            report_stamp(text, outcome)
-        }
+        Ok(Some(uid)) => reply_to(alloc, scratch, site, &Input::DeleteEntity(&uid), text),
         Ok(None) => report_fault(text, SiteFault::Entity(EntityFault::BadShape)),
         Err(_) => report_fault(text, SiteFault::NoMemory),
     }
-}
-
-/// Takes the updates of the message that a body is.
-fn merge(alloc: Global, site: &mut Site, body: &[u8], text: &mut Vec<u8>) -> Status
-    requires room { vec_len text.old + REPLY_ROOM ≤ vec_capacity text.old }
-    ensures reply { Deals site.old (hands (input.Take body.now)) result text.old.items text.new.items site.new }
-    ensures kept { vec_capacity text.old ≤ vec_capacity text.new }
-{
-    let outcome = take_bytes(alloc, site, body);
-    report_taken(text, outcome)
 }
 
 // ---- routes
@@ -245,21 +135,33 @@ fn answer_route(
     ensures kept { vec_capacity text.old ≤ vec_capacity text.new }
 {
     match route {
-        Route::Authorize => authorize(alloc, scratch, site, body, text),
-        Route::PutPolicy(PolicyId::Named(id)) => put_policy(site, id.as_str(), body, text),
-        Route::GetPolicy(PolicyId::Named(id)) => get_policy(alloc, site, id.as_str(), text),
-        Route::DeletePolicy(PolicyId::Named(id)) => delete_policy(site, id.as_str(), text),
+        Route::Authorize => reply_to(alloc, scratch, site, &Input::Authorize(body), text),
+        Route::PutPolicy(PolicyId::Named(id)) => {
+            put_policy(alloc, scratch, site, id.as_str(), body, text)
+        }
+        Route::GetPolicy(PolicyId::Named(id)) => {
+            reply_to(alloc, scratch, site, &Input::GetPolicy(id.as_str()), text)
+        }
+        Route::DeletePolicy(PolicyId::Named(id)) => {
+            reply_to(
+                alloc,
+                scratch,
+                site,
+                &Input::DeletePolicy(id.as_str()),
+                text,
+            )
+        }
         Route::PutPolicy(PolicyId::NotUtf8)
         | Route::GetPolicy(PolicyId::NotUtf8)
         | Route::DeletePolicy(PolicyId::NotUtf8) => {
             report_fault(text, SiteFault::Policy(ReadFault::BadId))
         }
-        Route::PutEntity => put_entity(alloc, scratch, site, body, text),
+        Route::PutEntity => reply_to(alloc, scratch, site, &Input::PutEntity(body), text),
         Route::DeleteEntity => delete_entity(alloc, scratch, site, body, text),
-        Route::State => state(site, text),
-        Route::Summary => summary(site, text),
-        Route::Delta => delta(alloc, site, body, text),
-        Route::Merge => merge(alloc, site, body, text),
+        Route::State => reply_to(alloc, scratch, site, &Input::State, text),
+        Route::Summary => reply_to(alloc, scratch, site, &Input::Summary, text),
+        Route::Delta => reply_to(alloc, scratch, site, &Input::Delta(body), text),
+        Route::Merge => reply_to(alloc, scratch, site, &Input::Take(body), text),
         Route::Unknown => report_status(text, Status::NotFound),
         Route::OtherMethod => report_status(text, Status::MethodNotAllowed),
     }

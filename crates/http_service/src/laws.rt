@@ -1,25 +1,25 @@
 //! Laws of streams over a site.
 ghost use Rattle.std.specs.Prelude.{◌≡◌, ℕ, List, Result};
 ghost use Rattle.std.specs.Io.KnownBytes.{Consumes};
-ghost use Rattle.service_replies.specs.http_texts.declared.status.Status.{Status};
+ghost use Rattle.http_replies.specs.http_texts.declared.status.Status.{Status};
 ghost use Rattle.http_streams.specs.Laws.{AgreeOn, AnswersAll, BeginsAnswer, HasOneAnswer, StopsIn, in_memory};
 ghost use Rattle.http_streams.specs.Serving.{IsAnswered};
 ghost use Rattle.http_streams.specs.Stream.{Ends, Rests, Stops};
-ghost use Rattle.site_runs.specs.site.Seen.{Seen};
-ghost use Rattle.site_runs.specs.declared.input.Input.{Input};
-ghost use Rattle.site_runs.specs.declared.reply.Reply.{Reply};
-ghost use Rattle.site_runs.specs.schema.Views.{IsStated};
-ghost use Rattle.site_runs.specs.Right.{IsHarmlessReply};
+ghost use Rattle.http_replies.specs.site_steps.Seen.{Seen};
+ghost use Rattle.http_replies.specs.site_steps.Inputs.{Input};
+ghost use Rattle.http_replies.specs.site_steps.declared.reply.Reply.{Reply};
+ghost use Rattle.http_replies.specs.site_steps.schema.Views.{IsStated};
+ghost use Rattle.http_replies.specs.site_steps.Right.{IsHarmlessReply};
 ghost use Rattle.http_service.specs.Asked.{hands};
 ghost use Rattle.http_service.specs.Answered.{IsAlike, Replies, answers, told};
 ghost use Rattle.http_service.specs.Serving.{IsServed};
 ghost use Rattle.http_service.specs.Streams.{AskFor, LeavesRun};
 
 use crate::site_service::Stated;
+use http_replies::{inputs_have_one_outcome, runs_go_right, runs_leave_what_they_took};
 use http_streams::laws::{begins_answer, one_answer};
 use http_streams::serve::StreamFault;
 use http_streams::{Sink, Source};
-use site_runs::{inputs_have_one_outcome, runs_go_right, runs_leave_what_they_took};
 
 /// However a stream of requests ends, the site goes on by a run of the inputs that the requests ask for, in their
 /// order: so its store is that of the updates that it had and of those that it took.

@@ -6,14 +6,19 @@
 
 mod handlers;
 mod laws;
+mod replies;
 mod serving;
 mod site_service;
 
+pub use http_replies::{
+    Answer, Refusal, Site, SiteFault, Taken, answer_line, decide_texts, error_line, take_bytes,
+};
+pub use http_streams::fetch::{FetchFault, fetch};
+pub use http_streams::serve::StreamFault;
+pub use http_streams::{Ask, Counted, Fed, Kept, Sink, Source};
 pub use laws::{
     cuts_make_no_difference, requests_have_one_reply, served_answers_go_right,
     served_streams_are_answered, streams_leave_runs,
 };
-pub use service_replies::{Answer, Refusal, answer_line, decide_texts, error_line};
 pub use serving::serve;
-pub use site_runs::{Site, SiteFault, Taken, take_bytes};
 pub use site_service::SiteService;

@@ -1,7 +1,7 @@
 //! A site as a service of HTTP.
 use crate::handlers::answer;
+use http_replies::{Scratch, Site, Status};
 use http_streams::service::{Answers, Service};
-use service_replies::{Scratch, Site, Status};
 use std::alloc::Global;
 use std::marker::Model;
 
@@ -28,8 +28,8 @@ pub struct Stated {
 }
 
 impl Model for Stated {
-    ghost use Rattle.site_runs.specs.site.Seen.{Seen};
-    ghost use Rattle.site_runs.specs.site.contracts.site.Site as row;
+    ghost use Rattle.http_replies.specs.site_steps.Seen.{Seen};
+    ghost use Rattle.http_replies.specs.site_steps.contracts.site.Site as row;
 
     ghost Value = { Seen };
 

@@ -3,6 +3,6 @@ pub mod Stream
 pub mod Serving
 pub mod Laws
 -- crates below, passed on to those above
-pub use Rattle.counted_devices.specs as counted_devices
+pub use Rattle.http_devices.specs as http_devices
 pub use Rattle.http_framing.specs as http_framing
 pub use Rattle.http_framing.specs.http_texts

@@ -2,7 +2,7 @@
 -- Source: RFC 9112, sections 9.3 and 9.6; what a result tells of the devices is a rule of this product.
 use Rattle.std.specs.Prelude.{◌≡◌, ◌≤◌, ◌^◌, ◌-◌, ◌⊎◌, ℕ, Option, List, length, Result, Ok, Err}
 use Rattle.std.specs.Io.KnownBytes.{Appends, Consumes, IsAtEnd}
-use Rattle.counted_devices.specs.Devices.{FailsAtLast}
+use Rattle.http_devices.specs.Devices.{FailsAtLast}
 use Rattle.http_streams.specs.Reads.{EndsByOneRead}
 use Rattle.http_streams.specs.Stream.{Answering, Ends, KeepsUp, Rests, Stops}
 use Rattle.http_streams.specs.declared.serve.StreamFault.{StreamFault}

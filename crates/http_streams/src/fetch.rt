@@ -2,31 +2,37 @@
 ghost use Rattle.std.specs.Prelude.{◌≡◌, ◌≢◌, ◌≤◌, ◌<◌, ℕ, List, [], ◌++◌, Err, IfOk, OnOk, OnErr, length};
 ghost use Rattle.std.specs.Prelude.{slice_range, vec_len};
 ghost use Rattle.std.specs.Io.KnownBytes.{Appends, Consumes, IsAtEnd};
-ghost use Rattle.counted_devices.specs.Devices.{FailsAtLast};
+ghost use Rattle.http_devices.specs.Devices.{FailsAtLast};
 ghost use Rattle.http_framing.specs.Reply.{IsBadReply, IsReplyAt, IsUnfinishedReply, ReadsReply};
 ghost use Rattle.http_framing.specs.http_texts.RequestText.{request_text};
 ghost use Rattle.http_streams.specs.Reads.{EndsByOneRead};
 
 use crate::MAX_READ;
 use crate::buffers::{ReadFault, drop_front, read_more, room_for_heads, room_for_reads};
-use counted_devices::devices::{Sink, Source, write_all};
+use http_devices::devices::{Sink, Source, write_all};
 use http_framing::reply_cut::{ReplyCut, ReplyParts, cut_reply};
 use http_framing::{Ask, MAX_HEAD, request_text};
 use httparse::spans::HeaderSpan;
 use std::alloc::{AllocError, Global};
+use thiserror::Error;
 
 /// Why there is no reply.
-#[derive(Clone, Copy)]
+#[derive(Clone, Copy, Debug, Error)]
 pub enum FetchFault {
     /// The reader failed.
+    #[error("network 70: reading failed")]
     Read,
     /// The writer failed.
+    #[error("network 71: writing failed")]
     Write,
     /// What came begins no reply of one length within the limits.
+    #[error("network 72: no HTTP reply of one length within the limits")]
     BadReply,
     /// The input ended before the reply did.
+    #[error("network 73: connection closed before the end of the reply")]
     Ended,
     /// Memory was refused.
+    #[error("network 1: out of memory")]
     NoMemory,
 }
 

@@ -10,8 +10,8 @@ pub mod laws;
 pub mod serve;
 pub mod service;
 
-pub use counted_devices::devices::{Counted, Sink, Source};
-pub use counted_devices::memory::{MemoryReader, MemoryWriter, Plan};
+pub use http_devices::devices::{Counted, Sink, Source};
+pub use http_devices::memory::{Fed, Kept, Plan};
 pub use http_framing::Ask;
 
 /// The most bytes that one read takes.

@@ -3,7 +3,7 @@ ghost use Rattle.std.specs.Prelude.{◌≡◌, ◌≤◌, ◌<◌, ◌+◌, ◌�
 ghost use Rattle.std.specs.Prelude.{None, OnOk, OnErr, IfOk, IfSome, vec_len};
 ghost use Rattle.std.specs.Vec.{vec_capacity};
 ghost use Rattle.std.specs.Io.KnownBytes.{Appends};
-ghost use Rattle.counted_devices.specs.Devices.{FailsAtLast};
+ghost use Rattle.http_devices.specs.Devices.{FailsAtLast};
 ghost use Rattle.http_framing.specs.http_texts.ReplyText.{error_line, reply_text};
 ghost use Rattle.http_framing.specs.Request.{IsUnfinishedBelow, IsWholeAt};
 ghost use Rattle.http_framing.specs.http_texts.Status.{code};
@@ -16,21 +16,25 @@ use crate::buffers::{
     ReadFault, drop_front, read_more, room_for_heads, room_for_reads, room_for_replies,
 };
 use crate::service::Service;
-use counted_devices::devices::{DeviceFailed, Sink, Source, write_all};
+use http_devices::devices::{DeviceFailed, Sink, Source, write_all};
 use http_framing::cut::{Cut, Parts, cut_request};
 use http_framing::{HEAD_ROOM, MAX_HEAD, REFUSAL_ROOM, Status, put_head, put_refusal};
 use httparse::spans::HeaderSpan;
 use std::alloc::{AllocError, Global};
+use thiserror::Error;
 
 /// Why a stream was not answered to its end.
-#[derive(Clone, Copy)]
+#[derive(Clone, Copy, Debug, Error)]
 pub enum StreamFault {
     /// The reader failed, or gave `u64::MAX` bytes.
+    #[error("network 70: reading failed")]
     Read,
     /// The writer failed.
+    #[error("network 71: writing failed")]
     Write,
     /// Memory was refused, before anything was read or for what was to be read next. No reply takes any, but for what
     /// the service asks.
+    #[error("network 1: out of memory")]
     NoMemory,
 }
 

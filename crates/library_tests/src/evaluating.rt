@@ -1,10 +1,10 @@
 //! What an expression gives to whoever hands in a request and stored entities, one by one or as one question.
 use crate::shared::{both, holds, uid_of};
-use entity_worlds::{EntityStore, NoActions, World};
+use entity_data::{EntityStore, NoActions, World};
 use evaluator::{
     Asking, BorrowedOrOwned, EvalFault, Lookup, evaluate, evaluate_asked, evaluate_test,
 };
-use expressions::{Binary, Expr, Literal};
+use grammar_core::{Binary, Expr, Literal};
 use plain::{NoMemory, Shared};
 use std::alloc::Global;
 use std::process::Abort;

@@ -1,7 +1,7 @@
 //! Hierarchies: questions, changes, cycles, and refused memory. Each test is of any type of hierarchy.
 use crate::shared::{both, ended, finished, holds, uid_of};
-use ancestor_closure::{Ancestry, Hierarchy, Searched};
-use kept_ancestors::Closed;
+use ancestor_closure::Closed;
+use ancestor_search::{Ancestry, Hierarchy, Searched};
 use plain::NoMemory;
 use std::alloc::Global;
 use std::process::Abort;

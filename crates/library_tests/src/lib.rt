@@ -9,6 +9,8 @@ mod extension_texts;
 #[cfg(test)]
 mod hierarchies;
 #[cfg(test)]
+mod messages;
+#[cfg(test)]
 mod names_and_values;
 #[cfg(test)]
 mod plain_types;

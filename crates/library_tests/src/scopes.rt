@@ -1,8 +1,8 @@
 //! The index of policies by their scopes: which policies a request is offered, and changes that are refused.
 use crate::shared::{both, ended, holds, uid_of};
-use ancestor_closure::Hierarchy;
-use expressions::{Expr, Literal};
-use kept_ancestors::Closed;
+use ancestor_closure::Closed;
+use ancestor_search::Hierarchy;
+use grammar_core::{Expr, Literal};
 use plain::{NoMemory, Shared};
 use policy_grammar::{ActionScope, Effect, EntityScope, Policy, Scope};
 use scope_index::ScopeIndex;

@@ -5,34 +5,34 @@ use Rattle.std.proofs.Common.{Ok, Err, refl, subst, inl, inr, not-le_of_lt}
 use Rattle.std.specs.List.{AllByRecursion, AllZip, enumerate_from}
 use Rattle.std.proofs.lemmas.List.Elements.{All-from_recursion, recursion_from_All}
 use Rattle.values.specs.declared.entity_uid.EntityUid.{EntityUid}
-use Rattle.text_trees.specs.policy_tokens.declared.token.TokenKind.{TokenKind}
-use Rattle.text_trees.specs.policy_tokens.declared.token.TokenKind.TheVariants as k
-use Rattle.text_trees.specs.policy_tokens.declared.token.Token.{Token}
-use Rattle.text_trees.specs.policy_tokens.Lexing.{IsLexed, IsBadAt, IsToken, spelling_of, EachIsLexedOrBad}
-use Rattle.text_trees.specs.policy_tokens.Lexing.{EachIsSpelled}
-use Rattle.text_trees.specs.policy_tokens.Strings.{IsStringOf, HasValue}
-use Rattle.text_trees.specs.token_readers.declared.fault.SyntaxFault.{SyntaxFault}
-use Rattle.text_trees.specs.token_readers.declared.fault.SyntaxFault.TheVariants as syntax
-use Rattle.text_trees.specs.token_readers.declared.tree.UidTree.{UidTree}
-use Rattle.text_trees.specs.token_readers.Kinds.{only}
-use Rattle.text_trees.specs.token_readers.Lang.{Lang, at_any}
-use Rattle.text_trees.specs.token_readers.Reads.{IsRefusedWithin, IsAnswerWithin, HasOneAnswer, HasOneAnswerWithin}
-use Rattle.text_trees.specs.expression_syntax.Expressions.{nesting_limit}
-use Rattle.text_trees.specs.policy_syntax.Grammar as grammar
-use Rattle.text_trees.specs.policy_syntax.Grammar.{effects}
-use Rattle.text_trees.specs.policy_syntax.WellFormed.{WellFormedToken, WellFormedUid, WellFormedValue}
-use Rattle.text_trees.specs.policy_syntax.WellFormed.{WellFormedAnnotation, WellFormedPart, WellFormedAction}
-use Rattle.text_trees.specs.policy_syntax.WellFormed.{WellFormedPolicy, IsMadeOfTokens}
-use Rattle.text_trees.specs.policy_syntax.declared.tree.Annotation.{Annotation}
-use Rattle.text_trees.specs.policy_syntax.declared.tree.PartTree.{PartTree}
-use Rattle.text_trees.specs.policy_syntax.declared.tree.PartTree.TheVariants as part
-use Rattle.text_trees.specs.policy_syntax.declared.tree.ActionTree.{ActionTree}
-use Rattle.text_trees.specs.policy_syntax.declared.tree.ActionTree.TheVariants as action
-use Rattle.text_trees.specs.policy_syntax.declared.tree.PolicyTree.{PolicyTree}
-use Rattle.text_trees.specs.desugaring.Meaning as meaning
-use Rattle.text_trees.specs.desugaring.Meaning.{path_name}
-use Rattle.text_trees.specs.desugaring.declared.fault.DesugarFault.{DesugarFault}
-use Rattle.text_trees.specs.desugaring.Refused.{least, NoneOfNone}
+use Rattle.grammar_desugaring.specs.grammar_tokens.declared.token.TokenKind.{TokenKind}
+use Rattle.grammar_desugaring.specs.grammar_tokens.declared.token.TokenKind.TheVariants as k
+use Rattle.grammar_desugaring.specs.grammar_tokens.declared.token.Token.{Token}
+use Rattle.grammar_desugaring.specs.grammar_tokens.Lexing.{IsLexed, IsBadAt, IsToken, spelling_of, EachIsLexedOrBad}
+use Rattle.grammar_desugaring.specs.grammar_tokens.Lexing.{EachIsSpelled}
+use Rattle.grammar_desugaring.specs.grammar_tokens.Strings.{IsStringOf, HasValue}
+use Rattle.grammar_desugaring.specs.grammar_tokens.declared.fault.SyntaxFault.{SyntaxFault}
+use Rattle.grammar_desugaring.specs.grammar_tokens.declared.fault.SyntaxFault.TheVariants as syntax
+use Rattle.grammar_desugaring.specs.grammar_tokens.declared.tree.UidTree.{UidTree}
+use Rattle.grammar_desugaring.specs.grammar_tokens.Kinds.{only}
+use Rattle.grammar_desugaring.specs.grammar_tokens.Lang.{Lang, at_any}
+use Rattle.grammar_desugaring.specs.grammar_tokens.Reads.{IsRefusedWithin, IsAnswerWithin, HasOneAnswer, HasOneAnswerWithin}
+use Rattle.grammar_policies.specs.grammar_expressions.Expressions.{nesting_limit}
+use Rattle.grammar_policies.specs.Grammar as grammar
+use Rattle.grammar_policies.specs.Grammar.{effects}
+use Rattle.grammar_policies.specs.WellFormed.{WellFormedToken, WellFormedUid, WellFormedValue}
+use Rattle.grammar_policies.specs.WellFormed.{WellFormedAnnotation, WellFormedPart, WellFormedAction}
+use Rattle.grammar_policies.specs.WellFormed.{WellFormedPolicy, IsMadeOfTokens}
+use Rattle.grammar_policies.specs.declared.tree.Annotation.{Annotation}
+use Rattle.grammar_policies.specs.declared.tree.PartTree.{PartTree}
+use Rattle.grammar_policies.specs.declared.tree.PartTree.TheVariants as part
+use Rattle.grammar_policies.specs.declared.tree.ActionTree.{ActionTree}
+use Rattle.grammar_policies.specs.declared.tree.ActionTree.TheVariants as action
+use Rattle.grammar_policies.specs.declared.tree.PolicyTree.{PolicyTree}
+use Rattle.grammar_desugaring.specs.Meaning as meaning
+use Rattle.grammar_desugaring.specs.Meaning.{path_name}
+use Rattle.grammar_desugaring.specs.declared.fault.DesugarFault.{DesugarFault}
+use Rattle.grammar_desugaring.specs.Refused.{least, NoneOfNone}
 use Rattle.policy_grammar.specs.declared.policy.Effect.{Effect}
 use Rattle.policy_grammar.specs.declared.policy.Effect.TheVariants.{Permit, Forbid}
 use Rattle.policy_grammar.specs.declared.policy.EntityScope.{EntityScope}
@@ -40,13 +40,13 @@ use Rattle.policy_grammar.specs.declared.policy.EntityScope.TheVariants as entit
 use Rattle.policy_grammar.specs.declared.policy.ActionScope.{ActionScope}
 use Rattle.policy_grammar.specs.declared.policy.ActionScope.TheVariants as actions
 use Rattle.policy_grammar.specs.declared.policy.Policy.{Policy}
-use Rattle.text_trees.specs.declared.fault.ReadFault.{ReadFault}
-use Rattle.text_trees.specs.declared.fault.ReadFault.TheVariants as fault
+use Rattle.policy_grammar.specs.declared.fault.ReadFault.{ReadFault}
+use Rattle.policy_grammar.specs.declared.fault.ReadFault.TheVariants as fault
 use Rattle.policy_grammar.specs.Conditions.{conditions_of}
 use Rattle.policy_grammar.specs.CoreOf.{IsUidOf, AreUidsOf, IsEntityScopeOf, IsActionScopeOf, effect_word, IsCoreOf}
 use Rattle.policy_grammar.specs.CoreOf.{AreCoresOf, IsValueOf, is_id, IsNameBy, IsNameOf, AreNamesOf}
-use Rattle.text_trees.specs.Faults.{of_desugaring}
-use Rattle.expressions.specs.Size.{most_height, most_forms}
+use Rattle.policy_grammar.specs.Faults.{of_desugaring}
+use Rattle.grammar_core.specs.Size.{most_height, most_forms}
 use Rattle.policy_grammar.specs.Limits.{Shape, height, forms, shape_of, IsSmallShape, IsSmallTree, IsId, most_id_bytes}
 use Rattle.policy_grammar.specs.Limits.{most_policy_bytes, most_file_bytes}
 use Rattle.policy_grammar.specs.PolicyText.{Derives, byte_of, IsUnread, IsReportedOf, tree_faults, file_faults}

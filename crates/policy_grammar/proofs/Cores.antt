@@ -2,17 +2,17 @@
 use Rattle.std.proofs.Common.{◌≡◌, ℕ, List, [], ◌∷◌, Option, Some, None, find, refl, sym, ◌∙◌, ap}
 use Rattle.std.specs.List.{AllZip, enumerate_from}
 use Rattle.values.specs.declared.entity_uid.EntityUid.{EntityUid}
-use Rattle.expressions.specs.declared.expr.Expr.{Expr}
-use Rattle.text_trees.specs.policy_tokens.declared.token.Token.{Token}
-use Rattle.text_trees.specs.policy_tokens.Lexing.{spelling_of}
-use Rattle.text_trees.specs.policy_tokens.Strings.{OneValue}
-use Rattle.text_trees.specs.token_readers.declared.tree.UidTree.{UidTree}
-use Rattle.text_trees.specs.policy_syntax.declared.tree.Annotation.{Annotation}
-use Rattle.text_trees.specs.policy_syntax.declared.tree.PartTree.{PartTree}
-use Rattle.text_trees.specs.policy_syntax.declared.tree.PartTree.TheVariants as part
-use Rattle.text_trees.specs.policy_syntax.declared.tree.ActionTree.{ActionTree}
-use Rattle.text_trees.specs.policy_syntax.declared.tree.ActionTree.TheVariants as action
-use Rattle.text_trees.specs.policy_syntax.declared.tree.PolicyTree.{PolicyTree}
+use Rattle.grammar_core.specs.declared.expr.Expr.{Expr}
+use Rattle.grammar_desugaring.specs.grammar_tokens.declared.token.Token.{Token}
+use Rattle.grammar_desugaring.specs.grammar_tokens.Lexing.{spelling_of}
+use Rattle.grammar_desugaring.specs.grammar_tokens.Strings.{OneValue}
+use Rattle.grammar_desugaring.specs.grammar_tokens.declared.tree.UidTree.{UidTree}
+use Rattle.grammar_policies.specs.declared.tree.Annotation.{Annotation}
+use Rattle.grammar_policies.specs.declared.tree.PartTree.{PartTree}
+use Rattle.grammar_policies.specs.declared.tree.PartTree.TheVariants as part
+use Rattle.grammar_policies.specs.declared.tree.ActionTree.{ActionTree}
+use Rattle.grammar_policies.specs.declared.tree.ActionTree.TheVariants as action
+use Rattle.grammar_policies.specs.declared.tree.PolicyTree.{PolicyTree}
 use Rattle.policy_grammar.specs.declared.policy.Effect.{Effect}
 use Rattle.policy_grammar.specs.declared.policy.Effect.TheVariants.{Permit, Forbid}
 use Rattle.policy_grammar.specs.declared.policy.EntityScope.{EntityScope}

@@ -4,12 +4,12 @@ use Rattle.std.proofs.Common.{ap, subst, arith}
 use Rattle.std.specs.List.{AllByRecursion, IsDistinct, zip, flat_map}
 use Rattle.std.specs.Str.{bytes_eq}
 use Rattle.std.proofs.lemmas.Slice.Zip.{AllZip-long}
-use Rattle.text_trees.specs.desugaring.declared.fault.DesugarFault.{DesugarFault}
-use Rattle.text_trees.specs.desugaring.declared.fault.DesugarFault.TheVariants as desugar
-use Rattle.text_trees.specs.desugaring.Refused.{at, LeastIsLeast}
-use Rattle.text_trees.specs.desugaring.Repeats.{NameAt, places_of, repeats}
+use Rattle.grammar_desugaring.specs.declared.fault.DesugarFault.{DesugarFault}
+use Rattle.grammar_desugaring.specs.declared.fault.DesugarFault.TheVariants as desugar
+use Rattle.grammar_desugaring.specs.Refused.{at, LeastIsLeast}
+use Rattle.grammar_desugaring.specs.Repeats.{NameAt, places_of, repeats}
 use Rattle.policy_grammar.specs.CoreOf.{IsCoreOf}
-use Rattle.text_trees.specs.Faults.{place_of, of_desugaring}
+use Rattle.policy_grammar.specs.Faults.{place_of, of_desugaring}
 use Rattle.policy_grammar.specs.PolicyText.{tree_faults}
 use Rattle.policy_grammar.specs.Repeats.{start_of, policy_names}
 use Rattle.policy_grammar.specs.Unique.{ReportedIsLeast, EachIsNamed, NamesDiffer}

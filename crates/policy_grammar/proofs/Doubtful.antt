@@ -7,11 +7,11 @@ use Rattle.std.specs.List.{AllZip, enumerate_from, starts_with}
 use Rattle.std.specs.Fmt.{decimal}
 use Rattle.std.proofs.Math.Seq.{drop-cons}
 use Rattle.std.proofs.lemmas.Fmt.{decimal_injective}
-use Rattle.text_trees.specs.desugaring.Refused.{least}
-use Rattle.text_trees.specs.desugaring.Repeats.{NameAt, StandsAgain, repeat_faults, RepeatsAreReported}
-use Rattle.text_trees.proofs.of_desugaring.AgainFront.{Later, again-there, again-here, again-front, again-none}
-use Rattle.text_trees.specs.policy_syntax.declared.tree.Annotation.{Annotation}
-use Rattle.text_trees.specs.policy_syntax.declared.tree.PolicyTree.{PolicyTree}
+use Rattle.grammar_desugaring.specs.Refused.{least}
+use Rattle.grammar_desugaring.specs.Repeats.{NameAt, StandsAgain, repeat_faults, RepeatsAreReported}
+use Rattle.grammar_desugaring.proofs.AgainFront.{Later, again-there, again-here, again-front, again-none}
+use Rattle.grammar_policies.specs.declared.tree.Annotation.{Annotation}
+use Rattle.grammar_policies.specs.declared.tree.PolicyTree.{PolicyTree}
 use Rattle.policy_grammar.specs.CoreOf.{is_id, IsNameBy, IsNameOf, AreNamesOf}
 use Rattle.policy_grammar.specs.Repeats.{policy_names, start_of}
 use Rattle.policy_grammar.specs.inner.Parts.{has_id, looks_placed, meets_place, kept, doubtful_marks}

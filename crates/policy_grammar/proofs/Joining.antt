@@ -3,21 +3,21 @@ use Rattle.std.proofs.Common.{◌≡◌, ℕ, ◌+◌, ◌<◌, List, [], ◌∷
 use Rattle.std.proofs.Common.{arith}
 use Rattle.std.proofs.lemmas.List.{append-nil, length-drop}
 use Rattle.std.specs.List.{AllByRecursion, flat_map}
-use Rattle.expressions.specs.declared.leaf.Literal.TheVariants as literal
-use Rattle.expressions.specs.declared.operator.Unary.TheVariants.{Not}
-use Rattle.expressions.specs.declared.expr.Expr.{Expr}
-use Rattle.expressions.specs.declared.expr.Expr.TheVariants as core
-use Rattle.text_trees.specs.policy_syntax.declared.tree.Condition.{Condition}
-use Rattle.text_trees.specs.policy_syntax.declared.tree.ConditionWord.{ConditionWord}
-use Rattle.text_trees.specs.policy_syntax.declared.tree.ConditionWord.TheVariants as word
-use Rattle.text_trees.specs.policy_syntax.declared.tree.PolicyTree.{PolicyTree}
-use Rattle.text_trees.specs.policy_syntax.WellFormed.{WellFormedCondition}
-use Rattle.text_trees.specs.desugaring.declared.fault.DesugarFault.{DesugarFault}
-use Rattle.text_trees.specs.desugaring.declared.measure.Measure.{Measure}
-use Rattle.text_trees.specs.desugaring.Faults.{faults_of}
-use Rattle.text_trees.specs.desugaring.Measured.{of}
-use Rattle.text_trees.specs.desugaring.BuiltFrom.{IsBuiltFrom}
-use Rattle.text_trees.specs.desugaring.Sums.{leaf, paired, LiteralIsLeaf, UnaryIsAbove, AndIsPaired}
+use Rattle.grammar_core.specs.declared.leaf.Literal.TheVariants as literal
+use Rattle.grammar_core.specs.declared.operator.Unary.TheVariants.{Not}
+use Rattle.grammar_core.specs.declared.expr.Expr.{Expr}
+use Rattle.grammar_core.specs.declared.expr.Expr.TheVariants as core
+use Rattle.grammar_policies.specs.declared.tree.Condition.{Condition}
+use Rattle.grammar_policies.specs.declared.tree.ConditionWord.{ConditionWord}
+use Rattle.grammar_policies.specs.declared.tree.ConditionWord.TheVariants as word
+use Rattle.grammar_policies.specs.declared.tree.PolicyTree.{PolicyTree}
+use Rattle.grammar_policies.specs.WellFormed.{WellFormedCondition}
+use Rattle.grammar_desugaring.specs.declared.fault.DesugarFault.{DesugarFault}
+use Rattle.grammar_desugaring.specs.declared.measure.Measure.{Measure}
+use Rattle.grammar_desugaring.specs.Faults.{faults_of}
+use Rattle.grammar_desugaring.specs.Measured.{of}
+use Rattle.grammar_desugaring.specs.BuiltFrom.{IsBuiltFrom}
+use Rattle.grammar_desugaring.specs.Sums.{leaf, paired, LiteralIsLeaf, UnaryIsAbove, AndIsPaired}
 use Rattle.policy_grammar.proofs.Lists.{all-at, next, none-left, none-right}
 use Rattle.policy_grammar.specs.Whole.{truth}
 use Rattle.policy_grammar.specs.Conditions.{asked_by, condition_of, conditions_of, condition_faults}

@@ -1,3 +1,5 @@
+pub mod Marking
+pub mod Unread
 pub mod Lists
 pub mod Doubtful
 pub mod Naming
@@ -11,4 +13,5 @@ pub mod Readings
 pub mod Differing
 pub mod Answering
 -- crates below, passed on to those above
-pub use Rattle.text_trees.proofs.of_desugaring
+pub use Rattle.grammar_desugaring.proofs as of_grammar_desugaring
+pub use Rattle.grammar_desugaring.proofs.of_grammar_tokens

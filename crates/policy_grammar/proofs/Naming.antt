@@ -4,7 +4,7 @@ use Rattle.std.proofs.Common.{subst, arith, append_assoc, length-append, String,
 use Rattle.std.specs.declared.alloc.Global.{Global}
 use Rattle.std.proofs.lemmas.List.{take_all, map-append, length-map, length-take-le}
 use Rattle.std.proofs.lemmas.Slice.Zip.{AllZip-long}
-use Rattle.text_trees.specs.policy_syntax.declared.tree.PolicyTree.{PolicyTree}
+use Rattle.grammar_policies.specs.declared.tree.PolicyTree.{PolicyTree}
 use Rattle.policy_grammar.specs.declared.policy.Policy.{Policy}
 use Rattle.policy_grammar.specs.CoreOf.{IsCoreOf, AreCoresOf}
 use Rattle.policy_grammar.proofs.Lists.{all_zip-step}

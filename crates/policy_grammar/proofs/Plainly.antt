@@ -10,21 +10,21 @@ use Rattle.plain.specs.Words.{is_letter, is_digit, is_word_byte, AllAre, run, Is
 use Rattle.plain.specs.Words.{IsPath}
 use Rattle.plain.proofs.Runs.{run_most}
 use Rattle.values.specs.declared.entity_uid.EntityUid.{EntityUid}
-use Rattle.text_trees.specs.policy_tokens.declared.token.TokenKind.TheVariants as k
-use Rattle.text_trees.specs.policy_tokens.declared.token.Token.{Token}
-use Rattle.text_trees.specs.policy_tokens.declared.piece.Piece.{Piece}
-use Rattle.text_trees.specs.policy_tokens.declared.piece.Piece.TheVariants.{Byte}
-use Rattle.text_trees.specs.policy_tokens.Lexing.{kind_of_word, IsBody, done, itself, has_star, word, quoted, pair}
-use Rattle.text_trees.specs.policy_tokens.Lexing.{IsLongest, Lex, finish, token, spelling_of}
-use Rattle.text_trees.specs.policy_tokens.Strings.{bytes_of, IsStringOf}
-use Rattle.text_trees.proofs.of_policy_tokens.FirstByte.{Class, others, class, OfClass, class_of_letter}
-use Rattle.text_trees.proofs.of_policy_tokens.FrontTells.{begins}
-use Rattle.text_trees.proofs.of_policy_tokens.WordKinds.{idents_by_kind}
-use Rattle.text_trees.proofs.of_policy_tokens.Parts.{past}
-use Rattle.text_trees.specs.token_readers.Kinds.{same_kind, only}
-use Rattle.text_trees.specs.token_readers.Lang.{of, one, ◌>>◌, many}
-use Rattle.text_trees.specs.token_readers.Grammar.{identifiers}
-use Rattle.text_trees.specs.desugaring.Strings.{ValueIsValue}
+use Rattle.grammar_desugaring.specs.grammar_tokens.declared.token.TokenKind.TheVariants as k
+use Rattle.grammar_desugaring.specs.grammar_tokens.declared.token.Token.{Token}
+use Rattle.grammar_desugaring.specs.grammar_tokens.declared.piece.Piece.{Piece}
+use Rattle.grammar_desugaring.specs.grammar_tokens.declared.piece.Piece.TheVariants.{Byte}
+use Rattle.grammar_desugaring.specs.grammar_tokens.Lexing.{kind_of_word, IsBody, done, itself, has_star, word, quoted, pair}
+use Rattle.grammar_desugaring.specs.grammar_tokens.Lexing.{IsLongest, Lex, finish, token, spelling_of}
+use Rattle.grammar_desugaring.specs.grammar_tokens.Strings.{bytes_of, IsStringOf}
+use Rattle.grammar_desugaring.proofs.of_grammar_tokens.FirstByte.{Class, others, class, OfClass, class_of_letter}
+use Rattle.grammar_desugaring.proofs.of_grammar_tokens.FrontTells.{begins}
+use Rattle.grammar_desugaring.proofs.of_grammar_tokens.WordKinds.{idents_by_kind}
+use Rattle.grammar_desugaring.proofs.of_grammar_tokens.Parts.{past}
+use Rattle.grammar_desugaring.specs.grammar_tokens.Kinds.{same_kind, only}
+use Rattle.grammar_desugaring.specs.grammar_tokens.Lang.{of, one, ◌>>◌, many}
+use Rattle.grammar_desugaring.specs.grammar_tokens.Grammar.{identifiers}
+use Rattle.grammar_desugaring.specs.Strings.{ValueIsValue}
 use Rattle.policy_grammar.specs.Limits.{most_policy_bytes}
 use Rattle.policy_grammar.specs.PolicyText.{IsUidText}
 use Rattle.policy_grammar.specs.inner.Parts.{IsWrittenPlainly}

@@ -2,28 +2,28 @@
 use Rattle.std.proofs.Common.{◌≡◌, ◌⊎◌, ℕ, ◌≤◌, ◌<◌, List, [], length, Some, None, All, Result, Ok, Err, refl, sym, ◌∙◌}
 use Rattle.std.proofs.Common.{ap, subst, inl, inr, arith}
 use Rattle.std.specs.List.{AllByRecursion}
-use Rattle.text_trees.specs.policy_tokens.declared.token.Token.{Token}
-use Rattle.text_trees.specs.policy_tokens.Lexing.{IsLexed, IsBadAt, OneLexing, BadIsNotLexed, OneBadPlace}
-use Rattle.text_trees.specs.policy_tokens.Strings.{OneValue}
-use Rattle.text_trees.specs.policy_syntax.declared.tree.PolicyTree.{PolicyTree}
-use Rattle.text_trees.specs.token_readers.declared.fault.SyntaxFault.{SyntaxFault}
-use Rattle.text_trees.specs.token_readers.declared.fault.SyntaxFault.TheVariants as syntax
-use Rattle.text_trees.specs.token_readers.Lang.{Lang, at_any}
-use Rattle.text_trees.specs.expression_syntax.Expressions.{nesting_limit}
-use Rattle.text_trees.specs.policy_syntax.Grammar as grammar
-use Rattle.text_trees.specs.token_readers.Reads.{IsRefusedWithin, HasOneTree, HasOneAnswer, HasOneAnswerWithin}
+use Rattle.grammar_desugaring.specs.grammar_tokens.declared.token.Token.{Token}
+use Rattle.grammar_desugaring.specs.grammar_tokens.Lexing.{IsLexed, IsBadAt, OneLexing, BadIsNotLexed, OneBadPlace}
+use Rattle.grammar_desugaring.specs.grammar_tokens.Strings.{OneValue}
+use Rattle.grammar_policies.specs.declared.tree.PolicyTree.{PolicyTree}
+use Rattle.grammar_desugaring.specs.grammar_tokens.declared.fault.SyntaxFault.{SyntaxFault}
+use Rattle.grammar_desugaring.specs.grammar_tokens.declared.fault.SyntaxFault.TheVariants as syntax
+use Rattle.grammar_desugaring.specs.grammar_tokens.Lang.{Lang, at_any}
+use Rattle.grammar_policies.specs.grammar_expressions.Expressions.{nesting_limit}
+use Rattle.grammar_policies.specs.Grammar as grammar
+use Rattle.grammar_desugaring.specs.grammar_tokens.Reads.{IsRefusedWithin, HasOneTree, HasOneAnswer, HasOneAnswerWithin}
 use Rattle.policy_grammar.specs.declared.policy.Policy.{Policy}
-use Rattle.text_trees.specs.declared.fault.ReadFault.{ReadFault}
-use Rattle.text_trees.specs.declared.fault.ReadFault.TheVariants as fault
+use Rattle.policy_grammar.specs.declared.fault.ReadFault.{ReadFault}
+use Rattle.policy_grammar.specs.declared.fault.ReadFault.TheVariants as fault
 use Rattle.policy_grammar.specs.CoreOf.{IsUidOf, AreNamesOf}
-use Rattle.text_trees.specs.desugaring.declared.fault.DesugarFault.{DesugarFault}
-use Rattle.text_trees.specs.desugaring.Refused.{least}
-use Rattle.text_trees.specs.Faults.{of_desugaring}
+use Rattle.grammar_desugaring.specs.declared.fault.DesugarFault.{DesugarFault}
+use Rattle.grammar_desugaring.specs.Refused.{least}
+use Rattle.policy_grammar.specs.Faults.{of_desugaring}
 use Rattle.policy_grammar.specs.Limits.{most_policy_bytes, most_file_bytes, IsId, IsSmallTree}
 use Rattle.policy_grammar.specs.PolicyText.{Derives, IsUnread, IsUidText, IsUidRefused, IsPolicyOf, IsPolicyText}
 use Rattle.policy_grammar.specs.PolicyText.{tree_faults, file_faults, IsReportedOf, IsOverLimit, AreOverLimits}
 use Rattle.policy_grammar.specs.PolicyText.{HasNoPolicy, IsPolicyRefused, ArePoliciesOf, HaveNoPolicies, IsFileRefused}
-use Rattle.text_trees.specs.inner.Parts.{refusal_of}
+use Rattle.policy_grammar.specs.inner.TreeParts.{refusal_of}
 use Rattle.policy_grammar.specs.Unique.{HasOneReading, IsFileOf}
 use Rattle.policy_grammar.proofs.Cores.{uid-same, core-same, names-same, cores-same}
 use Rattle.policy_grammar.proofs.Sizes.{small_tree, small_trees}

@@ -4,12 +4,12 @@ use Rattle.std.proofs.Common.{inr}
 use Rattle.std.specs.List.{enumerate_from}
 use Rattle.std.proofs.lemmas.List.FromFn.{length-enumerate_from}
 use Rattle.std.proofs.lemmas.Slice.Zip.{AllZip-long}
-use Rattle.text_trees.specs.expression_syntax.Expressions.{nesting_limit}
-use Rattle.text_trees.specs.policy_syntax.declared.tree.PolicyTree.{PolicyTree}
-use Rattle.text_trees.specs.policy_syntax.Grammar as grammar
+use Rattle.grammar_policies.specs.grammar_expressions.Expressions.{nesting_limit}
+use Rattle.grammar_policies.specs.declared.tree.PolicyTree.{PolicyTree}
+use Rattle.grammar_policies.specs.Grammar as grammar
 use Rattle.policy_grammar.specs.declared.policy.Policy.{Policy}
-use Rattle.text_trees.specs.declared.fault.ReadFault.{ReadFault}
-use Rattle.text_trees.specs.declared.fault.ReadFault.TheVariants as fault
+use Rattle.policy_grammar.specs.declared.fault.ReadFault.{ReadFault}
+use Rattle.policy_grammar.specs.declared.fault.ReadFault.TheVariants as fault
 use Rattle.policy_grammar.specs.CoreOf.{IsNameOf, AreNamesOf}
 use Rattle.policy_grammar.specs.Limits.{most_policy_bytes, most_file_bytes}
 use Rattle.plain.specs.Refused.{OrNoMemory}

@@ -3,25 +3,25 @@ use Rattle.std.proofs.Common.{◌≡◌, ◌↔◌, ℕ, suc, ◌+◌, ◌≤◌
 use Rattle.std.specs.List.{AllZip, AllByRecursion}
 use Rattle.std.proofs.lemmas.Slice.Zip.{AllZip-long}
 use Rattle.values.specs.declared.entity_uid.EntityUid.{EntityUid}
-use Rattle.expressions.specs.declared.leaf.Literal.{Literal}
-use Rattle.expressions.specs.declared.leaf.Literal.TheVariants as literal
-use Rattle.expressions.specs.declared.leaf.Variable.{Variable}
-use Rattle.expressions.specs.declared.leaf.Variable.TheVariants.{Principal, Action, Resource}
-use Rattle.expressions.specs.declared.operator.Unary.{Unary}
-use Rattle.expressions.specs.declared.operator.Unary.TheVariants.{Is}
-use Rattle.expressions.specs.declared.operator.Binary.{Binary}
-use Rattle.expressions.specs.declared.operator.Binary.TheVariants.{Equal, In}
-use Rattle.expressions.specs.declared.expr.Expr.{Expr}
-use Rattle.expressions.specs.declared.expr.Expr.TheVariants as core
-use Rattle.expressions.specs.Size as size
-use Rattle.expressions.specs.Size.{height_step, forms_step, greatest, total, capped}
-use Rattle.expressions.proofs.Forms.{fold_literal, fold_variable, fold_and, fold_unary, fold_binary, fold_set}
-use Rattle.text_trees.specs.token_readers.declared.tree.UidTree.{UidTree}
-use Rattle.text_trees.specs.policy_syntax.declared.tree.PartTree.{PartTree}
-use Rattle.text_trees.specs.policy_syntax.declared.tree.PartTree.TheVariants as part
-use Rattle.text_trees.specs.policy_syntax.declared.tree.ActionTree.{ActionTree}
-use Rattle.text_trees.specs.policy_syntax.declared.tree.ActionTree.TheVariants as action
-use Rattle.text_trees.specs.policy_syntax.declared.tree.PolicyTree.{PolicyTree}
+use Rattle.grammar_core.specs.declared.leaf.Literal.{Literal}
+use Rattle.grammar_core.specs.declared.leaf.Literal.TheVariants as literal
+use Rattle.grammar_core.specs.declared.leaf.Variable.{Variable}
+use Rattle.grammar_core.specs.declared.leaf.Variable.TheVariants.{Principal, Action, Resource}
+use Rattle.grammar_core.specs.declared.operator.Unary.{Unary}
+use Rattle.grammar_core.specs.declared.operator.Unary.TheVariants.{Is}
+use Rattle.grammar_core.specs.declared.operator.Binary.{Binary}
+use Rattle.grammar_core.specs.declared.operator.Binary.TheVariants.{Equal, In}
+use Rattle.grammar_core.specs.declared.expr.Expr.{Expr}
+use Rattle.grammar_core.specs.declared.expr.Expr.TheVariants as core
+use Rattle.grammar_core.specs.Size as size
+use Rattle.grammar_core.specs.Size.{height_step, forms_step, greatest, total, capped}
+use Rattle.grammar_core.proofs.Forms.{fold_literal, fold_variable, fold_and, fold_unary, fold_binary, fold_set}
+use Rattle.grammar_desugaring.specs.grammar_tokens.declared.tree.UidTree.{UidTree}
+use Rattle.grammar_policies.specs.declared.tree.PartTree.{PartTree}
+use Rattle.grammar_policies.specs.declared.tree.PartTree.TheVariants as part
+use Rattle.grammar_policies.specs.declared.tree.ActionTree.{ActionTree}
+use Rattle.grammar_policies.specs.declared.tree.ActionTree.TheVariants as action
+use Rattle.grammar_policies.specs.declared.tree.PolicyTree.{PolicyTree}
 use Rattle.policy_grammar.specs.declared.policy.EntityScope.{EntityScope}
 use Rattle.policy_grammar.specs.declared.policy.EntityScope.TheVariants as entity
 use Rattle.policy_grammar.specs.declared.policy.ActionScope.{ActionScope}

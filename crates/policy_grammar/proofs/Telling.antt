@@ -3,13 +3,13 @@ use Rattle.std.proofs.Common.{◌≡◌, ◌↔◌, IsTrue, ℕ, ◌+◌, ◌<�
 use Rattle.std.proofs.Common.{Option, None, sym, ◌∙◌, ap, subst}
 use Rattle.std.proofs.lemmas.List.{take_more, take_all, flat_map_more}
 use Rattle.std.specs.List.{AllByRecursion, flat_map}
-use Rattle.text_trees.specs.policy_syntax.declared.tree.PolicyTree.{PolicyTree}
-use Rattle.expressions.specs.Size as size
-use Rattle.text_trees.specs.desugaring.declared.fault.DesugarFault.{DesugarFault}
-use Rattle.text_trees.specs.desugaring.declared.measure.Measure.{Measure}
-use Rattle.text_trees.specs.desugaring.Measured.{of}
-use Rattle.text_trees.specs.desugaring.Refused.{earlier_of, least, LeastOfBoth}
-use Rattle.text_trees.specs.desugaring.Repeats.{repeat_faults}
+use Rattle.grammar_policies.specs.declared.tree.PolicyTree.{PolicyTree}
+use Rattle.grammar_core.specs.Size as size
+use Rattle.grammar_desugaring.specs.declared.fault.DesugarFault.{DesugarFault}
+use Rattle.grammar_desugaring.specs.declared.measure.Measure.{Measure}
+use Rattle.grammar_desugaring.specs.Measured.{of}
+use Rattle.grammar_desugaring.specs.Refused.{earlier_of, least, LeastOfBoth}
+use Rattle.grammar_desugaring.specs.Repeats.{repeat_faults}
 use Rattle.policy_grammar.specs.declared.verdict.Verdict.{Verdict}
 use Rattle.policy_grammar.specs.Conditions.{conditions_of, condition_faults}
 use Rattle.policy_grammar.specs.Limits.{IsSmallOver, IsSmallTree}

@@ -4,15 +4,15 @@
 -- Rules of this product: conditions are joined to the right, and none are `true`.
 use Rattle.std.specs.Prelude.{ℕ, List, [], ◌∷◌, map}
 use Rattle.std.specs.List.{flat_map}
-use Rattle.expressions.specs.declared.operator.Unary.TheVariants.{Not}
-use Rattle.expressions.specs.declared.expr.Expr.{Expr}
-use Rattle.expressions.specs.declared.expr.Expr.TheVariants as core
-use Rattle.text_trees.specs.policy_syntax.declared.tree.Condition.{Condition}
-use Rattle.text_trees.specs.policy_syntax.declared.tree.ConditionWord.{ConditionWord}
-use Rattle.text_trees.specs.policy_syntax.declared.tree.ConditionWord.TheVariants as word
-use Rattle.text_trees.specs.desugaring.declared.fault.DesugarFault.{DesugarFault}
-use Rattle.text_trees.specs.desugaring.Core.{core_of}
-use Rattle.text_trees.specs.desugaring.Faults.{faults_of}
+use Rattle.grammar_core.specs.declared.operator.Unary.TheVariants.{Not}
+use Rattle.grammar_core.specs.declared.expr.Expr.{Expr}
+use Rattle.grammar_core.specs.declared.expr.Expr.TheVariants as core
+use Rattle.grammar_policies.specs.declared.tree.Condition.{Condition}
+use Rattle.grammar_policies.specs.declared.tree.ConditionWord.{ConditionWord}
+use Rattle.grammar_policies.specs.declared.tree.ConditionWord.TheVariants as word
+use Rattle.grammar_desugaring.specs.declared.fault.DesugarFault.{DesugarFault}
+use Rattle.grammar_desugaring.specs.Core.{core_of}
+use Rattle.grammar_desugaring.specs.Faults.{faults_of}
 use Rattle.policy_grammar.specs.Whole.{truth}
 
 -- `when { e }` asks e, and `unless { e }` asks `!e`

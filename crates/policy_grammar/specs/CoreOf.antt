@@ -7,19 +7,19 @@ use Rattle.std.specs.List.{AllZip, enumerate_from}
 use Rattle.std.specs.Fmt.{decimal}
 use Rattle.std.specs.Str.{bytes_eq}
 use Rattle.values.specs.declared.entity_uid.EntityUid.{EntityUid}
-use Rattle.text_trees.specs.policy_tokens.declared.token.TokenKind.{TokenKind}
-use Rattle.text_trees.specs.policy_tokens.declared.token.TokenKind.TheVariants as k
-use Rattle.text_trees.specs.policy_tokens.declared.token.Token.{Token}
-use Rattle.text_trees.specs.policy_tokens.Lexing.{spelling_of}
-use Rattle.text_trees.specs.policy_tokens.Strings.{IsStringOf}
-use Rattle.text_trees.specs.token_readers.declared.tree.UidTree.{UidTree}
-use Rattle.text_trees.specs.desugaring.Meaning.{path_name, uid_of}
-use Rattle.text_trees.specs.policy_syntax.declared.tree.Annotation.{Annotation}
-use Rattle.text_trees.specs.policy_syntax.declared.tree.PartTree.{PartTree}
-use Rattle.text_trees.specs.policy_syntax.declared.tree.PartTree.TheVariants as part
-use Rattle.text_trees.specs.policy_syntax.declared.tree.ActionTree.{ActionTree}
-use Rattle.text_trees.specs.policy_syntax.declared.tree.ActionTree.TheVariants as action
-use Rattle.text_trees.specs.policy_syntax.declared.tree.PolicyTree.{PolicyTree}
+use Rattle.grammar_desugaring.specs.grammar_tokens.declared.token.TokenKind.{TokenKind}
+use Rattle.grammar_desugaring.specs.grammar_tokens.declared.token.TokenKind.TheVariants as k
+use Rattle.grammar_desugaring.specs.grammar_tokens.declared.token.Token.{Token}
+use Rattle.grammar_desugaring.specs.grammar_tokens.Lexing.{spelling_of}
+use Rattle.grammar_desugaring.specs.grammar_tokens.Strings.{IsStringOf}
+use Rattle.grammar_desugaring.specs.grammar_tokens.declared.tree.UidTree.{UidTree}
+use Rattle.grammar_desugaring.specs.Meaning.{path_name, uid_of}
+use Rattle.grammar_policies.specs.declared.tree.Annotation.{Annotation}
+use Rattle.grammar_policies.specs.declared.tree.PartTree.{PartTree}
+use Rattle.grammar_policies.specs.declared.tree.PartTree.TheVariants as part
+use Rattle.grammar_policies.specs.declared.tree.ActionTree.{ActionTree}
+use Rattle.grammar_policies.specs.declared.tree.ActionTree.TheVariants as action
+use Rattle.grammar_policies.specs.declared.tree.PolicyTree.{PolicyTree}
 use Rattle.policy_grammar.specs.declared.policy.Effect.{Effect}
 use Rattle.policy_grammar.specs.declared.policy.Effect.TheVariants.{Permit, Forbid}
 use Rattle.policy_grammar.specs.declared.policy.EntityScope.{EntityScope}

@@ -2,15 +2,15 @@
 -- Rules of this product: the core expression of a policy is at most 1,000 high and has at most 1,000,000 forms, a
 -- policy's id has 1 to 256 bytes, a policy text at most 262,144 bytes, a file 8,388,608.
 use Rattle.std.specs.Prelude.{◌≡◌, ℕ, suc, ◌+◌, ◌≤◌, max, List, [], ◌∷◌, length}
-use Rattle.text_trees.specs.token_readers.declared.tree.UidTree.{UidTree}
-use Rattle.text_trees.specs.policy_syntax.declared.tree.PartTree.{PartTree}
-use Rattle.text_trees.specs.policy_syntax.declared.tree.PartTree.TheVariants as part
-use Rattle.text_trees.specs.policy_syntax.declared.tree.ActionTree.{ActionTree}
-use Rattle.text_trees.specs.policy_syntax.declared.tree.ActionTree.TheVariants as action
-use Rattle.text_trees.specs.policy_syntax.declared.tree.PolicyTree.{PolicyTree}
-use Rattle.expressions.specs.Size as size
-use Rattle.expressions.specs.Size.{most_height, most_forms}
-pub use Rattle.text_trees.specs.Texts.{most_policy_bytes, most_file_bytes}
+use Rattle.grammar_desugaring.specs.grammar_tokens.declared.tree.UidTree.{UidTree}
+use Rattle.grammar_policies.specs.declared.tree.PartTree.{PartTree}
+use Rattle.grammar_policies.specs.declared.tree.PartTree.TheVariants as part
+use Rattle.grammar_policies.specs.declared.tree.ActionTree.{ActionTree}
+use Rattle.grammar_policies.specs.declared.tree.ActionTree.TheVariants as action
+use Rattle.grammar_policies.specs.declared.tree.PolicyTree.{PolicyTree}
+use Rattle.grammar_core.specs.Size as size
+use Rattle.grammar_core.specs.Size.{most_height, most_forms}
+pub use Rattle.policy_grammar.specs.Texts.{most_policy_bytes, most_file_bytes}
 use Rattle.policy_grammar.specs.declared.policy.Policy.{Policy}
 use Rattle.policy_grammar.specs.Whole.{expression_of}
 use Rattle.policy_grammar.specs.Conditions.{conditions_of}

@@ -4,21 +4,21 @@
 use Rattle.std.specs.Prelude.{◌≡◌, ◌⊎◌, ℕ, List, [], Some, All, ◌++◌}
 use Rattle.std.specs.List.{AllByRecursion, flat_map}
 use Rattle.values.specs.declared.entity_uid.EntityUid.{EntityUid}
-use Rattle.text_trees.specs.token_readers.declared.tree.UidTree.{UidTree}
-use Rattle.text_trees.specs.policy_syntax.declared.tree.PolicyTree.{PolicyTree}
-use Rattle.text_trees.specs.token_readers.Lang.{at_any}
-use Rattle.text_trees.specs.expression_syntax.Expressions.{nesting_limit}
-use Rattle.text_trees.specs.policy_syntax.Grammar as grammar
-pub use Rattle.text_trees.specs.Texts.{Derives, byte_of, StopsAt, IsUnread}
-use Rattle.text_trees.specs.desugaring.declared.fault.DesugarFault.{DesugarFault}
-use Rattle.text_trees.specs.desugaring.Refused.{least}
-use Rattle.text_trees.specs.desugaring.Repeats.{repeat_faults}
+use Rattle.grammar_desugaring.specs.grammar_tokens.declared.tree.UidTree.{UidTree}
+use Rattle.grammar_policies.specs.declared.tree.PolicyTree.{PolicyTree}
+use Rattle.grammar_desugaring.specs.grammar_tokens.Lang.{at_any}
+use Rattle.grammar_policies.specs.grammar_expressions.Expressions.{nesting_limit}
+use Rattle.grammar_policies.specs.Grammar as grammar
+pub use Rattle.policy_grammar.specs.Texts.{Derives, byte_of, StopsAt, IsUnread}
+use Rattle.grammar_desugaring.specs.declared.fault.DesugarFault.{DesugarFault}
+use Rattle.grammar_desugaring.specs.Refused.{least}
+use Rattle.grammar_desugaring.specs.Repeats.{repeat_faults}
 use Rattle.policy_grammar.specs.declared.policy.Policy.{Policy}
-use Rattle.text_trees.specs.declared.fault.ReadFault.{ReadFault}
-use Rattle.text_trees.specs.declared.fault.ReadFault.TheVariants as fault
+use Rattle.policy_grammar.specs.declared.fault.ReadFault.{ReadFault}
+use Rattle.policy_grammar.specs.declared.fault.ReadFault.TheVariants as fault
 use Rattle.policy_grammar.specs.Conditions.{condition_faults}
 use Rattle.policy_grammar.specs.CoreOf.{IsUidOf, IsCoreOf, AreNamesOf, AreCoresOf}
-use Rattle.text_trees.specs.Faults.{of_desugaring}
+use Rattle.policy_grammar.specs.Faults.{of_desugaring}
 use Rattle.policy_grammar.specs.Limits.{IsSmallTree, IsSmallPolicy, IsId, most_policy_bytes, most_file_bytes}
 use Rattle.policy_grammar.specs.Repeats.{annotation_keys, policy_names}
 

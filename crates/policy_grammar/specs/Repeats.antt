@@ -3,11 +3,11 @@
 -- stands once in a file.
 use Rattle.std.specs.Prelude.{ℕ, List, [], ◌∷◌, map}
 use Rattle.std.specs.List.{zip}
-use Rattle.text_trees.specs.policy_tokens.declared.token.Token.{Token}
-use Rattle.text_trees.specs.policy_syntax.declared.tree.Annotation.{Annotation}
-use Rattle.text_trees.specs.policy_syntax.declared.tree.PolicyTree.{PolicyTree}
-use Rattle.text_trees.specs.desugaring.Repeats.{NameAt}
-pub use Rattle.text_trees.specs.Annotations.{key_at, annotation_keys}
+use Rattle.grammar_desugaring.specs.grammar_tokens.declared.token.Token.{Token}
+use Rattle.grammar_policies.specs.declared.tree.Annotation.{Annotation}
+use Rattle.grammar_policies.specs.declared.tree.PolicyTree.{PolicyTree}
+use Rattle.grammar_desugaring.specs.Repeats.{NameAt}
+pub use Rattle.policy_grammar.specs.Annotations.{key_at, annotation_keys}
 
 -- where the first token of a policy stands
 abbrev pub start_behind : List Annotation → Token → ℕ

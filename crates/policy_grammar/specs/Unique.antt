@@ -3,10 +3,10 @@ use Rattle.std.specs.Prelude.{◌≡◌, ◌⊎◌, ℕ, List, length, Some}
 use Rattle.std.specs.List.{IsDistinct}
 use Rattle.std.specs.Str.{bytes_eq}
 use Rattle.policy_grammar.specs.declared.policy.Policy.{Policy}
-use Rattle.text_trees.specs.declared.fault.ReadFault.{ReadFault}
-use Rattle.text_trees.specs.desugaring.declared.fault.DesugarFault.{DesugarFault}
-use Rattle.text_trees.specs.desugaring.Refused.{at, IsLeastOf}
-use Rattle.text_trees.specs.Faults.{place_of}
+use Rattle.policy_grammar.specs.declared.fault.ReadFault.{ReadFault}
+use Rattle.grammar_desugaring.specs.declared.fault.DesugarFault.{DesugarFault}
+use Rattle.grammar_desugaring.specs.Refused.{at, IsLeastOf}
+use Rattle.policy_grammar.specs.Faults.{place_of}
 use Rattle.policy_grammar.specs.PolicyText.{IsPolicyFile, IsReportedOf}
 
 -- A text stands for one value at most; one that stands for a value is not refused; it has one refusal at most; and it

@@ -4,13 +4,13 @@
 -- Rules of this product: a part that asks nothing is `true`, and `action in []` is `false`.
 use Rattle.std.specs.Prelude.{true, false, [], ◌∷◌, map}
 use Rattle.values.specs.declared.entity_uid.EntityUid.{EntityUid}
-use Rattle.expressions.specs.declared.leaf.Literal.TheVariants as literal
-use Rattle.expressions.specs.declared.leaf.Variable.{Variable}
-use Rattle.expressions.specs.declared.leaf.Variable.TheVariants.{Principal, Action, Resource}
-use Rattle.expressions.specs.declared.operator.Unary.TheVariants.{Is}
-use Rattle.expressions.specs.declared.operator.Binary.TheVariants.{Equal, In}
-use Rattle.expressions.specs.declared.expr.Expr.{Expr}
-use Rattle.expressions.specs.declared.expr.Expr.TheVariants as core
+use Rattle.grammar_core.specs.declared.leaf.Literal.TheVariants as literal
+use Rattle.grammar_core.specs.declared.leaf.Variable.{Variable}
+use Rattle.grammar_core.specs.declared.leaf.Variable.TheVariants.{Principal, Action, Resource}
+use Rattle.grammar_core.specs.declared.operator.Unary.TheVariants.{Is}
+use Rattle.grammar_core.specs.declared.operator.Binary.TheVariants.{Equal, In}
+use Rattle.grammar_core.specs.declared.expr.Expr.{Expr}
+use Rattle.grammar_core.specs.declared.expr.Expr.TheVariants as core
 use Rattle.policy_grammar.specs.declared.policy.EntityScope.{EntityScope}
 use Rattle.policy_grammar.specs.declared.policy.EntityScope.TheVariants as entity
 use Rattle.policy_grammar.specs.declared.policy.ActionScope.{ActionScope}

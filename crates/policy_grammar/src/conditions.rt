@@ -1,18 +1,19 @@
 //! The conditions of a policy, from the last to the first: judged before anything is made, and made.
 ghost use Rattle.std.specs.Prelude.{◌≡◌, [], IfOk};
 ghost use Rattle.std.specs.List.{AllByRecursion};
-ghost use Rattle.expressions.specs.declared.expr.Expr.TheVariants as core;
-ghost use Rattle.text_trees.specs.desugaring.Faults.{faults_of};
-ghost use Rattle.text_trees.specs.desugaring.Measured.{of};
-ghost use Rattle.text_trees.specs.policy_syntax.WellFormed.{WellFormedCondition};
+ghost use Rattle.grammar_core.specs.declared.expr.Expr.TheVariants as core;
+ghost use Rattle.grammar_desugaring.specs.Faults.{faults_of};
+ghost use Rattle.grammar_desugaring.specs.Measured.{of};
+ghost use Rattle.grammar_policies.specs.WellFormed.{WellFormedCondition};
 ghost use Rattle.policy_grammar.specs.Conditions.{asked_by, condition_of, conditions_of, condition_faults};
-ghost use Rattle.text_trees.specs.desugaring.BuiltFrom.{IsBuiltFrom};
+ghost use Rattle.grammar_desugaring.specs.BuiltFrom.{IsBuiltFrom};
 ghost use Rattle.policy_grammar.specs.inner.Parts.{AreSound, judged_by};
 
-use expressions::{Expr, Literal, Unary};
+use grammar_core::{Expr, Literal, Unary};
+use grammar_desugaring::{Measure, build_expr, measure_expr, measures_add_up};
+use grammar_policies::{Condition, ConditionWord};
 use plain::{NoMemory, beside};
 use std::alloc::Global;
-use text_trees::{Condition, ConditionWord, Measure, build_expr, measure_expr, measures_add_up};
 
 /// Returns what is told of an expression behind this word.
 fn judge_asked(word: ConditionWord, measure: Measure) -> Measure

@@ -1,24 +1,22 @@
 //! The pass from a syntax tree to what it stands for.
 ghost use Rattle.std.specs.Prelude.{◌≡◌, [], true, IfOk};
 ghost use Rattle.std.specs.List.{AllByRecursion};
-ghost use Rattle.text_trees.specs.policy_syntax.Grammar.{effects};
-ghost use Rattle.text_trees.specs.policy_syntax.WellFormed.{WellFormedUid, WellFormedPart, WellFormedAction};
-ghost use Rattle.text_trees.specs.policy_syntax.WellFormed.{WellFormedPolicy};
+ghost use Rattle.grammar_policies.specs.Grammar.{effects};
+ghost use Rattle.grammar_policies.specs.WellFormed.{WellFormedUid, WellFormedPart, WellFormedAction, WellFormedPolicy};
 ghost use Rattle.policy_grammar.specs.Conditions.{condition_faults};
 ghost use Rattle.policy_grammar.specs.CoreOf.{IsUidOf, AreUidsOf, IsEntityScopeOf, IsActionScopeOf, effect_word};
 ghost use Rattle.policy_grammar.specs.CoreOf.{IsCoreOf};
-ghost use Rattle.text_trees.specs.desugaring.BuiltFrom.{IsBuiltFrom};
+ghost use Rattle.grammar_desugaring.specs.BuiltFrom.{IsBuiltFrom};
 
 use crate::conditions::build_conditions;
 use crate::known_names::{
     action_in, id_like, id_of, principal_in, resource_in, type_in, type_name_like, type_of, uid_in,
 };
 use crate::policy::{ActionScope, Effect, EntityScope, Policy, Scope};
+use grammar_desugaring::{TokenKind, decode_string, strings_are_read};
+use grammar_policies::{ActionTree, PartTree, PolicyTree, UidTree};
 use plain::{Items, NoMemory, Shared, beside};
 use std::alloc::Global;
-use text_trees::{
-    ActionTree, PartTree, PolicyTree, TokenKind, UidTree, decode_string, strings_are_read,
-};
 use values::EntityUid;
 
 /// Returns the uid that a tree of one stands for, or `NoMemory`; it shares the texts that the known one has too.

@@ -1,13 +1,14 @@
 //! Names that are known already: where a further one is the same, both share one text.
 ghost use Rattle.std.specs.Prelude.{◌≡◌, IsTrue, IfOk};
-ghost use Rattle.text_trees.specs.policy_syntax.WellFormed.{WellFormedPath};
-ghost use Rattle.text_trees.specs.desugaring.BuiltFrom.{IsBuiltFrom};
-ghost use Rattle.text_trees.specs.desugaring.Meaning.{path_name};
+ghost use Rattle.grammar_policies.specs.WellFormed.{WellFormedPath};
+ghost use Rattle.grammar_desugaring.specs.BuiltFrom.{IsBuiltFrom};
+ghost use Rattle.grammar_desugaring.specs.Meaning.{path_name};
 
 use crate::policy::{ActionScope, EntityScope, Scope};
+use grammar_desugaring::{spelling, type_name};
+use grammar_policies::PathTree;
 use plain::{NoMemory, Text};
 use std::alloc::Global;
-use text_trees::{PathTree, spelling, type_name};
 use values::{EntityUid, SharedText, TypeName};
 
 /// Returns whether a path is one word, and that this name. Of a longer path, which may have blanks between its words,

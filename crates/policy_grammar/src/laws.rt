@@ -3,10 +3,8 @@ ghost use Rattle.policy_grammar.specs.PolicyText.{IsUidText, IsUidRefused, IsPol
 ghost use Rattle.policy_grammar.specs.PolicyText.{IsFileRefused};
 ghost use Rattle.policy_grammar.specs.Unique.{HasOneReading, IsFileOf, ReportedIsLeast, EachIsNamed, NamesDiffer};
 
-use text_trees::{
-    least_fault_is_told, lexing_is_unique, reading_is_unique, strings_have_one_meaning,
-    trees_stand_in_tokens,
-};
+use grammar_desugaring::{least_fault_is_told, lexing_is_unique, strings_have_one_meaning};
+use grammar_policies::{reading_is_unique, trees_stand_in_tokens};
 
 /// Proves that each text comes to exactly one thing, what it stands for or a refusal: it does nothing, and its clauses
 /// are laws of the definitions.

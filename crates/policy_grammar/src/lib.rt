@@ -1,8 +1,10 @@
-//! Policies of the Cedar language, read from text.
+//! Policies of the Cedar language, read from text: as trees, and then as core expressions.
 #![tactic(auto)]
 
+mod annotations;
 mod conditions;
 mod core_of;
+mod fault;
 mod held;
 mod known_names;
 mod laws;
@@ -12,11 +14,15 @@ mod plain_uids;
 mod policy;
 mod repeats;
 mod texts;
+mod trees;
 mod verdict;
 
-pub use expressions::{Expr, Pattern};
+pub use annotations::repeated_annotation;
+pub use fault::ReadFault;
+pub use grammar_core::{Expr, Pattern};
+pub use grammar_desugaring::tokens;
 pub use laws::{file_names_differ, texts_have_one_reading, told_fault_is_least};
 pub use limits::{MOST_ID_BYTES, heads_are_small};
 pub use policy::{ActionScope, Effect, EntityScope, Policy, Scope};
-pub use text_trees::{LexFault, MOST_FILE_BYTES, MOST_POLICY_BYTES, ReadFault, Token, tokens};
 pub use texts::{parse_policies, parse_policy, parse_uid};
+pub use trees::{MOST_FILE_BYTES, MOST_POLICY_BYTES, policy_tree, policy_trees, uid_tree};

@@ -3,9 +3,9 @@ ghost use Rattle.std.specs.Prelude.{◌≡◌, ◌↔◌, ◌<◌, ◌^◌, IsTr
 ghost use Rattle.policy_grammar.specs.Limits as spec;
 ghost use Rattle.policy_grammar.specs.Limits.{IsSmallOver, IsId, ShapesAreSizes, NineFormsMore, HeadsAreLow};
 
-use expressions::{FORMS_MAX, HEIGHT_MAX};
+use grammar_core::{FORMS_MAX, HEIGHT_MAX};
+use grammar_policies::{ActionTree, PartTree, PolicyTree};
 use plain::Text;
-use text_trees::{ActionTree, PartTree, PolicyTree};
 
 /// The greatest height of the conditions' core expression: three `&&` stand above it, and no head is too high.
 const MOST_CONDITION_HEIGHT: u32 = HEIGHT_MAX - 3;

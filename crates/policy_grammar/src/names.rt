@@ -2,19 +2,20 @@
 ghost use Rattle.std.specs.Prelude.{◌≡◌, ◌++◌, [], IfOk, IfSome, codes, decimal, find, length, map, string_bytes};
 ghost use Rattle.std.specs.Option.{option_copied};
 ghost use Rattle.std.specs.List.{AllByRecursion};
-ghost use Rattle.text_trees.specs.policy_syntax.WellFormed.{WellFormedAnnotation, WellFormedPolicy};
+ghost use Rattle.grammar_policies.specs.WellFormed.{WellFormedAnnotation, WellFormedPolicy};
 ghost use Rattle.policy_grammar.specs.Conditions.{condition_faults};
 ghost use Rattle.policy_grammar.specs.CoreOf.{IsValueOf, is_id, IsNameOf, AreNamesOf, AreCoresOf};
-ghost use Rattle.text_trees.specs.desugaring.BuiltFrom.{IsBuiltFrom};
+ghost use Rattle.grammar_desugaring.specs.BuiltFrom.{IsBuiltFrom};
 ghost use Rattle.policy_grammar.specs.inner.Parts.{has_id};
 
 use crate::core_of::core_like;
 use crate::policy::{Policy, Scope};
+use grammar_desugaring::{decode_string, spelling};
+use grammar_policies::{Annotation, PolicyTree};
 use itoa::Buffer;
 use plain::{NoMemory, Text};
 use std::alloc::Global;
 use std::collections::VecDeque;
-use text_trees::{Annotation, PolicyTree, decode_string, spelling};
 
 /// The bytes of the longest name by a place: `policy` and twenty digits.
 const MOST_PLACED_BYTES: usize = 26;

@@ -4,9 +4,10 @@ ghost use Rattle.std.specs.Prelude.{IfOk, IfSome};
 ghost use Rattle.policy_grammar.specs.PolicyText.{IsUidText};
 ghost use Rattle.policy_grammar.specs.inner.Parts.{IsWrittenPlainly};
 
+use crate::trees::MOST_POLICY_BYTES;
+use grammar_desugaring::strings_are_read;
 use plain::NoMemory;
 use std::alloc::Global;
-use text_trees::{MOST_POLICY_BYTES, strings_are_read};
 use values::{EntityUid, SharedText, TypeName};
 
 /// Returns what stands before `::"`, and what stands between the quotes: where the second quote ends the text, and no

@@ -1,7 +1,7 @@
 //! Policies, as the layers above see them.
 ghost use Rattle.std.specs.Prelude.{◌≡◌, IfOk};
 
-use expressions::Expr;
+use grammar_core::Expr;
 use plain::{Items, NoMemory, Shared, beside};
 use values::{EntityUid, TypeName};
 

@@ -1,18 +1,19 @@
 //! Which policy's name stands a second time in a file, and where first.
 ghost use Rattle.std.specs.Prelude.{◌≡◌, ◌||◌, IfOk, length};
 ghost use Rattle.std.specs.List.{AllByRecursion};
-ghost use Rattle.text_trees.specs.policy_syntax.WellFormed.{WellFormedPolicy};
+ghost use Rattle.grammar_policies.specs.WellFormed.{WellFormedPolicy};
 ghost use Rattle.policy_grammar.specs.CoreOf.{AreNamesOf};
-ghost use Rattle.text_trees.specs.desugaring.Refused.{least};
-ghost use Rattle.text_trees.specs.desugaring.Repeats.{repeat_faults, abstract_names};
-ghost use Rattle.text_trees.specs.desugaring.BuiltFrom.{IsBuiltFrom};
+ghost use Rattle.grammar_desugaring.specs.Refused.{least};
+ghost use Rattle.grammar_desugaring.specs.Repeats.{repeat_faults, abstract_names};
+ghost use Rattle.grammar_desugaring.specs.BuiltFrom.{IsBuiltFrom};
 ghost use Rattle.policy_grammar.specs.Repeats.{policy_names, start_of};
 ghost use Rattle.policy_grammar.specs.inner.Parts.{has_id, looks_placed, meets_place, doubtful_marks};
 
 use crate::names::has_id;
+use grammar_desugaring::{DesugarFault, NameAt, first_duplicate, repeats_stand_again};
+use grammar_policies::PolicyTree;
 use plain::{NoMemory, Text};
 use std::alloc::Global;
-use text_trees::{DesugarFault, NameAt, PolicyTree, first_duplicate, repeats_stand_again};
 
 /// Where the first token of a policy stands.
 fn start(tree: &PolicyTree) -> usize

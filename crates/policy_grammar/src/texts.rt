@@ -1,29 +1,29 @@
 //! Whole texts: a uid, a policy, a file of policies.
 ghost use Rattle.std.specs.Prelude.{IfOk, IfErr, map, string_bytes};
 ghost use Rattle.std.specs.List.{AllByRecursion};
-ghost use Rattle.text_trees.specs.policy_syntax.WellFormed.{WellFormedPolicy};
-ghost use Rattle.text_trees.specs.declared.fault.ReadFault.TheVariants as ReadFault;
+ghost use Rattle.grammar_policies.specs.WellFormed.{WellFormedPolicy};
+ghost use Rattle.policy_grammar.specs.declared.fault.ReadFault.TheVariants as ReadFault;
 ghost use Rattle.policy_grammar.specs.CoreOf.{AreNamesOf};
-ghost use Rattle.policy_grammar.specs.PolicyText.{IsUidText, IsPolicyOf, HasNoPolicy, ArePoliciesOf};
-ghost use Rattle.policy_grammar.specs.PolicyText.{HaveNoPolicies};
+ghost use Rattle.policy_grammar.specs.PolicyText.{IsUidText, IsPolicyOf, HasNoPolicy, ArePoliciesOf, HaveNoPolicies};
 ghost use Rattle.policy_grammar.specs.PolicyText.{IsPolicyText, IsPolicyFile, IsUidRefused};
 ghost use Rattle.plain.specs.Refused.{OrNoMemory};
 ghost use Rattle.policy_grammar.specs.PolicyText.{IsPolicyRefused, IsFileRefused};
-ghost use Rattle.text_trees.specs.desugaring.BuiltFrom.{IsBuiltFrom};
+ghost use Rattle.grammar_desugaring.specs.BuiltFrom.{IsBuiltFrom};
 
 use crate::core_of::{core_of, uid_of};
+use crate::fault::ReadFault;
 use crate::held::after;
 use crate::limits::are_ids;
 use crate::names::{named_of, names_of};
 use crate::plain_uids::plain_uid;
 use crate::policy::Policy;
 use crate::repeats::repeated_name;
+use crate::trees::{policy_tree, policy_trees, uid_tree};
 use crate::verdict::{judge_policies, judge_policy};
+use grammar_desugaring::{earlier_of, least_fault_is_told};
+use grammar_policies::PolicyTree;
 use plain::{NoMemory, Text};
 use std::alloc::Global;
-use text_trees::{
-    PolicyTree, ReadFault, earlier_of, least_fault_is_told, policy_tree, policy_trees, uid_tree,
-};
 use values::EntityUid;
 
 /// Returns the uid that a text is, by its tokens and their tree.

@@ -2,16 +2,18 @@
 //! keep to the limits.
 ghost use Rattle.std.specs.Prelude.{◌≡◌, ◌↔◌, IsTrue, IfOk};
 ghost use Rattle.std.specs.List.{AllByRecursion};
-ghost use Rattle.text_trees.specs.desugaring.Refused as spec;
-ghost use Rattle.text_trees.specs.desugaring.BuiltFrom.{IsBuiltFrom};
-ghost use Rattle.text_trees.specs.policy_syntax.WellFormed.{WellFormedPolicy};
+ghost use Rattle.grammar_desugaring.specs.Refused as spec;
+ghost use Rattle.grammar_desugaring.specs.BuiltFrom.{IsBuiltFrom};
+ghost use Rattle.grammar_policies.specs.WellFormed.{WellFormedPolicy};
 ghost use Rattle.policy_grammar.specs.inner.Parts.{ReportsPolicy, ReportsFile};
 
+use crate::annotations::repeated_annotation;
 use crate::conditions::judge_conditions;
 use crate::limits::is_small;
+use grammar_desugaring::{DesugarFault, earlier_of, least_fault_is_told};
+use grammar_policies::PolicyTree;
 use plain::NoMemory;
 use std::alloc::Global;
-use text_trees::{DesugarFault, PolicyTree, earlier_of, least_fault_is_told, repeated_annotation};
 
 /// What is told of one policy, or of several.
 #[derive(Clone, Copy)]

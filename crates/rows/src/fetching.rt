@@ -1,7 +1,7 @@
 //! Replies that are fetched.
 use crate::ways::{PLAIN, SEVENS, SLOW, Way, by_reads, reader_of, writer_of};
 use crate::written::shown;
-use counted_devices::devices::Source;
+use http_devices::devices::Source;
 use http_streams::fetch::{FetchFault, fetch};
 use http_texts::request::Ask;
 use plain::NoMemory;

@@ -2,9 +2,9 @@
 use crate::keeping::ended;
 use crate::pieces::Line;
 use crate::written::{bad_row, text_of};
+use grammar_tokens::{LexFault, Token, tokens};
 use json_words::{read_json, write_json};
 use plain::NoMemory;
-use policy_tokens::{LexFault, Token, tokens};
 use serde_json::Value;
 use std::alloc::Global;
 use values::TypeName;

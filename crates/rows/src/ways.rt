@@ -1,5 +1,5 @@
 //! Devices over memory, by how a stream is cut.
-use counted_devices::memory::{MemoryReader, MemoryWriter, Plan};
+use http_devices::memory::{Fed, Kept, Plan};
 use std::alloc::Global;
 
 /// How a stream is cut: the sizes of the reads and of the writes.
@@ -32,10 +32,10 @@ pub(crate) fn by_reads(reads: &[usize]) -> Way<'_> {
     Way { reads, writes: &[] }
 }
 
-pub(crate) fn reader_of<'a>(way: Way<'a>, bytes: &'a [u8]) -> MemoryReader<'a> {
-    MemoryReader::new(bytes, Plan::new(way.reads, None))
+pub(crate) fn reader_of<'a>(way: Way<'a>, bytes: &'a [u8]) -> Fed<'a> {
+    Fed::new(bytes, Plan::new(way.reads, None))
 }
 
-pub(crate) fn writer_of<'a>(way: Way<'a>, alloc: Global) -> MemoryWriter<'a> {
-    MemoryWriter::new(alloc, Plan::new(way.writes, None))
+pub(crate) fn writer_of<'a>(way: Way<'a>, alloc: Global) -> Kept<'a> {
+    Kept::new(alloc, Plan::new(way.writes, None))
 }

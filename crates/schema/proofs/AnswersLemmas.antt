@@ -8,14 +8,14 @@ use Rattle.std.proofs.lemmas.List.Kept.{IsStrictlySortedBy-filter}
 use Rattle.std.proofs.lemmas.Map.Views.{btree_map_contains_key_iff, btree_map_get_iff}
 use Rattle.values.specs.declared.entity_uid.EntityUid.{EntityUid}
 use Rattle.values.specs.Names.{uid_cmp, text_cmp, uid_cmp-IsTotalOrder, uid_cmp-IsAntisymmetric}
-use Rattle.schema_parts.specs.ancestor_closure.Hierarchy.{Above, IsAscending, IsAllAbove}
+use Rattle.ancestor_search.specs.Hierarchy.{Above, IsAscending, IsAllAbove}
 use Rattle.schema_types.specs.Cedar.{Cedar}
 use Rattle.schema_types.specs.CedarViews.{cedar_view}
 use Rattle.schema_types.specs.declared.cedar.CedarType.{CedarType}
 use Rattle.schema_names.specs.Qualifying.{FoundEntityType, FoundSchema}
-use Rattle.schema_parts.specs.declared.parts.Place.{Place}
-use Rattle.schema_parts.specs.declared.parts.Environment.{Environment}
-use Rattle.schema_parts.specs.declared.parts.EntityDecl.{EntityDecl}
+use Rattle.schema.specs.declared.parts.Place.{Place}
+use Rattle.schema.specs.declared.parts.Environment.{Environment}
+use Rattle.schema.specs.declared.parts.EntityDecl.{EntityDecl}
 use Rattle.schema.specs.declared.reading.Types.{Types}
 use Rattle.schema.specs.declared.reading.Hierarchies.{Hierarchies}
 use Rattle.sha2.specs.Sha256.{sha256}
@@ -25,8 +25,8 @@ use Rattle.schema_names.specs.Laws.{IsEntityType, NamesItsEntityTypes}
 use Rattle.schema.specs.Schemas.{EnvironmentOf, Answers, IsSound, IsSchemaOf, IsShape, IsAction, IsEnvironment, IsPlace}
 use Rattle.schema.specs.Schemas.{IsRecordOf, action_parents, type_parents, type_uid, place_cmp}
 use Rattle.schema.specs.SchemaEntries.{kept}
-use Rattle.schema_parts.specs.Places.{environment_of}
-use Rattle.schema_parts.specs.LookUps.{is_numbered_at, stands_below, is_above, stands_below_action, is_action_above}
+use Rattle.schema.specs.Places.{environment_of}
+use Rattle.schema.specs.LookUps.{is_numbered_at, stands_below, is_above, stands_below_action, is_action_above}
 use Rattle.schema.specs.Views.{environment_view, schema_view, above_in}
 use Rattle.schema.specs.declared.type_numbers.TypeNumbers.{TypeNumbers}
 use Rattle.schema.specs.inner.Numbering.{AreNumbers}

@@ -13,10 +13,10 @@ use Rattle.hex.specs.Hex.{encode_lower}
 use Rattle.values.specs.declared.entity_uid.EntityUid.{EntityUid}
 use Rattle.values.specs.Names.{text_cmp, text_cmp-IsTotalOrder, text_cmp-IsAntisymmetric, uid_cmp, uid_cmp-IsTotalOrder}
 use Rattle.values.specs.Names.{uid_cmp-IsAntisymmetric}
-use Rattle.schema_parts.specs.ancestor_closure.Hierarchy.{IsAllAbove, IsAscending}
-use Rattle.schema_parts.specs.ancestor_closure.Decided.{PathsAreDecided, is_same, reaches}
-use Rattle.schema_parts.specs.ancestor_closure.Deciding.{Contains-here, Contains-there, Contains-cases, Contains-none}
-use Rattle.schema_parts.specs.ancestor_closure.Deciding.{any_from, any_at, same_uid, same_self}
+use Rattle.ancestor_search.specs.Hierarchy.{IsAllAbove, IsAscending}
+use Rattle.ancestor_search.specs.Decided.{PathsAreDecided, is_same, reaches}
+use Rattle.ancestor_search.specs.Deciding.{Contains-here, Contains-there, Contains-cases, Contains-none}
+use Rattle.ancestor_search.specs.Deciding.{any_from, any_at, same_uid, same_self}
 use Rattle.schema_types.specs.Qualified.{Qualified}
 use Rattle.schema_types.specs.Cedar.{Cedar, record_of, no_fields}
 use Rattle.schema_types.specs.Law.{TypesStandForOneOrSomeForNone}
@@ -24,13 +24,13 @@ use Rattle.schema_types.specs.declared.fault.SchemaFault.{SchemaFault}
 use Rattle.schema_names.specs.Qualifying.{FoundEntityType, FoundUse, FoundAction, FoundSchema}
 use Rattle.schema_names.specs.Naming.{StatesNamed}
 use Rattle.schema_names.specs.Laws as names
-use Rattle.schema_parts.specs.declared.parts.Place.{Place}
+use Rattle.schema.specs.declared.parts.Place.{Place}
 use Rattle.schema.specs.Schemas as schemas
 use Rattle.schema.specs.Schemas.{EnvironmentOf, StatedSchema, Answers, IsAction, IsEnvironment, IsPlace, IsRecordOf}
 use Rattle.schema.specs.Schemas.{IsSound, IsUnsound, IsSchemaOf, action_parents, type_parents, type_uid, place_cmp}
 use Rattle.schema.specs.Outcomes as outcomes
 use Rattle.schema.specs.Outcomes.{SchemaOrRefusal, SomeOutcome}
-use Rattle.schema_parts.specs.Places.{place_of}
+use Rattle.schema.specs.Places.{place_of}
 use Rattle.schema.proofs.HierarchyLemmas.{contains_map}
 use Rattle.schema.proofs.PlaceLemmas.{place_cmp-IsTotalOrder, place_cmp-IsAntisymmetric}
 use Rattle.schema.proofs.InOrder.{in_order, in_order_ascends, from_in_order, all_in_order}

@@ -9,7 +9,7 @@ use Rattle.std.specs.FinMap.{IsAntisymmetric}
 use Rattle.std.proofs.lemmas.List.{drop_all}
 use Rattle.std.proofs.lemmas.Map.Views.{tells_apart}
 use Rattle.json_words.proofs.EachSame.{cut}
-use Rattle.schema_parts.specs.ancestor_closure.Deciding.{Contains-here, Contains-there, Contains-cases, Contains-none}
+use Rattle.ancestor_search.specs.Deciding.{Contains-here, Contains-there, Contains-cases, Contains-none}
 use Rattle.schema.specs.inner.Filling.{Adds, AddsEach}
 
 module _ {X K V : Type 0} (may : X → K → V → Type 0) (must : X → K → Type 0) (told : X → Type 0) where

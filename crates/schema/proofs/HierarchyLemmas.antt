@@ -4,9 +4,8 @@ use Rattle.std.specs.Prelude.{Contains, ◌⊎◌}
 use Rattle.std.specs.Ordering.{is_eq}
 use Rattle.values.specs.declared.entity_uid.EntityUid.{EntityUid}
 use Rattle.values.specs.Names.{uid_cmp}
-use Rattle.schema_parts.specs.ancestor_closure.Hierarchy.{Parents, Path, Above, no_parents, with_parents}
-use Rattle.schema_parts.specs.ancestor_closure.Deciding.{Contains-here, Contains-there, Contains-cases, Contains-none}
-use Rattle.schema_parts.specs.ancestor_closure.Deciding.{same_uid}
+use Rattle.ancestor_search.specs.Hierarchy.{Parents, Path, Above, no_parents, with_parents}
+use Rattle.ancestor_search.specs.Deciding.{Contains-here, Contains-there, Contains-cases, Contains-none, same_uid}
 use Rattle.schema_names.specs.Qualifying.{FoundEntityType, FoundAction, FoundSchema}
 use Rattle.schema_names.specs.Laws.{IsEntityType, NamesItsEntityTypes}
 use Rattle.schema.specs.Schemas.{type_uid, with_types, with_actions, type_parents}

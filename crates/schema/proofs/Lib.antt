@@ -1,3 +1,4 @@
+mod CycleLemmas
 mod AboveLemmas
 mod AnswersLemmas
 mod BuiltLemmas

@@ -12,16 +12,15 @@ use Rattle.json_words.specs.Each.{each, each_member}
 use Rattle.values.specs.declared.entity_uid.EntityUid.{EntityUid}
 use Rattle.values.specs.Names.{uid_cmp}
 use Rattle.values.specs.Paths.{is_path}
-use Rattle.schema_parts.specs.ancestor_closure.Deciding.{Contains-here, Contains-there, Contains-none, Contains-cases}
-use Rattle.schema_parts.specs.ancestor_closure.Deciding.{any_at, same_uid}
-use Rattle.schema_types.specs.Names.{is_qualified, full_name}
+use Rattle.ancestor_search.specs.Deciding.{Contains-here, Contains-there, Contains-none, Contains-cases}
+use Rattle.ancestor_search.specs.Deciding.{any_at, same_uid}
+use Rattle.schema_types.specs.Names.{is_qualified, full_name, Scope}
 use Rattle.schema_types.specs.TypeShape.{type_name}
-use Rattle.schema_names.specs.named_types.Actions.{action_type, action_uid, declared_action, first_of, action_of_type}
+use Rattle.schema_names.specs.schema_types.Actions.{action_type, action_uid, declared_action, first_of, action_of_type}
 use Rattle.schema_types.specs.declared.fault.SchemaFault.{SchemaFault}
 use Rattle.schema_types.specs.declared.fault.SchemaFault.TheVariants.{BadShape, UnknownName}
 use Rattle.schema_types.specs.Raw.{Raw}
 use Rattle.schema_types.specs.Qualified.{Qualified}
-use Rattle.schema_types.specs.Names.{Scope}
 use Rattle.schema_types.specs.Optional.{optional}
 use Rattle.schema_names.specs.schema_file.declared.stated.StatedParent.{StatedParent}
 use Rattle.schema_names.specs.schema_file.Stated.{EntityTypeOf, ActionOf, NamespaceOf, members_in, ident}

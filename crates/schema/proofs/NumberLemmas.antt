@@ -13,14 +13,14 @@ use Rattle.std.proofs.lemmas.List.Folds.{list_any-append}
 use Rattle.std.proofs.lemmas.Option.{slice_get_within}
 use Rattle.std.proofs.lemmas.Map.Views.{tells_apart}
 use Rattle.json_words.proofs.EachSame.{cut}
-use Rattle.schema_parts.specs.number_spans.declared.spans.Span.{Span}
-use Rattle.schema_parts.specs.number_spans.Spans.{in_span, has_number}
+use Rattle.schema.specs.declared.spans.Span.{Span}
+use Rattle.schema.specs.Spans.{in_span, has_number}
 use Rattle.values.specs.declared.entity_uid.EntityUid.{EntityUid}
 use Rattle.values.specs.Names.{uid_cmp, text_cmp, uid_cmp-IsAntisymmetric}
-use Rattle.schema_parts.specs.ancestor_closure.Hierarchy.{Parents, Path, Above, IsAllAbove, names}
-use Rattle.schema_parts.specs.ancestor_closure.Deciding.{Contains-here, Contains-there, Contains-cases, Contains-none}
+use Rattle.ancestor_search.specs.Hierarchy.{Parents, Path, Above, IsAllAbove, names}
+use Rattle.ancestor_search.specs.Deciding.{Contains-here, Contains-there, Contains-cases, Contains-none}
 use Rattle.schema_names.specs.Qualifying.{FoundEntityType}
-use Rattle.schema_parts.specs.LookUps.{has_number_at}
+use Rattle.schema.specs.LookUps.{has_number_at}
 use Rattle.schema.specs.declared.numbering.Numbered.{Numbered}
 use Rattle.schema.specs.declared.type_numbers.TypeNumbers.{TypeNumbers}
 use Rattle.schema.specs.Schemas.{type_uid}

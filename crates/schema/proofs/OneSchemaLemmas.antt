@@ -9,8 +9,8 @@ use Rattle.std.specs.declared.cmp.Ordering.{Ordering}
 use Rattle.std.specs.declared.cmp.Ordering.TheVariants.{Less, Equal}
 use Rattle.std.proofs.lemmas.Cmp.{on_total}
 use Rattle.values.specs.declared.entity_uid.EntityUid.{EntityUid}
-use Rattle.schema_parts.specs.ancestor_closure.Hierarchy.{AscendingListsAreOne}
-use Rattle.schema_parts.specs.ancestor_closure.Deciding.{Contains-here, Contains-there, Contains-cases, Contains-none}
+use Rattle.ancestor_search.specs.Hierarchy.{AscendingListsAreOne}
+use Rattle.ancestor_search.specs.Deciding.{Contains-here, Contains-there, Contains-cases, Contains-none}
 use Rattle.schema_types.specs.Qualified.{Qualified}
 use Rattle.schema_types.specs.Cedar.{Cedar}
 use Rattle.schema_types.specs.Law.{OneWritten}
@@ -18,7 +18,7 @@ use Rattle.schema_names.specs.schema_file.Once.{AreApart}
 use Rattle.schema_names.specs.Qualifying.{FoundEntityType, FoundUse, FoundAction, FoundSchema}
 use Rattle.schema_names.specs.Laws as names
 use Rattle.schema_names.specs.Laws.{DeclaresOnce}
-use Rattle.schema_parts.specs.declared.parts.Place.{Place}
+use Rattle.schema.specs.declared.parts.Place.{Place}
 use Rattle.schema.specs.Schemas.{StatedSchema, EnvironmentOf, Answers, Applies, IsRecordOf, IsEnvironment, IsPlace}
 use Rattle.schema.specs.Schemas.{place_cmp}
 use Rattle.schema.specs.Outcomes.{OneSchema}

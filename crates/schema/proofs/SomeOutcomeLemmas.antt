@@ -7,11 +7,9 @@ use Rattle.std.specs.Ordering.{is_eq}
 use Rattle.std.proofs.lemmas.List.Elements.{Contains-append_left, Contains-append_right}
 use Rattle.values.specs.declared.entity_uid.EntityUid.{EntityUid}
 use Rattle.values.specs.Names.{uid_cmp, uid_cmp-IsTotalOrder, uid_cmp-IsAntisymmetric}
-use Rattle.schema_parts.specs.ancestor_closure.Hierarchy.{Parents, Path, IsAllAbove, IsAscending, IsOnCycle, no_parents}
-use Rattle.schema_parts.specs.ancestor_closure.Hierarchy.{with_parents}
-use Rattle.schema_parts.specs.ancestor_closure.Decided.{Decides, HaveAllParents, PathsAreDecided, reaches}
-use Rattle.schema_parts.specs.ancestor_closure.Deciding.{Contains-here, Contains-there, Contains-cases, Contains-none}
-use Rattle.schema_parts.specs.ancestor_closure.Deciding.{same_uid}
+use Rattle.ancestor_search.specs.Hierarchy.{Parents, Path, IsAllAbove, IsAscending, IsOnCycle, no_parents, with_parents}
+use Rattle.ancestor_search.specs.Decided.{Decides, HaveAllParents, PathsAreDecided, reaches}
+use Rattle.ancestor_search.specs.Deciding.{Contains-here, Contains-there, Contains-cases, Contains-none, same_uid}
 use Rattle.schema_types.specs.Qualified as qualified
 use Rattle.schema_types.specs.Qualified.{Qualified}
 use Rattle.schema_types.specs.Cedar.{Cedar, parts, deep, IsTooLarge}

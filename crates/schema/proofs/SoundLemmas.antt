@@ -5,7 +5,7 @@ use Rattle.schema_types.specs.Qualified.{Qualified}
 use Rattle.schema_types.specs.Cedar.{Cedar}
 use Rattle.schema_types.specs.WrittenOut as written
 use Rattle.schema_types.specs.WrittenOut.{Declarations, Declares, WrittenOut}
-use Rattle.written_types.specs.Knowledge.{Knowledge, AreWritten, AreWhole}
+use Rattle.schema_written_types.specs.Knowledge.{Knowledge, AreWritten, AreWhole}
 use Rattle.schema_types.specs.Outcome.{SomeStandsForNone, CommonsRefused, SizesRefused, TypeRefused}
 use Rattle.schema_types.specs.Outcome as outcome
 use Rattle.schema_types.specs.declared.fault.SchemaFault.{SchemaFault}

@@ -7,10 +7,10 @@ use Rattle.schema_types.specs.CedarViews.{cedar_view}
 use Rattle.schema_types.specs.WrittenOut.{Declarations}
 use Rattle.schema_types.specs.declared.cedar.CedarType.{CedarType}
 use Rattle.schema_names.specs.Qualifying.{FoundUse, FoundAction}
-use Rattle.schema_parts.specs.declared.parts.Place.{Place}
+use Rattle.schema.specs.declared.parts.Place.{Place}
 use Rattle.schema.specs.Schemas.{place_cmp, IsRecordOf}
 use Rattle.schema.specs.inner.Filling.{SomeMay, SomeMust, AllTold}
-use Rattle.schema_parts.specs.Places.{place_of}
+use Rattle.schema.specs.Places.{place_of}
 use Rattle.schema.specs.inner.Making.{Places, PlaceMay, PlaceMust, AddsPrincipals, UseMay, UseMust, AddsUse, ActionMay, ActionMust, AddsAction, IsWrittenAt, IsContextWritten}
 use Rattle.schema.proofs.FillingLemmas.{adds_as}
 

@@ -1,3 +1,7 @@
+pub mod Spans
+pub mod Cycles
+pub mod LookUps
+pub mod Places
 pub mod SchemaEntries
 pub mod Outcomes
 pub mod Schemas
@@ -5,6 +9,6 @@ pub mod Views
 pub mod WellFormed
 pub mod inner
 -- crates below, passed on to those above
+pub use Rattle.ancestor_search.specs as ancestor_search
 pub use Rattle.schema_names.specs as schema_names
 pub use Rattle.schema_names.specs.schema_file
-pub use Rattle.schema_parts.specs as schema_parts

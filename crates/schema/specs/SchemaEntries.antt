@@ -1,10 +1,10 @@
 -- What a schema keeps: of each list the entries ascend by their keys, each key once.
 use Rattle.std.specs.Prelude.{ℕ, List}
 use Rattle.std.specs.BTreeMap.{BTreeMap}
-use Rattle.schema_parts.specs.number_spans.declared.spans.Span.{Span}
+use Rattle.schema.specs.declared.spans.Span.{Span}
 use Rattle.values.specs.declared.entity_uid.EntityUid.{EntityUid}
-use Rattle.schema_parts.specs.declared.parts.Environment.{Environment}
-use Rattle.schema_parts.specs.declared.parts.EntityDecl.{EntityDecl}
+use Rattle.schema.specs.declared.parts.Environment.{Environment}
+use Rattle.schema.specs.declared.parts.EntityDecl.{EntityDecl}
 
 pub record SchemaEntries : Type 0 where
   pub label : List ℕ

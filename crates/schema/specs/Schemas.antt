@@ -7,9 +7,8 @@ use Rattle.std.specs.List.Sorted.{IsStrictlySortedBy}
 use Rattle.sha2.specs.Sha256.{sha256}
 use Rattle.hex.specs.Hex.{encode_lower}
 use Rattle.values.specs.declared.entity_uid.EntityUid.{EntityUid}
-use Rattle.schema_parts.specs.ancestor_closure.Hierarchy.{Parents, Above, IsAllAbove, IsAscending, IsOnCycle}
-use Rattle.schema_parts.specs.ancestor_closure.Hierarchy.{no_parents}
-use Rattle.schema_parts.specs.ancestor_closure.Hierarchy.{with_parents}
+use Rattle.ancestor_search.specs.Hierarchy.{Parents, Above, IsAllAbove, IsAscending, IsOnCycle, no_parents}
+use Rattle.ancestor_search.specs.Hierarchy.{with_parents}
 use Rattle.schema_types.specs.Qualified as qualified
 use Rattle.schema_types.specs.Qualified.{Qualified}
 use Rattle.schema_types.specs.Cedar.{Cedar, record_of, no_fields, IsTooLarge}
@@ -20,8 +19,8 @@ use Rattle.schema_types.specs.declared.fault.SchemaFault.TheVariants.{TypeCycle,
 use Rattle.schema_names.specs.Qualifying.{FoundEntityType, FoundUse, FoundAction, FoundSchema}
 use Rattle.schema_names.specs.Naming.{StatesNamed, NamingRefused}
 use Rattle.schema_names.specs.Laws.{IsShapeOrContext}
-use Rattle.schema_parts.specs.declared.parts.Place.{Place}
-pub use Rattle.schema_parts.specs.Places.{place_cmp}
+use Rattle.schema.specs.declared.parts.Place.{Place}
+pub use Rattle.schema.specs.Places.{place_cmp}
 
 -- ---- what a schema answers
 

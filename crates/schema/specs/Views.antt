@@ -2,14 +2,14 @@
 use Rattle.std.specs.Prelude.{List, ℕ, map, filter, Option, option_map}
 use Rattle.std.specs.Map.{lookup}
 use Rattle.std.specs.BTreeMap.{is_at}
-use Rattle.schema_parts.specs.number_spans.declared.spans.Span.{Span}
+use Rattle.schema.specs.declared.spans.Span.{Span}
 use Rattle.values.specs.declared.entity_uid.EntityUid.{EntityUid}
 use Rattle.values.specs.Names.{text_cmp}
 use Rattle.schema_types.specs.Cedar.{Cedar}
 use Rattle.schema_types.specs.CedarViews.{cedar_view}
-use Rattle.schema_parts.specs.declared.parts.Environment.{Environment}
-use Rattle.schema_parts.specs.declared.parts.EntityDecl.{EntityDecl}
-pub use Rattle.schema_parts.specs.LookUps.{parents_at, is_above, is_action_above}
+use Rattle.schema.specs.declared.parts.Environment.{Environment}
+use Rattle.schema.specs.declared.parts.EntityDecl.{EntityDecl}
+pub use Rattle.schema.specs.LookUps.{parents_at, is_above, is_action_above}
 use Rattle.schema.specs.SchemaEntries.{SchemaEntries}
 use Rattle.schema.specs.Schemas.{EnvironmentOf, StatedSchema, IsSchemaOf}
 

@@ -2,11 +2,11 @@
 use Rattle.std.specs.Prelude.{◌≡◌, ◌↔◌, ℕ, List, map, Contains, IsTrue, IsSome, Option, Some}
 use Rattle.std.specs.List.Sorted.{IsStrictlySortedBy}
 use Rattle.values.specs.declared.entity_uid.EntityUid.{EntityUid}
-use Rattle.schema_parts.specs.ancestor_closure.Hierarchy.{IsAscending}
+use Rattle.ancestor_search.specs.Hierarchy.{IsAscending}
 use Rattle.schema_types.specs.Cedar.{Cedar, CedarFields, record_of, IsTooLarge}
 use Rattle.schema_types.specs.Mentions.{NamesEntity}
 use Rattle.schema_types.specs.Ascending.{KeysAscend}
-use Rattle.schema_names.specs.named_types.Actions.{action_type}
+use Rattle.schema_names.specs.schema_types.Actions.{action_type}
 use Rattle.schema.specs.Schemas.{EnvironmentOf, StatedSchema, IsSchemaOf, place_cmp}
 
 -- the attributes of an entity type, or a context: a record within the limits, whose keys ascend, at every depth

@@ -1,8 +1,10 @@
 //! What a schema answers.
 
 use crate::laws::stated_schemas_are_well_formed;
+use crate::lookups::{is_action_above, may_have_parent, parents_at};
+use crate::parts::{EntityDecl, Environment};
+use crate::spans::Span;
 use plain::{Items, Text};
-use schema_parts::{EntityDecl, Environment, Span, is_action_above, may_have_parent, parents_at};
 use std::collections::BTreeMap;
 use std::marker::Model;
 use values::{EntityUid, TypeName};

@@ -2,25 +2,25 @@
 ghost use Rattle.std.specs.Prelude.{◌≢◌, OnOk, MatchResult, map, option_map};
 ghost use Rattle.schema_types.specs.QualifiedViews.{qualified_view};
 ghost use Rattle.schema_types.specs.WrittenOut.{Declarations};
-ghost use Rattle.written_types.specs.Knowledge.{AreWritten};
-ghost use Rattle.written_types.specs.TableViews.{knowledge};
+ghost use Rattle.schema_written_types.specs.Knowledge.{AreWritten};
+ghost use Rattle.schema_written_types.specs.TableViews.{knowledge};
 ghost use Rattle.schema_types.specs.declared.fault.SchemaFault.TheVariants as SchemaFault;
 ghost use Rattle.schema_names.specs.FoundViews.{found_use_view, found_action_view};
-ghost use Rattle.schema.specs.inner.Making.{IsClosedAt};
-ghost use Rattle.schema.specs.inner.Making.{IsRefusedAt, AddsPlace, AddsResources};
+ghost use Rattle.schema.specs.inner.Making.{IsClosedAt, IsRefusedAt, AddsPlace, AddsResources};
 ghost use Rattle.schema.specs.inner.Making.{AddsPrincipals, AddsUse, AddsAction, IsContextClosed, IsContextRefused};
 ghost use Rattle.schema.specs.inner.Making.{AreContextsClosed, SomeContextIsRefused, ArePlaces};
 
+use crate::listed_environments::make_place;
 use crate::maps::put;
+use crate::parts::Place;
 use crate::shapes::make_record;
 use plain::{NoMemory, Shared};
 use schema_names::{FoundAction, FoundUse};
-use schema_parts::{Place, make_place};
 use schema_types::{CedarType, SchemaFault};
+use schema_written_types::Table;
 use std::alloc::Global;
 use std::collections::BTreeMap;
 use values::{EntityUid, TypeName};
-use written_types::Table;
 
 /// Adds one place with the type of its context.
 fn add_place(

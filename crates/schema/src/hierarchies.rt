@@ -1,16 +1,16 @@
 //! The hierarchies of actions and of entity types.
 ghost use Rattle.std.specs.Prelude.{◌≡◌, IfOk, OnOk, map};
 ghost use Rattle.std.specs.BTreeMap.{keys};
-ghost use Rattle.schema_parts.specs.ancestor_closure.Hierarchy.{IsAscending, names, no_parents, with_parents};
-ghost use Rattle.schema_parts.specs.ancestor_closure.contracts.searched.SearchedAncestry.TheImpl as searched;
+ghost use Rattle.ancestor_search.specs.Hierarchy.{IsAscending, names, no_parents, with_parents};
+ghost use Rattle.ancestor_search.specs.contracts.searched.SearchedAncestry.TheImpl as searched;
 ghost use Rattle.schema_names.specs.FoundViews.{found_action_view, found_entity_type_view};
 ghost use Rattle.schema.specs.Schemas.{with_actions, with_types, type_uid};
 ghost use Rattle.schema.specs.inner.Making.{AddsMember, AreMembers};
 
 use crate::maps::put;
+use ancestor_search::{Hierarchy, ParentsOf, Searched};
 use plain::{Items, NoMemory};
 use schema_names::{FoundAction, FoundEntityType};
-use schema_parts::{Hierarchy, ParentsOf, Searched};
 use std::alloc::Global;
 use std::collections::BTreeMap;
 use values::{EntityUid, SharedText, TypeName};

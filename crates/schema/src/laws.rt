@@ -2,11 +2,11 @@
 ghost use Rattle.schema.specs.Outcomes.{OneSchema, NotBoth, OneRefusal, SomeOutcome};
 ghost use Rattle.schema.specs.WellFormed.{StatedSchemasAreWellFormed};
 
+use ancestor_search::laws::{ascending_lists_are_one, paths_are_decided};
 use schema_names::{
     files_are_in_order, files_name_their_entity_types, files_name_their_own, not_both, one_file,
     one_refusal, shapes_are_records, some_outcome,
 };
-use schema_parts::{ascending_lists_are_one, paths_are_decided};
 use schema_types::{
     keys_ascend, one_written, types_stand_for_one_or_some_for_none, written_entities_are_named,
 };

@@ -1,19 +1,30 @@
 //! The schema that bytes state: which entity types and actions there are, of what shape, above each other how, and in
-//! which environments requests stand.
+//! which environments requests stand; and how it is looked up.
 #![tactic(auto)]
 
 mod answers;
+mod cycles;
 mod environments;
 mod hierarchies;
+mod label;
 mod laws;
+mod listed_environments;
+mod lookups;
 mod maps;
 mod numbering;
+mod parts;
 mod reading;
 mod shapes;
+mod spans;
 mod type_numbers;
 
 pub use answers::Schema;
+pub use cycles::demand_no_cycle;
+pub use label::label_of;
 pub use laws::{bytes_have_one_outcome, stated_schemas_are_well_formed};
+pub use listed_environments::{listed, make_place};
+pub use lookups::{is_action_above, may_have_parent, parents_at};
+pub use parts::{EntityDecl, Environment, Place};
 pub use reading::read_schema;
-pub use schema_parts::{EntityDecl, Environment, Place};
 pub use schema_types::{CedarType, SchemaFault};
+pub use spans::{Span, has_number, joined};

@@ -9,20 +9,20 @@ ghost use Rattle.std.specs.List.{slice_get};
 ghost use Rattle.std.specs.BTreeMap.{get};
 ghost use Rattle.values.specs.Names.{uid_cmp};
 ghost use Rattle.values.specs.declared.entity_uid.EntityUid.{EntityUid};
-ghost use Rattle.schema_parts.specs.ancestor_closure.Hierarchy.{names};
-ghost use Rattle.schema_parts.specs.ancestor_closure.contracts.searched.SearchedAncestry.TheImpl as searched;
-ghost use Rattle.schema.specs.inner.Numbering.{IsApart, IsNumbering, IsNumbered, NumbersAll, AddsNumber};
+ghost use Rattle.ancestor_search.specs.Hierarchy.{names};
+ghost use Rattle.ancestor_search.specs.contracts.searched.SearchedAncestry.TheImpl as searched;
+ghost use Rattle.schema.specs.inner.Numbering.{IsApart, IsNumbering, IsNumbered, NumbersAll, AddsNumber, AreAbove};
 ghost use Rattle.schema.specs.inner.Numbering.{KeepsAbove, HasAbove};
 ghost use Rattle.schema.specs.inner.Numbering.{AddsParent, AddsParents, single, single_of, singles, HasSpans};
-ghost use Rattle.schema.specs.inner.Numbering.{AreAbove};
 
 use crate::maps::put;
+use crate::spans::{Span, joined};
+use ancestor_search::{Ancestry, ParentsOf, Searched};
 use plain::{Items, NoMemory};
-use schema_parts::{Ancestry, ParentsOf, Searched, Span, joined};
+use schema_written_types::ends_first;
 use std::alloc::Global;
 use std::collections::BTreeMap;
 use values::EntityUid;
-use written_types::ends_first;
 
 /// Entities that have numbers: the number of each is its place in the list.
 #[derive(Drop)]

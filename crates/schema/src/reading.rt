@@ -1,9 +1,9 @@
 //! From bytes to a schema.
 ghost use Rattle.std.specs.Prelude.{◌≢◌, IfOk, MatchResult};
-ghost use Rattle.schema_parts.specs.ancestor_closure.contracts.searched.SearchedAncestry.TheImpl as searched;
+ghost use Rattle.ancestor_search.specs.contracts.searched.SearchedAncestry.TheImpl as searched;
 ghost use Rattle.schema_types.specs.WrittenOut.{Declarations};
-ghost use Rattle.written_types.specs.Knowledge.{AreWritten, AreWhole};
-ghost use Rattle.written_types.specs.TableViews.{knowledge};
+ghost use Rattle.schema_written_types.specs.Knowledge.{AreWritten, AreWhole};
+ghost use Rattle.schema_written_types.specs.TableViews.{knowledge};
 ghost use Rattle.schema_types.specs.declared.fault.SchemaFault.TheVariants as SchemaFault;
 ghost use Rattle.schema_names.specs.FoundViews.{found_view};
 ghost use Rattle.schema_names.specs.Laws.{NamesItsOwn};
@@ -14,19 +14,23 @@ ghost use Rattle.schema.specs.inner.Reading.{AreEdges, AreTypesClosed, AreTypesO
 ghost use Rattle.schema.specs.inner.Reading.{AreHierarchiesOf, TypesRefused, EdgesRefused};
 
 use crate::answers::Schema;
+use crate::cycles::demand_no_cycle;
 use crate::environments::make_places;
 use crate::hierarchies::{action_edges, make_members, type_edges, uids_of};
+use crate::label::label_of;
+use crate::listed_environments::listed;
 use crate::numbering::{Above, above_each};
+use crate::parts::{EntityDecl, Environment};
 use crate::shapes::make_shapes;
 use crate::type_numbers::{TypeNumbers, number_types};
+use ancestor_search::Searched;
 use plain::{Items, NoMemory};
 use schema_names::{Found, files_name_their_entity_types, files_name_their_own, read_named};
-use schema_parts::{EntityDecl, Environment, Searched, demand_no_cycle, label_of, listed};
 use schema_types::SchemaFault;
+use schema_written_types::{Table, demand_sizes, write_commons};
 use std::alloc::Global;
 use std::collections::BTreeMap;
 use values::{EntityUid, TypeName};
-use written_types::{Table, demand_sizes, write_commons};
 
 /// Shapes and environments.
 #[derive(Drop)]

@@ -4,22 +4,22 @@ ghost use Rattle.schema_types.specs.QualifiedViews.{qualified_view};
 ghost use Rattle.schema_types.specs.Cedar.{record_of, no_fields};
 ghost use Rattle.schema_types.specs.CedarViews.{cedar_view};
 ghost use Rattle.schema_types.specs.WrittenOut.{Declarations};
-ghost use Rattle.written_types.specs.Knowledge.{AreWritten};
-ghost use Rattle.written_types.specs.TableViews.{knowledge};
+ghost use Rattle.schema_written_types.specs.Knowledge.{AreWritten};
+ghost use Rattle.schema_written_types.specs.TableViews.{knowledge};
 ghost use Rattle.schema_types.specs.declared.fault.SchemaFault.TheVariants as SchemaFault;
 ghost use Rattle.schema_names.specs.FoundViews.{found_entity_type_view};
 ghost use Rattle.schema.specs.inner.Making.{IsClosedAt, IsMade, IsRefusedAt, AddsShape, AreShapesClosed};
 ghost use Rattle.schema.specs.inner.Making.{SomeShapeIsRefused, AreShapes};
 
 use crate::maps::put;
+use crate::parts::EntityDecl;
 use plain::{Items, Shared};
 use schema_names::FoundEntityType;
-use schema_parts::EntityDecl;
 use schema_types::{CedarType, QualifiedType, SchemaFault};
+use schema_written_types::{Table, write_whole};
 use std::alloc::Global;
 use std::collections::BTreeMap;
 use values::TypeName;
-use written_types::{Table, write_whole};
 
 /// Returns the record without attributes.
 fn no_attributes(alloc: Global) -> Result<CedarType, SchemaFault>

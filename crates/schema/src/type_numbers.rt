@@ -2,16 +2,17 @@
 ghost use Rattle.std.specs.Prelude.{◌≡◌, Some, IfOk, OnOk, map};
 ghost use Rattle.std.specs.BTreeMap.{get, Updates};
 ghost use Rattle.values.specs.Names.{uid_cmp, text_cmp};
-ghost use Rattle.schema_parts.specs.ancestor_closure.contracts.searched.SearchedAncestry.TheImpl as searched;
+ghost use Rattle.ancestor_search.specs.contracts.searched.SearchedAncestry.TheImpl as searched;
 ghost use Rattle.schema_names.specs.FoundViews.{found_entity_type_view};
 ghost use Rattle.schema.specs.inner.Numbering.{AddsName, AreNames, type_points, AreNumbers};
 
 use crate::hierarchies::type_uid;
 use crate::maps::put;
 use crate::numbering::above_each;
+use crate::spans::Span;
+use ancestor_search::Searched;
 use plain::{Items, NoMemory};
 use schema_names::FoundEntityType;
-use schema_parts::{Searched, Span};
 use std::alloc::Global;
 use std::collections::BTreeMap;
 use values::{EntityUid, TypeName};

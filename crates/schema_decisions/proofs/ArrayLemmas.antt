@@ -8,16 +8,16 @@ use Rattle.json_words.specs.Json.{json_of}
 use Rattle.json_words.specs.ReadsAs.{◌>>=◌, Fails, demand}
 use Rattle.json_words.specs.Each.{each}
 use Rattle.json_words.proofs.EachLemmas.{bind_ok}
-use Rattle.policy_checks.specs.json_values.Arrays.{array_of, each_of}
-use Rattle.policy_checks.proofs.of_json_values.Readings.{SoFar, before, items_read}
+use Rattle.decision_texts.specs.json_values.Arrays.{array_of, each_of}
+use Rattle.decision_texts.proofs.of_json_values.Readings.{SoFar, before, items_read}
 use Rattle.values.specs.declared.entity_uid.EntityUid.{EntityUid}
-use Rattle.entity_store.specs.schema.Schemas.{StatedSchema}
-use Rattle.entity_store.specs.entity_worlds.declared.entity.Entity.{Entity}
-use Rattle.entity_store.specs.entities.declared.fault.EntityFault.{EntityFault}
-use Rattle.entity_store.specs.entities.declared.fault.EntityFault.TheVariants.{NoMemory}
-use Rattle.entity_store.specs.entities.Entities.{entity_stated_in}
-use Rattle.policy_checks.specs.decision_texts.declared.refusal.Refusal.{Refusal}
-use Rattle.policy_checks.specs.decision_texts.Refusals.{no_memory, bad_shape}
+use Rattle.entity_hierarchy.specs.schema.Schemas.{StatedSchema}
+use Rattle.entity_hierarchy.specs.entity_data.declared.entity.Entity.{Entity}
+use Rattle.entity_hierarchy.specs.entities.declared.fault.EntityFault.{EntityFault}
+use Rattle.entity_hierarchy.specs.entities.declared.fault.EntityFault.TheVariants.{NoMemory}
+use Rattle.entity_hierarchy.specs.entities.Entities.{entity_stated_in}
+use Rattle.decision_texts.specs.declared.refusal.Refusal.{Refusal}
+use Rattle.decision_texts.specs.Refusals.{no_memory, bad_shape}
 use Rattle.schema_decisions.specs.Refusals.{entity_refusal}
 use Rattle.schema_decisions.specs.EntityArrays.{names, placed, entity_at, entities_in, entities_of}
 use Rattle.schema_decisions.specs.inner.Stores.{is_among, entity_after}

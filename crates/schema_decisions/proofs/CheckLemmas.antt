@@ -5,12 +5,12 @@ use Rattle.std.proofs.lemmas.List.{drop_all}
 use Rattle.std.proofs.lemmas.List.Elements.{All-nil, All-cons}
 use Rattle.std.specs.declared.alloc.Global.{Global}
 use Rattle.std.specs.declared.string.String.{String}
-use Rattle.entity_store.specs.policy_grammar.declared.policy.Policy.{Policy}
-use Rattle.entity_store.specs.schema.Schemas.{StatedSchema}
-use Rattle.policy_checks.specs.validator.Passing.{Passes}
-use Rattle.policy_checks.specs.decision_texts.declared.refusal.Refusal.{Refusal}
+use Rattle.entity_hierarchy.specs.policy_grammar.declared.policy.Policy.{Policy}
+use Rattle.entity_hierarchy.specs.schema.Schemas.{StatedSchema}
+use Rattle.validator.specs.Passing.{Passes}
+use Rattle.decision_texts.specs.declared.refusal.Refusal.{Refusal}
 use Rattle.plain.specs.Refused.{OrNoMemory}
-use Rattle.policy_checks.specs.decision_texts.Refusals.{no_memory}
+use Rattle.decision_texts.specs.Refusals.{no_memory}
 use Rattle.schema_decisions.specs.Policies.{IsUnpassed, FirstUnpassed, unpassed_here, unpassed_later}
 
 abbrev Files : Type 0

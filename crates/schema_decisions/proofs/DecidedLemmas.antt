@@ -2,17 +2,17 @@
 use Rattle.std.proofs.Common.{◌≡◌, ℕ, List, map, string_bytes, String, Global, Result, Ok, Err, sym, subst}
 use Rattle.std.specs.Prelude.{⊤, All, IfOk, IfErr, MatchResult}
 use Rattle.values.specs.declared.request.Request.{Request}
-use Rattle.entity_store.specs.policy_grammar.declared.policy.Policy.{Policy}
-use Rattle.entity_store.specs.evaluator.Operators.{World}
-use Rattle.entity_store.specs.authoriser.declared.answer.Answer.{Answer}
-use Rattle.entity_store.specs.authoriser.Answers.{NamedPolicy, IsAnswer}
-use Rattle.entity_store.specs.schema.Schemas.{StatedSchema}
-use Rattle.entity_store.specs.entity_worlds.Keeping.{Entries}
-use Rattle.policy_checks.specs.validator.Passing.{Passes}
-use Rattle.policy_checks.specs.decision_texts.declared.refusal.Refusal.{Refusal}
-use Rattle.policy_checks.specs.decision_texts.Decisions.{ArePoliciesOf, IsInOrder}
+use Rattle.entity_hierarchy.specs.policy_grammar.declared.policy.Policy.{Policy}
+use Rattle.entity_hierarchy.specs.evaluator.Operators.{World}
+use Rattle.entity_hierarchy.specs.authoriser.declared.answer.Answer.{Answer}
+use Rattle.entity_hierarchy.specs.authoriser.Answers.{NamedPolicy, IsAnswer}
+use Rattle.entity_hierarchy.specs.schema.Schemas.{StatedSchema}
+use Rattle.entity_hierarchy.specs.entity_data.Keeping.{Entries}
+use Rattle.validator.specs.Passing.{Passes}
+use Rattle.decision_texts.specs.declared.refusal.Refusal.{Refusal}
+use Rattle.decision_texts.specs.Decisions.{ArePoliciesOf, IsInOrder}
 use Rattle.plain.specs.Refused.{OrNoMemory}
-use Rattle.policy_checks.specs.decision_texts.Refusals.{no_memory}
+use Rattle.decision_texts.specs.Refusals.{no_memory}
 use Rattle.schema_decisions.specs.Policies.{FirstUnpassed, ArePassing, ArePassingRefused, unpassed}
 use Rattle.schema_decisions.specs.EntityArrays.{entities_of}
 use Rattle.schema_decisions.specs.Requests.{IsRequestRefused}

@@ -1,21 +1,21 @@
 -- Faults of each text, or want of memory.
 use Rattle.std.proofs.Common.{ℕ, List, None, ap, refl}
 use Rattle.std.specs.Prelude.{◌≢◌}
-use Rattle.entity_store.specs.policy_grammar.declared.policy.Policy.{Policy}
+use Rattle.entity_hierarchy.specs.policy_grammar.declared.policy.Policy.{Policy}
 use Rattle.plain.specs.Refused.{OrNoMemory}
-use Rattle.policy_checks.specs.decision_texts.Refusals.{no_memory}
-use Rattle.entity_store.specs.schema.Schemas.{StatedSchema}
-use Rattle.entity_store.specs.entities.declared.fault.EntityFault.{EntityFault}
-use Rattle.entity_store.specs.entities.declared.fault.EntityFault.TheVariants as entity_fault
-use Rattle.policy_checks.specs.validator.declared.fault.CheckFault.{CheckFault}
-use Rattle.policy_checks.specs.validator.declared.fault.CheckFault.TheVariants as check_fault
-use Rattle.policy_checks.specs.validator.Passing.{IsCheckRefused}
-use Rattle.policy_checks.specs.Refusals.{check_refusal}
+use Rattle.decision_texts.specs.Refusals.{no_memory}
+use Rattle.entity_hierarchy.specs.schema.Schemas.{StatedSchema}
+use Rattle.entity_hierarchy.specs.entities.declared.fault.EntityFault.{EntityFault}
+use Rattle.entity_hierarchy.specs.entities.declared.fault.EntityFault.TheVariants as entity_fault
+use Rattle.validator.specs.declared.fault.TypeFault.{TypeFault}
+use Rattle.validator.specs.declared.fault.TypeFault.TheVariants as check_fault
+use Rattle.validator.specs.Passing.{IsCheckRefused}
+use Rattle.schema_decisions.specs.CheckRefusals.{check_refusal}
 use Rattle.schema_decisions.specs.Refusals.{entity_refusal}
 use Rattle.schema_decisions.specs.Policies.{IsUnpassed}
 use Rattle.schema_decisions.specs.Requests.{IsRequestFault, IsRequestRefused}
 
-pub policy_told : (s : StatedSchema) (place : ℕ) (p : Policy) (why : CheckFault) → (why ≢ check_fault.NoMemory → IsCheckRefused s p why)
+pub policy_told : (s : StatedSchema) (place : ℕ) (p : Policy) (why : TypeFault) → (why ≢ check_fault.NoMemory → IsCheckRefused s p why)
     → OrNoMemory no_memory (IsUnpassed s place p) (check_refusal place why)
 policy_told s place p why due other = record { fault = why; due = due (λ e. other (ap (check_refusal place) e)); is = refl }
 

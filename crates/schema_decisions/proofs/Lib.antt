@@ -1,3 +1,7 @@
+pub mod CheckFaultLemmas
+pub mod LineLemmas
+pub mod TellingLemmas
+pub mod CheckOutcomeLemmas
 pub mod ArrayLemmas
 pub mod CheckLemmas
 pub mod DecidedLemmas
@@ -6,4 +10,5 @@ pub mod LineOrRefusal
 pub mod OutcomeLemmas
 pub mod StoreLemmas
 -- crates below, passed on to those above
-pub use Rattle.policy_checks.proofs.of_json_values
+pub use Rattle.decision_texts.proofs as of_decision_texts
+pub use Rattle.decision_texts.proofs.of_json_values

@@ -6,23 +6,23 @@ use Rattle.std.proofs.lemmas.List.Elements.{All-nil, All-cons}
 use Rattle.serde_json.specs.Data.{Data}
 use Rattle.json_words.specs.Json.{json_of}
 use Rattle.values.specs.declared.request.Request.{Request}
-use Rattle.entity_store.specs.policy_grammar.declared.policy.Policy.{Policy}
-use Rattle.entity_store.specs.authoriser.Laws.{OneAnswerInFiniteHierarchies}
-use Rattle.entity_store.specs.schema.Schemas.{StatedSchema, IsSchemaOf}
-use Rattle.entity_store.specs.schema.Outcomes as schemas
-use Rattle.entity_store.specs.entity_worlds.declared.entity.Entity.{Entity}
-use Rattle.entity_store.specs.entities.declared.fault.EntityFault.{EntityFault}
-use Rattle.entity_store.specs.entities.declared.fault.EntityFault.TheVariants.{BadShape}
-use Rattle.entity_store.specs.entities.Requests.{StatesRequest, RequestRefused}
-use Rattle.entity_store.specs.entities.Laws as requests
-use Rattle.policy_checks.specs.validator.Passing.{Passes}
-use Rattle.policy_checks.specs.validator.Outcomes as checks
-use Rattle.policy_checks.specs.decision_texts.declared.refusal.Refusal.{Refusal}
-use Rattle.policy_checks.specs.decision_texts.Lines.{answer_line}
-use Rattle.policy_checks.specs.decision_texts.Decisions.{ArePoliciesOf, named_policies}
-use Rattle.policy_checks.specs.Refusals.{schema_refusal, check_refusal}
-use Rattle.policy_checks.specs.Outcomes as texts
-use Rattle.policy_checks.specs.Outcomes.{IsOutcomeOfTexts, TextsHaveOneOutcome}
+use Rattle.entity_hierarchy.specs.policy_grammar.declared.policy.Policy.{Policy}
+use Rattle.entity_hierarchy.specs.authoriser.Laws.{OneAnswerInFiniteHierarchies}
+use Rattle.entity_hierarchy.specs.schema.Schemas.{StatedSchema, IsSchemaOf}
+use Rattle.entity_hierarchy.specs.schema.Outcomes as schemas
+use Rattle.entity_hierarchy.specs.entity_data.declared.entity.Entity.{Entity}
+use Rattle.entity_hierarchy.specs.entities.declared.fault.EntityFault.{EntityFault}
+use Rattle.entity_hierarchy.specs.entities.declared.fault.EntityFault.TheVariants.{BadShape}
+use Rattle.entity_hierarchy.specs.entities.Requests.{StatesRequest, RequestRefused}
+use Rattle.entity_hierarchy.specs.entities.Laws as requests
+use Rattle.validator.specs.Passing.{Passes}
+use Rattle.validator.specs.Outcomes as checks
+use Rattle.decision_texts.specs.declared.refusal.Refusal.{Refusal}
+use Rattle.decision_texts.specs.Lines.{answer_line}
+use Rattle.decision_texts.specs.Decisions.{ArePoliciesOf, named_policies}
+use Rattle.schema_decisions.specs.CheckRefusals.{schema_refusal, check_refusal}
+use Rattle.schema_decisions.specs.CheckOutcomes as texts
+use Rattle.schema_decisions.specs.CheckOutcomes.{IsOutcomeOfTexts, TextsHaveOneOutcome}
 use Rattle.schema_decisions.specs.Refusals.{entity_refusal}
 use Rattle.schema_decisions.specs.Policies.{ArePassing, FirstUnpassed, unpassed_here, unpassed_later, unread, unpassed}
 use Rattle.schema_decisions.specs.EntityArrays.{entities_of}
@@ -32,8 +32,8 @@ use Rattle.schema_decisions.specs.Decisions.{by_request, IsDecidedUnder, IsRefus
 use Rattle.schema_decisions.specs.Decisions.{by_policies, by_question, IsDecided, IsSchemaDecisionRefused, by_schema}
 use Rattle.schema_decisions.specs.Decisions.{under_schema}
 use Rattle.schema_decisions.specs.Outcomes.{LineOrRefusal}
-use Rattle.policy_checks.proofs.of_decision_texts.PolicyTexts.{PoliciesOrNone}
-use Rattle.policy_checks.proofs.of_decision_texts.NameLemmas.{some_order}
+use Rattle.decision_texts.proofs.PolicyTexts.{PoliciesOrNone}
+use Rattle.decision_texts.proofs.NameLemmas.{some_order}
 use Rattle.schema_decisions.proofs.StoreLemmas.{with_parents, all_parents}
 
 -- the laws of what the texts are made of

@@ -6,30 +6,30 @@ use Rattle.std.proofs.lemmas.List.Elements.{All-head, All-tail}
 use Rattle.serde_json.specs.Data.{Data}
 use Rattle.json_words.specs.Json.{json_of}
 use Rattle.values.specs.declared.request.Request.{Request}
-use Rattle.entity_store.specs.policy_grammar.declared.policy.Policy.{Policy}
-use Rattle.entity_store.specs.policy_grammar.PolicyText.{IsFileRefused}
-use Rattle.entity_store.specs.policy_grammar.Unique.{HasOneReading, IsFileOf, EachIsNamed, NamesDiffer}
-use Rattle.entity_store.specs.authoriser.declared.answer.Answer.{Answer}
-use Rattle.entity_store.specs.evaluator.Operators.{World}
-use Rattle.entity_store.specs.authoriser.Answers.{NamedPolicy, IsAnswer}
-use Rattle.entity_store.specs.authoriser.Laws.{OneAnswerInFiniteHierarchies, ListsAscend}
-use Rattle.entity_store.specs.schema.Schemas.{StatedSchema, IsSchemaOf}
-use Rattle.entity_store.specs.schema.Outcomes as schemas
-use Rattle.entity_store.specs.entity_worlds.declared.entity.Entity.{Entity}
-use Rattle.entity_store.specs.entities.declared.fault.EntityFault.{EntityFault}
-use Rattle.entity_store.specs.entities.declared.fault.EntityFault.TheVariants.{BadShape}
-use Rattle.entity_store.specs.entities.Requests.{StatesRequest, RequestRefused}
-use Rattle.entity_store.specs.entities.Laws as requests
-use Rattle.entity_store.specs.Laws.{MemberOfIsKept}
-use Rattle.policy_checks.specs.validator.declared.fault.CheckFault.{CheckFault}
-use Rattle.policy_checks.specs.validator.Passing.{Passes, IsCheckRefused}
-use Rattle.policy_checks.specs.validator.Outcomes as checks
-use Rattle.policy_checks.specs.decision_texts.declared.refusal.Refusal.{Refusal}
-use Rattle.policy_checks.specs.decision_texts.Lines.{answer_line}
-use Rattle.policy_checks.specs.decision_texts.Decisions.{ArePoliciesOf, ArePoliciesRefused, named_policies}
-use Rattle.policy_checks.specs.Refusals.{schema_refusal, check_refusal}
-use Rattle.policy_checks.specs.Outcomes as texts
-use Rattle.policy_checks.specs.Outcomes.{TextsHaveOneOutcome}
+use Rattle.entity_hierarchy.specs.policy_grammar.declared.policy.Policy.{Policy}
+use Rattle.entity_hierarchy.specs.policy_grammar.PolicyText.{IsFileRefused}
+use Rattle.entity_hierarchy.specs.policy_grammar.Unique.{HasOneReading, IsFileOf, EachIsNamed, NamesDiffer}
+use Rattle.entity_hierarchy.specs.authoriser.declared.answer.Answer.{Answer}
+use Rattle.entity_hierarchy.specs.evaluator.Operators.{World}
+use Rattle.entity_hierarchy.specs.authoriser.Answers.{NamedPolicy, IsAnswer}
+use Rattle.entity_hierarchy.specs.authoriser.Laws.{OneAnswerInFiniteHierarchies, ListsAscend}
+use Rattle.entity_hierarchy.specs.schema.Schemas.{StatedSchema, IsSchemaOf}
+use Rattle.entity_hierarchy.specs.schema.Outcomes as schemas
+use Rattle.entity_hierarchy.specs.entity_data.declared.entity.Entity.{Entity}
+use Rattle.entity_hierarchy.specs.entities.declared.fault.EntityFault.{EntityFault}
+use Rattle.entity_hierarchy.specs.entities.declared.fault.EntityFault.TheVariants.{BadShape}
+use Rattle.entity_hierarchy.specs.entities.Requests.{StatesRequest, RequestRefused}
+use Rattle.entity_hierarchy.specs.entities.Laws as requests
+use Rattle.entity_hierarchy.specs.Laws.{MemberOfIsKept}
+use Rattle.validator.specs.declared.fault.TypeFault.{TypeFault}
+use Rattle.validator.specs.Passing.{Passes, IsCheckRefused}
+use Rattle.validator.specs.Outcomes as checks
+use Rattle.decision_texts.specs.declared.refusal.Refusal.{Refusal}
+use Rattle.decision_texts.specs.Lines.{answer_line}
+use Rattle.decision_texts.specs.Decisions.{ArePoliciesOf, ArePoliciesRefused, named_policies}
+use Rattle.schema_decisions.specs.CheckRefusals.{schema_refusal, check_refusal}
+use Rattle.schema_decisions.specs.CheckOutcomes as texts
+use Rattle.schema_decisions.specs.CheckOutcomes.{TextsHaveOneOutcome}
 use Rattle.schema_decisions.specs.Refusals.{entity_refusal}
 use Rattle.schema_decisions.specs.Policies.{ArePassing, FirstUnpassed, unpassed_here, unpassed_later, ArePassingRefused}
 use Rattle.schema_decisions.specs.Policies.{unread, unpassed}
@@ -42,8 +42,8 @@ use Rattle.schema_decisions.specs.Decisions.{IsDecidedUnder, IsRefusedUnder, by_
 use Rattle.schema_decisions.specs.Decisions.{under_schema}
 use Rattle.schema_decisions.specs.Outcomes.{OneLine, NotBoth, OneRefusal, ListsOfLinesAscend, MemberOfDecidesAlike}
 use Rattle.schema_decisions.proofs.StoreLemmas.{with_parents, all_parents}
-use Rattle.policy_checks.proofs.of_decision_texts.PolicyTexts.{file_or_fault}
-use Rattle.policy_checks.proofs.of_decision_texts.NameLemmas.{HaveOwnNames, own_names, one_order, ids_ascend}
+use Rattle.decision_texts.proofs.PolicyTexts.{file_or_fault}
+use Rattle.decision_texts.proofs.NameLemmas.{HaveOwnNames, own_names, one_order, ids_ascend}
 
 -- the laws of what the texts are made of
 pub record Laws : Type 0 where
@@ -94,10 +94,10 @@ module _ (laws : Laws) where
 
   -- ---- policies that pass
 
-  same_fault : (f g : CheckFault) → checks.refused f ≡ checks.refused g → f ≡ g
+  same_fault : (f g : TypeFault) → checks.refused f ≡ checks.refused g → f ≡ g
   same_fault f g h = cc
 
-  one_check : (s : StatedSchema) (p : Policy) (f g : CheckFault) → IsCheckRefused s p f → IsCheckRefused s p g → f ≡ g
+  one_check : (s : StatedSchema) (p : Policy) (f g : TypeFault) → IsCheckRefused s p f → IsCheckRefused s p g → f ≡ g
   one_check s p f g x y = same_fault f g ((laws.checked s p).2 (checks.refused f) x ∙ sym ((laws.checked s p).2 (checks.refused g) y))
 
   all_or_first : (s : StatedSchema) (place : ℕ) (ps : List Policy) (refusal : Refusal) → All (Passes s) ps → FirstUnpassed s place ps refusal → ⊥

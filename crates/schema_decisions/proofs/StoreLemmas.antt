@@ -9,15 +9,15 @@ use Rattle.values.specs.declared.entity_uid.EntityUid.{EntityUid}
 use Rattle.values.specs.Names.{uid_cmp, uid_cmp-IsTotalOrder, uid_cmp-IsAntisymmetric}
 use Rattle.values.specs.Uids.{equal-is}
 use Rattle.plain.proofs.Members.{Contains-here, Contains-there, Contains-none}
-use Rattle.entity_store.specs.ancestor_closure.Decided.{is_same, HaveAllParents}
-use Rattle.entity_store.specs.evaluator.Operators.{world_of}
-use Rattle.entity_store.specs.schema.Schemas.{StatedSchema, IsSchemaOf}
-use Rattle.entity_store.specs.entity_worlds.declared.entity.Entity.{Entity}
-use Rattle.entity_store.specs.entity_worlds.declared.data.EntityData.{EntityData}
-use Rattle.entity_store.specs.entity_worlds.Entities.{EntityMap, Actions, action_or, with_actions, world_in}
-use Rattle.entity_store.specs.entity_worlds.Entities.{attributes_of, kept_parents}
-use Rattle.entity_store.specs.entity_worlds.Keeping.{Entries, kept_in, Puts, data_of}
-use Rattle.policy_checks.proofs.of_decision_texts.StoreLemmas.{not_first, other, later, none_in, some_if}
+use Rattle.entity_hierarchy.specs.ancestor_search.Decided.{is_same, HaveAllParents}
+use Rattle.entity_hierarchy.specs.evaluator.Operators.{world_of}
+use Rattle.entity_hierarchy.specs.schema.Schemas.{StatedSchema, IsSchemaOf}
+use Rattle.entity_hierarchy.specs.entity_data.declared.entity.Entity.{Entity}
+use Rattle.entity_hierarchy.specs.entity_data.declared.data.EntityData.{EntityData}
+use Rattle.entity_hierarchy.specs.entity_data.Entities.{EntityMap, Actions, action_or, with_actions, world_in}
+use Rattle.entity_hierarchy.specs.entity_data.Entities.{attributes_of, kept_parents}
+use Rattle.entity_hierarchy.specs.entity_data.Keeping.{Entries, kept_in, Puts, data_of}
+use Rattle.decision_texts.proofs.StoreLemmas.{not_first, other, later, none_in, some_if}
 use Rattle.schema_decisions.specs.Decisions.{stated, world_under}
 use Rattle.schema_decisions.specs.inner.Stores.{Holds, world_held}
 

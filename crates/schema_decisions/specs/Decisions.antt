@@ -4,19 +4,19 @@
 -- judged before the policies, these are all read before one is checked, and the entities are judged before the request.
 use Rattle.std.specs.Prelude.{◌≡◌, ℕ, List, [], ◌∷◌, if◌then◌else◌, Some, None, Ok, Err}
 use Rattle.values.specs.declared.request.Request.{Request}
-use Rattle.entity_store.specs.policy_grammar.declared.policy.Policy.{Policy}
-use Rattle.entity_store.specs.ancestor_closure.Decided.{is_same}
-use Rattle.entity_store.specs.evaluator.Operators.{World}
-use Rattle.entity_store.specs.authoriser.declared.answer.Answer.{Answer}
-use Rattle.entity_store.specs.authoriser.Answers.{NamedPolicy, IsAnswer}
-use Rattle.entity_store.specs.schema.Schemas.{StatedSchema, IsSchemaOf}
-use Rattle.entity_store.specs.entity_worlds.declared.entity.Entity.{Entity}
-use Rattle.entity_store.specs.entity_worlds.Entities.{EntityMap, with_actions, world_in}
-use Rattle.entity_store.specs.entity_worlds.Keeping.{data_of}
-use Rattle.policy_checks.specs.decision_texts.declared.refusal.Refusal.{Refusal}
-use Rattle.policy_checks.specs.decision_texts.Decisions.{named_policies, IsInOrder}
-use Rattle.policy_checks.specs.decision_texts.Lines.{answer_line}
-use Rattle.policy_checks.specs.Checks.{IsSchemaRefused}
+use Rattle.entity_hierarchy.specs.policy_grammar.declared.policy.Policy.{Policy}
+use Rattle.entity_hierarchy.specs.ancestor_search.Decided.{is_same}
+use Rattle.entity_hierarchy.specs.evaluator.Operators.{World}
+use Rattle.entity_hierarchy.specs.authoriser.declared.answer.Answer.{Answer}
+use Rattle.entity_hierarchy.specs.authoriser.Answers.{NamedPolicy, IsAnswer}
+use Rattle.entity_hierarchy.specs.schema.Schemas.{StatedSchema, IsSchemaOf}
+use Rattle.entity_hierarchy.specs.entity_data.declared.entity.Entity.{Entity}
+use Rattle.entity_hierarchy.specs.entity_data.Entities.{EntityMap, with_actions, world_in}
+use Rattle.entity_hierarchy.specs.entity_data.Keeping.{data_of}
+use Rattle.decision_texts.specs.declared.refusal.Refusal.{Refusal}
+use Rattle.decision_texts.specs.Decisions.{named_policies, IsInOrder}
+use Rattle.decision_texts.specs.Lines.{answer_line}
+use Rattle.schema_decisions.specs.Checks.{IsSchemaRefused}
 use Rattle.schema_decisions.specs.Policies.{ArePassing, ArePassingRefused}
 use Rattle.schema_decisions.specs.EntityArrays.{entities_of}
 use Rattle.schema_decisions.specs.Requests.{IsRequestText, IsRequestRefused}

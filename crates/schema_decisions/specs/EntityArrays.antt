@@ -10,13 +10,13 @@ use Rattle.json_words.specs.Json.{json_of}
 use Rattle.json_words.specs.Each.{each, list_of}
 use Rattle.json_words.specs.ReadsAs.{◌>>=◌, or_fault, demand}
 use Rattle.values.specs.declared.entity_uid.EntityUid.{EntityUid}
-use Rattle.entity_store.specs.ancestor_closure.Decided.{is_same}
-use Rattle.entity_store.specs.schema.Schemas.{StatedSchema}
-use Rattle.entity_store.specs.entity_worlds.declared.entity.Entity.{Entity}
-use Rattle.entity_store.specs.entities.declared.fault.EntityFault.{EntityFault}
-use Rattle.entity_store.specs.entities.Entities.{entity_stated_in}
-use Rattle.policy_checks.specs.decision_texts.declared.refusal.Refusal.{Refusal}
-use Rattle.policy_checks.specs.decision_texts.Refusals.{bad_shape}
+use Rattle.entity_hierarchy.specs.ancestor_search.Decided.{is_same}
+use Rattle.entity_hierarchy.specs.schema.Schemas.{StatedSchema}
+use Rattle.entity_hierarchy.specs.entity_data.declared.entity.Entity.{Entity}
+use Rattle.entity_hierarchy.specs.entities.declared.fault.EntityFault.{EntityFault}
+use Rattle.entity_hierarchy.specs.entities.Entities.{entity_stated_in}
+use Rattle.decision_texts.specs.declared.refusal.Refusal.{Refusal}
+use Rattle.decision_texts.specs.Refusals.{bad_shape}
 use Rattle.schema_decisions.specs.Refusals.{entity_refusal}
 
 -- whether this states an entity of that uid

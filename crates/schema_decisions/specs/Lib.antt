@@ -1,13 +1,20 @@
+pub mod CheckRefusals
+pub mod Lines
+pub mod Checks
+pub mod CheckOutcomes
+pub mod inner
 pub mod Refusals
 pub mod Policies
 pub mod EntityArrays
 pub mod Requests
 pub mod Decisions
 pub mod Outcomes
-pub mod inner
 -- crates below, passed on to those above
-pub use Rattle.entity_store.specs.entity_worlds
-pub use Rattle.entity_store.specs.policy_grammar
-pub use Rattle.entity_store.specs.schema
-pub use Rattle.policy_checks.specs.decision_texts
-pub use Rattle.policy_checks.specs.json_values
+pub use Rattle.decision_texts.specs as decision_texts
+pub use Rattle.decision_texts.specs.entity_data
+pub use Rattle.decision_texts.specs.json_values
+pub use Rattle.decision_texts.specs.policy_grammar
+pub use Rattle.decision_texts.specs.entity_uids
+pub use Rattle.validator.specs as validator
+pub use Rattle.validator.specs.schema
+pub use Rattle.validator.specs.schema_types

@@ -2,10 +2,10 @@
 -- A rule of this product: what texts come to follows from the texts alone. Only want of memory may come at any call,
 -- whatever the texts.
 use Rattle.std.specs.Prelude.{◌≡◌, ◌⊎◌, ℕ, List, map}
-use Rattle.entity_store.specs.authoriser.Laws.{AreIdsAscending}
-use Rattle.entity_store.specs.Laws.{stated_world}
-use Rattle.policy_checks.specs.decision_texts.declared.refusal.Refusal.{Refusal}
-use Rattle.policy_checks.specs.decision_texts.Decisions.{named_policies}
+use Rattle.entity_hierarchy.specs.authoriser.Laws.{AreIdsAscending}
+use Rattle.entity_hierarchy.specs.Laws.{stated_world}
+use Rattle.decision_texts.specs.declared.refusal.Refusal.{Refusal}
+use Rattle.decision_texts.specs.Decisions.{named_policies}
 use Rattle.schema_decisions.specs.Decisions.{stated, IsAnswerTo, IsDecided, IsSchemaDecisionRefused}
 
 -- four texts have one line at most

@@ -2,13 +2,13 @@
 -- Source: Cedar reference guide 4.0, "Policy validation". Rules of this product: the whole file is read before a policy
 -- is checked, and policies are checked in the order of the file.
 use Rattle.std.specs.Prelude.{◌≡◌, ℕ, suc, List, ◌∷◌, All}
-use Rattle.entity_store.specs.policy_grammar.declared.policy.Policy.{Policy}
-use Rattle.entity_store.specs.schema.Schemas.{StatedSchema}
-use Rattle.policy_checks.specs.validator.declared.fault.CheckFault.{CheckFault}
-use Rattle.policy_checks.specs.validator.Passing.{Passes, IsCheckRefused}
-use Rattle.policy_checks.specs.decision_texts.declared.refusal.Refusal.{Refusal}
-use Rattle.policy_checks.specs.decision_texts.Decisions.{ArePoliciesOf, ArePoliciesRefused}
-use Rattle.policy_checks.specs.Refusals.{check_refusal}
+use Rattle.entity_hierarchy.specs.policy_grammar.declared.policy.Policy.{Policy}
+use Rattle.entity_hierarchy.specs.schema.Schemas.{StatedSchema}
+use Rattle.validator.specs.declared.fault.TypeFault.{TypeFault}
+use Rattle.validator.specs.Passing.{Passes, IsCheckRefused}
+use Rattle.decision_texts.specs.declared.refusal.Refusal.{Refusal}
+use Rattle.decision_texts.specs.Decisions.{ArePoliciesOf, ArePoliciesRefused}
+use Rattle.schema_decisions.specs.CheckRefusals.{check_refusal}
 
 -- the names and the policies of a file, in its order; each policy passes
 pub record ArePassing (s : StatedSchema) (bytes : List ℕ) (names : List (List ℕ)) (policies : List Policy) : Type
@@ -18,7 +18,7 @@ pub record ArePassing (s : StatedSchema) (bytes : List ℕ) (names : List (List 
 
 -- the policy at this place does not pass, for this
 pub record IsUnpassed (s : StatedSchema) (place : ℕ) (policy : Policy) (refusal : Refusal) : Type 0 where
-  pub fault : CheckFault
+  pub fault : TypeFault
   pub due : IsCheckRefused s policy fault
   pub is : refusal ≡ check_refusal place fault
 

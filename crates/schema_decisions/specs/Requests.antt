@@ -3,11 +3,11 @@
 use Rattle.std.specs.Prelude.{◌≡◌, ℕ, List, None, MatchOption}
 use Rattle.json_words.specs.Json.{json_of}
 use Rattle.values.specs.declared.request.Request.{Request}
-use Rattle.entity_store.specs.schema.Schemas.{StatedSchema}
-use Rattle.entity_store.specs.entities.declared.fault.EntityFault.{EntityFault}
-use Rattle.entity_store.specs.entities.declared.fault.EntityFault.TheVariants.{BadShape}
-use Rattle.entity_store.specs.entities.Requests.{StatesRequest, RequestRefused}
-use Rattle.policy_checks.specs.decision_texts.declared.refusal.Refusal.{Refusal}
+use Rattle.entity_hierarchy.specs.schema.Schemas.{StatedSchema}
+use Rattle.entity_hierarchy.specs.entities.declared.fault.EntityFault.{EntityFault}
+use Rattle.entity_hierarchy.specs.entities.declared.fault.EntityFault.TheVariants.{BadShape}
+use Rattle.entity_hierarchy.specs.entities.Requests.{StatesRequest, RequestRefused}
+use Rattle.decision_texts.specs.declared.refusal.Refusal.{Refusal}
 use Rattle.schema_decisions.specs.Refusals.{entity_refusal}
 
 -- the bytes are JSON that states this request

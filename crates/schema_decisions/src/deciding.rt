@@ -1,11 +1,11 @@
 //! The line of the answer to a request.
 ghost use Rattle.std.specs.Prelude.{IfOk, IfErr, map, string_bytes};
-ghost use Rattle.entity_store.specs.authoriser.Answers.{IsAnswer};
-ghost use Rattle.entity_store.specs.authoriser.Views.{named};
-ghost use Rattle.entity_store.specs.schema.Views.{schema_view};
-ghost use Rattle.policy_checks.specs.decision_texts.Decisions.{named_policies};
+ghost use Rattle.entity_hierarchy.specs.authoriser.Answers.{IsAnswer};
+ghost use Rattle.entity_hierarchy.specs.authoriser.Views.{named};
+ghost use Rattle.entity_hierarchy.specs.schema.Views.{schema_view};
+ghost use Rattle.decision_texts.specs.Decisions.{named_policies};
 ghost use Rattle.plain.specs.Refused.{OrNoMemory};
-ghost use Rattle.policy_checks.specs.decision_texts.Refusals.{no_memory};
+ghost use Rattle.decision_texts.specs.Refusals.{no_memory};
 ghost use Rattle.schema_decisions.specs.Requests.{IsRequestRefused};
 ghost use Rattle.schema_decisions.specs.Decisions.{IsAnswerTo, IsQuestionAnswered, IsQuestionRefused};
 ghost use Rattle.schema_decisions.specs.Decisions.{IsDecidedUnder, IsRefusedUnder, IsDecided, IsSchemaDecisionRefused};
@@ -14,9 +14,10 @@ ghost use Rattle.schema_decisions.specs.inner.Stores.{world_held, IsLineIn, IsLi
 use crate::entity_array::read_entities;
 use crate::policies::passing_policies;
 use crate::question::request_in;
-use entity_store::{Answer, EntityStore, Policy, Schema, decide, world_under};
+use crate::reading::schema_in;
+use decision_texts::{Refusal, answer_line, in_order};
+use entity_hierarchy::{Answer, EntityStore, Policy, Schema, decide, world_under};
 use plain::NoMemory;
-use policy_checks::{Refusal, answer_line, in_order, schema_in};
 use std::alloc::Global;
 use values::Request;
 

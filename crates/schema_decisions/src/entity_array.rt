@@ -2,18 +2,18 @@
 ghost use Rattle.std.specs.Prelude.{◌≡◌, ◌<◌, ◌^◌, List, length, None, Some, Ok, Err, IfErr, OnOk};
 ghost use Rattle.serde_json.specs.View.{view};
 ghost use Rattle.json_words.specs.ReadsAs.{ReadsAs};
-ghost use Rattle.policy_checks.specs.json_values.Arrays.{to_come, each_of, told};
-ghost use Rattle.entity_store.specs.schema.Views.{schema_view};
-ghost use Rattle.entity_store.specs.entity_worlds.declared.entity.Entity.{Entity as Stated};
-ghost use Rattle.entity_store.specs.entities.Entities.{entity_stated_in};
-ghost use Rattle.policy_checks.specs.decision_texts.Refusals.{no_memory, bad_shape};
+ghost use Rattle.decision_texts.specs.json_values.Arrays.{to_come, each_of, told};
+ghost use Rattle.entity_hierarchy.specs.schema.Views.{schema_view};
+ghost use Rattle.entity_hierarchy.specs.entity_data.declared.entity.Entity.{Entity as Stated};
+ghost use Rattle.entity_hierarchy.specs.entities.Entities.{entity_stated_in};
+ghost use Rattle.decision_texts.specs.Refusals.{no_memory, bad_shape};
 ghost use Rattle.plain.specs.Refused.{OrNoMemory};
 ghost use Rattle.schema_decisions.specs.EntityArrays.{placed, entity_at, entities_of};
 ghost use Rattle.schema_decisions.specs.inner.Stores.{Holds, KeepsNext, ReadsStore};
 
 use crate::refusal::entity_refusal;
-use entity_store::{Entity, EntityFault, EntityStore, Schema, read_entity};
-use policy_checks::{Member, Members, Refusal, Scratch, members_of};
+use decision_texts::{Member, Members, Refusal, Scratch, members_of};
+use entity_hierarchy::{Entity, EntityFault, EntityStore, Schema, read_entity};
 use serde_json::Value;
 use std::alloc::Global;
 

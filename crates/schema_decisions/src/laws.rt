@@ -2,11 +2,12 @@
 ghost use Rattle.schema_decisions.specs.Outcomes.{OneLine, NotBoth, OneRefusal, LineOrRefusal};
 ghost use Rattle.schema_decisions.specs.Outcomes.{ListsOfLinesAscend, MemberOfDecidesAlike};
 
-use entity_store::{
+use crate::check_laws::checks_have_one_outcome;
+use entity_hierarchy::{
     actions_may_be_closed, answers_are_lawful, bytes_have_one_outcome, file_names_differ,
     requests_have_one_outcome, texts_have_one_reading,
 };
-use policy_checks::{checks_have_one_outcome, policies_have_one_outcome};
+use validator::policies_have_one_outcome;
 
 /// Proves that four texts come to exactly one thing, a line or a refusal; that the ids in an answer's line ascend; and
 /// that the answer is the same where an action has as parents what its `memberOf` states, and no more. It does nothing;

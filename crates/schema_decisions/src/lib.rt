@@ -1,17 +1,27 @@
-//! From the texts of a schema, of policies, of entities and of a request to the line of an answer or a refusal.
+//! Decisions and checks under a schema, from bytes to a line: what each policy came to, an answer, or a refusal.
 #![tactic(auto)]
 
+mod check_laws;
+mod check_refusals;
+mod checking;
 mod deciding;
 mod entity_array;
 mod laws;
+mod lines;
 mod policies;
 mod question;
+mod reading;
 mod refusal;
 
+pub use check_laws::checks_have_one_outcome;
+pub use check_refusals::{check_refusal, schema_refusal};
+pub use checking::check_texts;
 pub use deciding::decide_under;
-pub use entity_array::judge_entities;
-pub use entity_store::{Policy, Schema};
-pub use laws::texts_have_one_outcome;
-pub use policy_checks::{
-    Member, Members, Refusal, Scratch, check_texts, members_of, policies_in, schema_in,
+pub use decision_texts::{
+    Answer, Member, Members, Policy, Refusal, Scratch, answer_line, members_of, policies_in,
+    read_uid,
 };
+pub use entity_array::judge_entities;
+pub use laws::texts_have_one_outcome;
+pub use reading::schema_in;
+pub use validator::Schema;

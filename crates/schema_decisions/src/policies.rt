@@ -1,14 +1,16 @@
 //! The policies of a file, each of which passes.
 ghost use Rattle.std.specs.Prelude.{◌≡◌, IfOk, IfErr, All, MatchResult, Ok, Err, map, string_bytes};
-ghost use Rattle.entity_store.specs.schema.Views.{schema_view};
-ghost use Rattle.policy_checks.specs.validator.Passing.{Passes};
+ghost use Rattle.entity_hierarchy.specs.schema.Views.{schema_view};
+ghost use Rattle.validator.specs.Passing.{Passes};
 ghost use Rattle.plain.specs.Refused.{OrNoMemory};
-ghost use Rattle.policy_checks.specs.decision_texts.Refusals.{no_memory};
+ghost use Rattle.decision_texts.specs.Refusals.{no_memory};
 ghost use Rattle.schema_decisions.specs.Policies.{ArePassing, IsUnpassed, FirstUnpassed, ArePassingRefused};
 
-use entity_store::{Policy, Schema};
-use policy_checks::{Refusal, check, check_refusal, policies_in};
+use crate::check_refusals::check_refusal;
+use decision_texts::{Refusal, policies_in};
+use entity_hierarchy::{Policy, Schema};
 use std::alloc::Global;
+use validator::check;
 
 /// Checks that the policy at a place passes.
 fn check_at(alloc: Global, schema: &Schema, place: usize, policy: &Policy) -> Result<(), Refusal>

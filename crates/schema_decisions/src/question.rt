@@ -1,15 +1,15 @@
 //! The request of a text.
 ghost use Rattle.std.specs.Prelude.{◌≢◌, IfOk, IfErr};
-ghost use Rattle.entity_store.specs.schema.Views.{schema_view};
-ghost use Rattle.entity_store.specs.entities.declared.fault.EntityFault.TheVariants as EntityFault;
+ghost use Rattle.entity_hierarchy.specs.schema.Views.{schema_view};
+ghost use Rattle.entity_hierarchy.specs.entities.declared.fault.EntityFault.TheVariants as EntityFault;
 ghost use Rattle.plain.specs.Refused.{OrNoMemory};
-ghost use Rattle.policy_checks.specs.decision_texts.Refusals.{no_memory};
+ghost use Rattle.decision_texts.specs.Refusals.{no_memory};
 ghost use Rattle.schema_decisions.specs.Requests.{IsRequestText, IsRequestFault, IsRequestRefused};
 
 use crate::refusal::entity_refusal;
-use entity_store::{EntityFault, Schema, read_request};
+use decision_texts::Refusal;
+use entity_hierarchy::{EntityFault, Schema, read_request};
 use json_words::read_json;
-use policy_checks::Refusal;
 use std::alloc::Global;
 use values::Request;
 

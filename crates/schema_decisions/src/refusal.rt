@@ -2,8 +2,8 @@
 ghost use Rattle.std.specs.Prelude.{◌≡◌};
 ghost use Rattle.schema_decisions.specs.Refusals.{entity_refusal};
 
-use entity_store::EntityFault;
-use policy_checks::Refusal;
+use decision_texts::Refusal;
+use entity_hierarchy::EntityFault;
 
 /// Returns a fault of an entity, at its place in the array, or of a request, which has none. Want of memory has no
 /// place.

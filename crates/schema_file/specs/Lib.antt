@@ -3,4 +3,4 @@ pub mod Once
 pub mod Stated
 pub mod StatedViews
 -- crates below, passed on to those above
-pub use Rattle.named_types.specs as named_types
+pub use Rattle.schema_types.specs as schema_types

@@ -9,10 +9,10 @@ mod reading_types;
 mod stated;
 
 pub use laws::stated_files_are_in_order;
-pub use named_types::{
+pub use reading::read_stated;
+pub use schema_types::{
     Names, action_type, declared_action, find, find_action_of_type, full_name, is_other, resolve,
 };
-pub use reading::read_stated;
 pub use stated::{
     StatedAction, StatedCommon, StatedEntityType, StatedNamespace, StatedParent, StatedUse,
 };

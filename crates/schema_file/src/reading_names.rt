@@ -5,9 +5,8 @@ ghost use Rattle.json_words.specs.ReadsAs.{ReadsAs};
 ghost use Rattle.schema_file.specs.Stated.{ident, name_of, names_of, names_in, names_at, name_in_place};
 ghost use Rattle.schema_types.specs.declared.fault.SchemaFault.TheVariants as SchemaFault;
 
-use named_types::is_qualified;
 use plain::Items;
-use schema_types::{SchemaFault, read_type_name};
+use schema_types::{SchemaFault, is_qualified, read_type_name};
 use serde_json::Value;
 use std::alloc::Global;
 use values::TypeName;

@@ -11,11 +11,11 @@ use Rattle.std.specs.BTreeSet.{BTreeSet, contains, contains_text, Updates}
 use Rattle.std.proofs.lemmas.Map.Text.{btree_set_updates_text}
 use Rattle.values.specs.declared.entity_uid.EntityUid.{EntityUid}
 use Rattle.values.specs.Names.{uid_cmp}
-use Rattle.schema_file.specs.named_types.declared.names.Names.{Names}
+use Rattle.schema_file.specs.schema_types.declared.names.Names.{Names}
 use Rattle.schema_types.specs.Names.{full_name}
 use Rattle.schema_file.specs.Stated.{NamespaceOf}
 use Rattle.schema_names.specs.Qualifying.{common_in, commons_declared, entity_types_declared, actions_declared}
-use Rattle.schema_file.specs.named_types.Actions.{action_type, action_uid}
+use Rattle.schema_file.specs.schema_types.Actions.{action_type, action_uid}
 use Rattle.schema_names.specs.inner.Adding.{has_name, has_uid, Adds, AddsNamespace, AddsAll, Declares, any_common}
 use Rattle.schema_names.specs.inner.Adding.{any_name, any_uid}
 

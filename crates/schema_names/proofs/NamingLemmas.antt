@@ -6,9 +6,9 @@ use Rattle.json_words.specs.Json.{json_of}
 use Rattle.serde_json.specs.Data.{Data}
 use Rattle.schema_types.specs.declared.fault.SchemaFault.{SchemaFault}
 use Rattle.schema_types.specs.declared.fault.SchemaFault.TheVariants.{NoMemory, NotJson}
-use Rattle.schema_file.specs.named_types.declared.names.Names.{Names}
+use Rattle.schema_file.specs.schema_types.declared.names.Names.{Names}
 use Rattle.schema_names.specs.declared.qualifying.Found.{Found}
-use Rattle.schema_file.specs.named_types.NamesViews.{scope_of, is_action_of}
+use Rattle.schema_file.specs.schema_types.NamesViews.{scope_of, is_action_of}
 use Rattle.schema_file.specs.Stated.{NamespaceOf, stated}
 use Rattle.schema_names.specs.Qualifying.{together, scope_in, is_action_in, qualified_namespaces, qualified}
 use Rattle.schema_names.specs.FoundViews.{found_view}

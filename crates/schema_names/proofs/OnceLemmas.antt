@@ -33,7 +33,7 @@ use Rattle.schema_names.specs.Qualifying.{type_named, parents_named, use_named, 
 use Rattle.schema_names.specs.Qualifying.{qualified_entity_type, qualified_entity_types, qualified_action}
 use Rattle.schema_names.specs.Qualifying.{qualified_actions, qualified_namespace, qualified_namespaces, together}
 use Rattle.schema_names.specs.Qualifying.{scope_in, is_action_in, qualified}
-use Rattle.schema_file.specs.named_types.Actions.{action_type, action_uid}
+use Rattle.schema_file.specs.schema_types.Actions.{action_type, action_uid}
 use Rattle.schema_types.specs.AscendingLaw.{JsonAscends}
 use Rattle.schema_file.specs.Laws.{FilesStateOnce}
 use Rattle.schema_names.specs.Laws.{DeclaresOnce, FilesDeclareOnce}

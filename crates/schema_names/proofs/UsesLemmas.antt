@@ -5,7 +5,7 @@ use Rattle.std.specs.Str.{bytes_eq}
 use Rattle.std.specs.BTreeMap.{get_by_text, Updates}
 use Rattle.std.proofs.lemmas.Map.Text.{btree_map_updates_text}
 use Rattle.json_words.proofs.EachSame.{cut}
-use Rattle.place_orders.specs.Orders.{graph_of}
+use Rattle.schema_written_types.specs.Orders.{graph_of}
 use Rattle.schema_types.specs.Names.{Scope}
 use Rattle.schema_file.specs.declared.stated.StatedCommon.{StatedCommon}
 use Rattle.schema_file.specs.declared.stated.StatedNamespace.{StatedNamespace}

@@ -6,4 +6,4 @@ pub mod Records
 pub mod inner
 -- crates below, passed on to those above
 pub use Rattle.schema_file.specs as schema_file
-pub use Rattle.schema_file.specs.named_types
+pub use Rattle.schema_file.specs.schema_types

@@ -15,7 +15,7 @@ use Rattle.schema_types.specs.Raw.{Raw}
 use Rattle.schema_types.specs.Qualified.{Qualified}
 use Rattle.schema_types.specs.WrittenOut.{Declarations}
 use Rattle.schema_types.specs.Names.{Scope, full_name, found, qualified_of}
-use Rattle.schema_file.specs.named_types.Actions.{action_type, action_uid, declared_action, action_of_type}
+use Rattle.schema_file.specs.schema_types.Actions.{action_type, action_uid, declared_action, action_of_type}
 use Rattle.schema_file.specs.Stated.{EntityTypeOf, UseOf, ActionOf, NamespaceOf}
 use Rattle.schema_file.specs.declared.stated.StatedParent.{StatedParent}
 use Rattle.schema_types.specs.declared.fault.SchemaFault.{SchemaFault}

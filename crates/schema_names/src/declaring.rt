@@ -6,7 +6,7 @@ ghost use Rattle.values.specs.Names.{uid_cmp};
 ghost use Rattle.schema_types.specs.Names.{full_name};
 ghost use Rattle.schema_file.specs.StatedViews.{common_view, entity_type_view, action_view, namespace_view};
 ghost use Rattle.schema_names.specs.Qualifying.{common_in};
-ghost use Rattle.schema_file.specs.named_types.Actions.{action_type, action_uid};
+ghost use Rattle.schema_file.specs.schema_types.Actions.{action_type, action_uid};
 ghost use Rattle.schema_names.specs.inner.Adding.{has_name, has_uid, Adds, AddsNamespace, Declares, any_common};
 ghost use Rattle.schema_names.specs.inner.Adding.{any_name, any_uid};
 

@@ -2,9 +2,9 @@
 //! before it.
 ghost use Rattle.std.specs.Prelude.{◌≡◌, ◌++◌, ℕ, List, IfOk, OnOk, map};
 ghost use Rattle.std.specs.BTreeMap.{get_by_text};
-ghost use Rattle.place_orders.specs.Orders.{graph_of, IsEndsFirst};
+ghost use Rattle.schema_written_types.specs.Orders.{graph_of, IsEndsFirst};
 ghost use Rattle.schema_types.specs.Views.{raw_view};
-ghost use Rattle.schema_file.specs.named_types.NamesViews.{scope_of};
+ghost use Rattle.schema_file.specs.schema_types.NamesViews.{scope_of};
 ghost use Rattle.schema_file.specs.StatedViews.{common_view, namespace_view};
 ghost use Rattle.schema_names.specs.Records.{common_meant};
 ghost use Rattle.schema_names.specs.Qualifying.{common_in, commons_declared};
@@ -12,10 +12,10 @@ ghost use Rattle.schema_names.specs.inner.Uses.{listed_view, in_list, place_of, 
 
 use crate::declaring::full_text;
 use crate::records::find_common;
-use place_orders::ends_first;
 use plain::NoMemory;
 use schema_file::{Names, StatedCommon, StatedNamespace};
 use schema_types::RawType;
+use schema_written_types::ends_first;
 use std::alloc::Global;
 use std::collections::BTreeMap;
 use values::TypeName;

@@ -2,11 +2,10 @@
 ghost use Rattle.std.specs.Prelude.{◌≡◌, IfOk, map, option_map};
 ghost use Rattle.json_words.specs.ReadsAs.{ReadsAs};
 ghost use Rattle.schema_types.specs.Views.{raw_view};
-ghost use Rattle.schema_types.specs.QualifiedViews.{qualified_view};
-ghost use Rattle.schema_file.specs.named_types.NamesViews.{scope_of, is_action_of};
-ghost use Rattle.schema_file.specs.named_types.Actions.{action_type, action_uid};
+ghost use Rattle.schema_types.specs.QualifiedViews.{qualified_view, found_common_view};
+ghost use Rattle.schema_file.specs.schema_types.NamesViews.{scope_of, is_action_of};
+ghost use Rattle.schema_file.specs.schema_types.Actions.{action_type, action_uid};
 ghost use Rattle.schema_file.specs.StatedViews.{common_view, entity_type_view, use_view, action_view, namespace_view};
-ghost use Rattle.schema_types.specs.QualifiedViews.{found_common_view};
 ghost use Rattle.schema_names.specs.FoundViews.{found_entity_type_view, found_use_view, found_action_view, found_view};
 ghost use Rattle.schema_names.specs.Qualifying.{action_meant};
 ghost use Rattle.schema_names.specs.Qualifying.{parent_named, parents_named, entity_type_named, entity_types_named};

@@ -3,7 +3,7 @@ ghost use Rattle.std.specs.Prelude.{◌≡◌, ◌∷◌, [], ◌<◌, ◌^◌, 
 ghost use Rattle.std.specs.Prelude.{false, slice_get};
 ghost use Rattle.std.specs.BTreeSet.{btree_set_len};
 ghost use Rattle.schema_types.specs.Views.{raw_view};
-ghost use Rattle.schema_file.specs.named_types.NamesViews.{scope_of};
+ghost use Rattle.schema_file.specs.schema_types.NamesViews.{scope_of};
 ghost use Rattle.schema_file.specs.StatedViews.{common_view, entity_type_view, use_view, action_view, namespace_view};
 ghost use Rattle.schema_names.specs.Records.{common_meant, is_no_record, SomeIsNoRecord};
 ghost use Rattle.schema_names.specs.Qualifying.{common_in, commons_declared};

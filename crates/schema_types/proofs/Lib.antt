@@ -6,3 +6,4 @@ pub mod NamesClosed
 pub mod OneEnd
 pub mod TypesAscend
 pub mod Walk
+pub mod QualifiedWalk

@@ -16,3 +16,5 @@ pub mod TypeShape
 pub mod Views
 pub mod WrittenOut
 pub mod inner
+pub mod Actions
+pub mod NamesViews

@@ -3,23 +3,31 @@ ghost use Rattle.std.specs.Prelude.{◌≡◌};
 
 use plain::NoMemory;
 use std::alloc::AllocFailed;
+use thiserror::Error;
 
 /// The first cause for which bytes state no schema.
-#[derive(Clone, Copy, PartialEq, Eq)]
+#[derive(Clone, Copy, PartialEq, Eq, Debug, Error)]
 pub enum SchemaFault {
     /// An allocation was refused.
+    #[error("schema 1: out of memory")]
     NoMemory,
     /// The bytes are no JSON.
+    #[error("schema 20: not JSON")]
     NotJson,
     /// The JSON has not the shape of a schema.
+    #[error("schema 21: JSON without the form of a schema")]
     BadShape,
     /// A name is declared nowhere.
+    #[error("schema 22: name of no declared type or action")]
     UnknownName,
     /// A common type leads back to itself.
+    #[error("schema 23: common type that contains itself")]
     TypeCycle,
     /// An action is above itself.
+    #[error("schema 24: action that is its own ancestor")]
     ActionCycle,
     /// A type, written out in full, has over 10,000 parts or is over 64 deep.
+    #[error("schema 25: type of over 10,000 parts, or over 64 deep")]
     TypeTooLarge,
 }
 

@@ -1,16 +1,19 @@
-//! Types of a schema: as JSON writes them, as they are named in full, and what they are once each common type is
-//! written out; with the laws of all three.
+//! Types of a schema: as JSON writes them, with each name found (which declaration it means in its namespace, and which
+//! action), and what they are once each common type is written out; with the laws of all three.
 #![tactic(auto)]
 
+mod actions;
 mod cedar;
 mod fault;
 mod forms;
 mod keys;
 mod laws;
+mod names;
 mod qualified;
 mod raw;
 mod types;
 
+pub use actions::{action_type, declared_action, find_action_of_type};
 pub use cedar::CedarType;
 pub use fault::SchemaFault;
 pub use forms::{Form, form_named};
@@ -20,6 +23,7 @@ pub use laws::{
     types_stand_for_one_or_some_for_none, what_stands_for_none_leads_back,
     written_entities_are_named,
 };
+pub use names::{Names, built_in, find, full_name, is_other, is_qualified, resolve};
 pub use qualified::{FoundCommon, QualifiedType};
 pub use raw::RawType;
 pub use types::{read_type, read_type_name};

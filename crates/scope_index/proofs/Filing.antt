@@ -11,7 +11,7 @@ use Rattle.std.proofs.lemmas.Slice.Eq.{bytes_eq-Decides}
 use Rattle.values.specs.declared.entity_uid.EntityUid.{EntityUid}
 use Rattle.values.specs.Names.{text_cmp, text_cmp-IsAntisymmetric}
 use Rattle.std.proofs.lemmas.Map.Views.{tells_apart}
-use Rattle.ancestor_closure.specs.Deciding.{same_uid, same_self}
+use Rattle.ancestor_search.specs.Deciding.{same_uid, same_self}
 use Rattle.std.specs.declared.alloc.Global.{Global}
 use Rattle.std.specs.declared.string.String.{String}
 use Rattle.policy_grammar.specs.declared.policy.Policy.{Policy}

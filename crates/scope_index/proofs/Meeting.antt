@@ -3,7 +3,7 @@ use Rattle.std.proofs.Common.{inl}
 use Rattle.std.specs.Prelude.{Option, Some, None}
 use Rattle.values.specs.declared.entity_uid.EntityUid.{EntityUid}
 use Rattle.values.specs.declared.request.Request.{Request}
-use Rattle.ancestor_closure.specs.Hierarchy.{Parents, IsIn}
+use Rattle.ancestor_search.specs.Hierarchy.{Parents, IsIn}
 use Rattle.policy_grammar.specs.declared.policy.EntityScope.{EntityScope}
 use Rattle.policy_grammar.specs.declared.policy.EntityScope.TheVariants as part
 use Rattle.policy_grammar.specs.declared.policy.Scope.{Scope}

@@ -11,12 +11,12 @@ use Rattle.std.specs.declared.alloc.Global.{Global}
 use Rattle.std.specs.declared.string.String.{String}
 use Rattle.std.specs.Borrow.{Bor}
 use Rattle.std.specs.Map.Iter.{deref_pair}
-use Rattle.ancestor_closure.specs.Hierarchy.{Parents, IsIn, IsAllAbove, names}
+use Rattle.ancestor_search.specs.Hierarchy.{Parents, IsIn, IsAllAbove, names}
 use Rattle.std.proofs.lemmas.List.Elements.{Contains-push, Contains-push_cases, Contains-append_left, All-head, All-tail}
 use Rattle.values.specs.declared.entity_uid.EntityUid.{EntityUid}
 use Rattle.values.specs.Names.{text_cmp, text_cmp-IsAntisymmetric}
-use Rattle.ancestor_closure.specs.Deciding.{Contains-none, Contains-here, Contains-there, Contains-cases}
-use Rattle.ancestor_closure.proofs.Members.{names-push}
+use Rattle.ancestor_search.specs.Deciding.{Contains-none, Contains-here, Contains-there, Contains-cases}
+use Rattle.ancestor_search.proofs.Members.{names-push}
 use Rattle.values.specs.declared.request.Request.{Request}
 use Rattle.policy_grammar.specs.declared.policy.Policy.{Policy}
 use Rattle.scope_index.specs.declared.buckets.Buckets.{Buckets}

@@ -9,7 +9,7 @@ use Rattle.std.proofs.lemmas.List.{get_or-map}
 use Rattle.std.proofs.lemmas.List.Kept.{Contains-from_dedup, IsStrictlySortedBy-dedup}
 use Rattle.std.proofs.lemmas.List.Sorted.{Contains-permutation, IsPermutation-sym, IsPermutation-map}
 use Rattle.values.specs.Names.{text_cmp, text_cmp-IsTotalOrder}
-use Rattle.ancestor_closure.specs.Deciding.{Contains-here, Contains-there, Contains-cases}
+use Rattle.ancestor_search.specs.Deciding.{Contains-here, Contains-there, Contains-cases}
 use Rattle.scope_index.specs.Keys.{Offer, lent, ids}
 use Rattle.scope_index.specs.Buckets.{AreOneAtEach}
 use Rattle.scope_index.proofs.Offering.{Lent, behind}

@@ -11,7 +11,7 @@ use Rattle.std.specs.declared.alloc.Global.{Global}
 use Rattle.std.specs.declared.string.String.{String}
 use Rattle.values.specs.declared.entity_uid.EntityUid.{EntityUid}
 use Rattle.values.specs.declared.request.Request.{Request}
-use Rattle.ancestor_closure.specs.Hierarchy.{Parents, IsIn}
+use Rattle.ancestor_search.specs.Hierarchy.{Parents, IsIn}
 use Rattle.policy_grammar.specs.declared.policy.EntityScope.{EntityScope}
 use Rattle.policy_grammar.specs.declared.policy.EntityScope.TheVariants.{Any, Equal, In, Is, IsIn as IsOfTypeIn}
 use Rattle.policy_grammar.specs.declared.policy.Scope.{Scope}

@@ -4,12 +4,12 @@ ghost use Rattle.std.specs.Option.{option_copied};
 ghost use Rattle.std.specs.List.Sorted.{IsStrictlySortedBy};
 ghost use Rattle.values.specs.declared.entity_uid.EntityUid.{EntityUid as PlainUid};
 ghost use Rattle.values.specs.Names.{text_cmp};
-ghost use Rattle.ancestor_closure.specs.Hierarchy.{IsIn, names};
+ghost use Rattle.ancestor_search.specs.Hierarchy.{IsIn, names};
 ghost use Rattle.scope_index.specs.Keys.{IndexKey, IsMet, Offer, ids, kept_at, lent};
 ghost use Rattle.scope_index.specs.Buckets.{AreOneAtEach, HaveOnePolicy, bucket_at, held_under, in_bucket};
 
 use crate::buckets::{Buckets, Under};
-use ancestor_closure::Ancestry;
+use ancestor_search::Ancestry;
 use plain::NoMemory;
 use policy_grammar::Policy;
 use std::alloc::Global;

@@ -12,6 +12,6 @@ mod index;
 
 pub use index::ScopeIndex;
 pub use policy_grammar::{
-    ActionScope, Effect, EntityScope, Policy, ReadFault, Scope, file_names_differ, parse_policy,
-    texts_have_one_reading,
+    ActionScope, Effect, EntityScope, MOST_ID_BYTES, Policy, ReadFault, Scope, file_names_differ,
+    parse_policy, texts_have_one_reading,
 };

@@ -6,7 +6,7 @@ use crate::written::first_word;
 use entities::{Entity, EntityFault, Schema, canonical_text, read_context};
 use json_words::read_json;
 use plain::{Items, NoMemory, Shared};
-use site_worlds::SiteFault;
+use site::SiteFault;
 use std::alloc::Global;
 use values::{EntityUid, Record, TypeName};
 

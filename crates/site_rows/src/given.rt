@@ -1,10 +1,11 @@
 //! What the cases above a case have set up.
-use crate::inputs::inputs_of;
+use crate::inputs::{all_lent, inputs_of};
 use crate::line::{BAD_ROW, Line, NO_MEMORY};
 use crate::replies::{push_reply, push_standing};
+use crate::written::first_word;
 use entities::{Schema, read_schema};
 use plain::{NoMemory, Shared};
-use site_worlds::{Input, Reply, Site, SiteName, run};
+use site::{Input, Reply, Site, SiteName, run};
 use std::alloc::Global;
 
 /// A site that was started, with its name.
@@ -66,7 +67,7 @@ fn run_at(
     alloc: Global,
     sites: &mut Vec<Started>,
     name: &str,
-    inputs: &[Input],
+    inputs: &[Input<'_>],
 ) -> Option<Result<Vec<Reply>, NoMemory>> {
     let index = index_of(sites, name);
     match sites.get_mut(index) {
@@ -136,7 +137,7 @@ impl Given {
         &mut self,
         alloc: Global,
         name: &str,
-        inputs: &[Input],
+        inputs: &[Input<'_>],
         line: &mut Line,
     ) {
         match run_at(alloc, &mut self.sites, name, inputs) {
@@ -149,9 +150,19 @@ impl Given {
     /// Gives a site the inputs that a string describes, and appends its replies.
     pub(crate) fn push_replies(&mut self, alloc: Global, name: &str, text: &str, line: &mut Line) {
         match inputs_of(alloc, text) {
-            Ok(Some(inputs)) => self.push_run(alloc, name, &inputs, line),
+            Ok(Some(inputs)) => match all_lent(alloc, &inputs) {
+                Ok(lent) => self.push_run(alloc, name, &lent, line),
+                Err(_) => line.push(NO_MEMORY),
+            },
             Ok(None) => line.push(BAD_ROW),
             Err(_) => line.push(NO_MEMORY),
         }
+    }
+
+    /// Gives a site the inputs that a string describes, and appends its replies, with the messages of errors.
+    pub(crate) fn push_messages(&mut self, alloc: Global, text: &str, line: &mut Line) {
+        let (name, inputs) = first_word(text);
+        line.print_messages();
+        self.push_replies(alloc, name, inputs, line);
     }
 }

@@ -1,17 +1,59 @@
 //! Inputs as a case writes them.
 use crate::line::BETWEEN;
 use crate::written::{expanded, expanded_text, first_word};
-use plain::{Items, NoMemory, beside};
-use site_worlds::Input;
+use plain::{Items, NoMemory, Text, beside};
+use site::Input;
 use std::alloc::Global;
 use values::{EntityUid, SharedText, TypeName};
 
+/// An input that owns its texts and bytes, as a case writes it.
+#[derive(Drop)]
+pub(crate) enum OwnedInput {
+    PutPolicy(Text, Text),
+    DeletePolicy(Text),
+    PutEntity(Items<u8>),
+    DeleteEntity(EntityUid),
+    Take(Items<u8>),
+    Authorize(Items<u8>),
+    GetPolicy(Text),
+    State,
+    Summary,
+    Delta(Items<u8>),
+}
+
+impl OwnedInput {
+    /// Lends the input.
+    fn lent(&self) -> Input<'_> {
+        match self {
+            OwnedInput::PutPolicy(id, text) => Input::PutPolicy(id.as_str(), text.as_str()),
+            OwnedInput::DeletePolicy(id) => Input::DeletePolicy(id.as_str()),
+            OwnedInput::PutEntity(bytes) => Input::PutEntity(bytes.as_slice()),
+            OwnedInput::DeleteEntity(uid) => Input::DeleteEntity(uid),
+            OwnedInput::Take(bytes) => Input::Take(bytes.as_slice()),
+            OwnedInput::Authorize(bytes) => Input::Authorize(bytes.as_slice()),
+            OwnedInput::GetPolicy(id) => Input::GetPolicy(id.as_str()),
+            OwnedInput::State => Input::State,
+            OwnedInput::Summary => Input::Summary,
+            OwnedInput::Delta(bytes) => Input::Delta(bytes.as_slice()),
+        }
+    }
+}
+
+/// Lends inputs.
+pub(crate) fn all_lent(alloc: Global, inputs: &[OwnedInput]) -> Result<Vec<Input<'_>>, NoMemory> {
+    let mut lent = Vec::with_capacity(alloc, inputs.len())?;
+    for input in inputs {
+        lent.push(input.lent())?;
+    }
+    Ok(lent)
+}
+
 /// Returns the policy to put: its id up to a blank, and its text.
-fn policy_put(alloc: Global, text: &str) -> Result<Option<Input>, NoMemory> {
+fn policy_put(alloc: Global, text: &str) -> Result<Option<OwnedInput>, NoMemory> {
     let (id, text) = first_word(text);
     let id = expanded_text(alloc, id)?;
     let (id, text) = beside(id, expanded_text(alloc, text))?;
-    Ok(Some(Input::PutPolicy(id, text)))
+    Ok(Some(OwnedInput::PutPolicy(id, text)))
 }
 
 /// Returns the uid of this type and id.
@@ -23,26 +65,25 @@ pub(crate) fn uid_of(alloc: Global, type_name: TypeName, id: &str) -> Result<Ent
 
 /// Returns the entity to delete: its type up to a blank, and its id. Without a uid, since the type is not a path, it is
 /// an entity without the form of one, as at a served site.
-fn entity_deleted(alloc: Global, text: &str) -> Result<Option<Input>, NoMemory> {
+fn entity_deleted(alloc: Global, text: &str) -> Result<Option<OwnedInput>, NoMemory> {
     let (type_name, id) = first_word(text);
     match TypeName::parse(alloc, type_name)? {
-        Some(type_name) => Ok(Some(Input::DeleteEntity(uid_of(alloc, type_name, id)?))),
-        None => Ok(Some(Input::PutEntity(Items::new(alloc)))),
+        Some(type_name) => Ok(Some(OwnedInput::DeleteEntity(uid_of(alloc, type_name, id)?))),
+        None => Ok(Some(OwnedInput::PutEntity(Items::new(alloc)))),
     }
 }
 
 /// Returns the deletion of a policy, or its look-up.
-fn input_by_id(alloc: Global, word: &str, id: &str) -> Result<Option<Input>, NoMemory> {
+fn input_by_id(alloc: Global, word: &str, id: &str) -> Result<Option<OwnedInput>, NoMemory> {
     let id = expanded_text(alloc, id)?;
     match word {
-        "delete_policy" => Ok(Some(Input::DeletePolicy(id))),
-        _ => Ok(Some(Input::GetPolicy(id))),
+        "delete_policy" => Ok(Some(OwnedInput::DeletePolicy(id))),
+        _ => Ok(Some(OwnedInput::GetPolicy(id))),
     }
 }
 
-/// Returns the input that holds bytes: an entity, a message, a request or a summary.
-pub(crate) fn input_of_bytes(word: &str, bytes: Vec<u8>) -> Input {
-    let bytes = Items::from_vec(bytes);
+/// Returns the input that bytes are: an entity, a message, a request or a summary.
+pub(crate) fn input_of_bytes<'a>(word: &str, bytes: &'a [u8]) -> Input<'a> {
     match word {
         "put_entity" => Input::PutEntity(bytes),
         "take" => Input::Take(bytes),
@@ -52,26 +93,32 @@ pub(crate) fn input_of_bytes(word: &str, bytes: Vec<u8>) -> Input {
 }
 
 /// Returns the input that holds the bytes of a string.
-fn input_by_bytes(alloc: Global, word: &str, text: &str) -> Result<Option<Input>, NoMemory> {
-    Ok(Some(input_of_bytes(word, expanded(alloc, text)?)))
+fn input_by_bytes(alloc: Global, word: &str, text: &str) -> Result<Option<OwnedInput>, NoMemory> {
+    let bytes = Items::from_vec(expanded(alloc, text)?);
+    match word {
+        "put_entity" => Ok(Some(OwnedInput::PutEntity(bytes))),
+        "take" => Ok(Some(OwnedInput::Take(bytes))),
+        "authorize" => Ok(Some(OwnedInput::Authorize(bytes))),
+        _ => Ok(Some(OwnedInput::Delta(bytes))),
+    }
 }
 
 /// Returns the input that a string describes, if it describes one.
-pub(crate) fn input_of(alloc: Global, text: &str) -> Result<Option<Input>, NoMemory> {
+pub(crate) fn input_of(alloc: Global, text: &str) -> Result<Option<OwnedInput>, NoMemory> {
     let (word, text) = first_word(text);
     match word {
         "put_policy" => policy_put(alloc, text),
         "delete_policy" | "get_policy" => input_by_id(alloc, word, text),
         "put_entity" | "take" | "authorize" | "delta" => input_by_bytes(alloc, word, text),
         "delete_entity" => entity_deleted(alloc, text),
-        "state" => Ok(Some(Input::State)),
-        "summary" => Ok(Some(Input::Summary)),
+        "state" => Ok(Some(OwnedInput::State)),
+        "summary" => Ok(Some(OwnedInput::Summary)),
         _ => Ok(None),
     }
 }
 
 /// Appends the input that a string describes. Returns whether it describes one.
-fn push_input(alloc: Global, inputs: &mut Vec<Input>, text: &str) -> Result<bool, NoMemory> {
+fn push_input(alloc: Global, inputs: &mut Vec<OwnedInput>, text: &str) -> Result<bool, NoMemory> {
     match input_of(alloc, text)? {
         Some(input) => {
             inputs.push(input)?;
@@ -82,7 +129,7 @@ fn push_input(alloc: Global, inputs: &mut Vec<Input>, text: &str) -> Result<bool
 }
 
 /// Returns the inputs that a string describes, if it describes inputs alone.
-pub(crate) fn inputs_of(alloc: Global, text: &str) -> Result<Option<Vec<Input>>, NoMemory> {
+pub(crate) fn inputs_of(alloc: Global, text: &str) -> Result<Option<Vec<OwnedInput>>, NoMemory> {
     let mut inputs = Vec::new(alloc);
     for one in text.split(BETWEEN) {
         if !push_input(alloc, &mut inputs, one)? {

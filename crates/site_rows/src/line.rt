@@ -2,6 +2,7 @@
 use itoa::Buffer;
 use plain::NoMemory;
 use std::alloc::Global;
+use std::fmt::Display;
 
 /// The outcome of a case of another form.
 pub(crate) const BAD_ROW: &[u8] = b"bad row";
@@ -15,8 +16,10 @@ pub(crate) const BETWEEN: &str = " ¶ ";
 /// Bytes, built from pieces. Only [`Line::ended`] reports a failed allocation, so that no caller checks each piece.
 #[derive(Drop)]
 pub(crate) struct Line {
+    alloc: Global,
     bytes: Vec<u8>,
     has_parts: bool,
+    has_messages: bool,
     is_whole: bool,
 }
 
@@ -29,8 +32,10 @@ impl Line {
     /// Creates an empty line.
     pub(crate) fn new(alloc: Global) -> Line {
         Line {
+            alloc,
             bytes: Vec::new(alloc),
             has_parts: false,
+            has_messages: false,
             is_whole: true,
         }
     }
@@ -50,6 +55,24 @@ impl Line {
     pub(crate) fn push_number(&mut self, number: u64) {
         let mut digits = Buffer::new();
         self.push(digits.format(number).as_bytes());
+    }
+
+    /// Appends what a value shows itself as.
+    pub(crate) fn push_shown(&mut self, shown: &impl Display) {
+        match format!(in self.alloc; "{shown}") {
+            Ok(text) => self.push(text.as_bytes()),
+            Err(_) => self.fail(),
+        }
+    }
+
+    /// Has the line print the message of an error in place of its code.
+    pub(crate) fn print_messages(&mut self) {
+        self.has_messages = true;
+    }
+
+    /// Returns whether the line prints messages.
+    pub(crate) fn has_messages(&self) -> bool {
+        self.has_messages
     }
 
     /// Notes a failed allocation.

@@ -11,6 +11,7 @@
 //!   `delta SUMMARY`.
 //! - `prefixes NAME INPUT` gives the site each proper prefix of the bytes of an input `put_entity`, `take`,
 //!   `authorize` or `delta`, and prints the replies. ` × ` stands between the number of equal ones in a row and one.
+//! - `says NAME INPUT` does as `NAME INPUT`, and prints the message of an error in place of its code.
 //! - `standing NAME` prints which caches of the site are present, its ancestors and its index of policies, and
 //!   `tried NAME` how many policies its last answer tried.
 //! - `context TYPE ID JSON` reads the context of a request for this action, and prints it as the attributes of an
@@ -31,8 +32,8 @@
 //! for two bytes. In a stream `\r` and `\n` stand for a carriage return and a line feed, and a backslash before any
 //! other byte for that byte.
 //!
-//! [`run`]: site_worlds::run
-//! [`simulate`]: site_worlds::simulate
+//! [`run`]: site::run
+//! [`simulate`]: site::simulate
 //! [`serve`]: http_service::serve
 #![tactic(auto)]
 
@@ -68,6 +69,7 @@ fn push_outcome(alloc: Global, given: &mut Given, row: &str, line: &mut Line) {
         }
         "prefixes" => prefixes::push_prefixes(alloc, given, text, line),
         "standing" | "tried" => given.push_measure(word, text, line),
+        "says" => given.push_messages(alloc, text, line),
         name => given.push_replies(alloc, name, text, line),
     }
 }

@@ -6,21 +6,6 @@ use crate::repeats::Repeats;
 use crate::written::{expanded, first_word};
 use std::alloc::Global;
 
-/// Gives a site an input of these bytes, and appends its reply.
-fn push_reply_to(
-    alloc: Global,
-    given: &mut Given,
-    name: &str,
-    word: &str,
-    bytes: &[u8],
-    line: &mut Line,
-) {
-    match Vec::from_slice(alloc, bytes) {
-        Ok(bytes) => given.push_run(alloc, name, &[input_of_bytes(word, bytes)], line),
-        Err(_) => line.push(NO_MEMORY),
-    }
-}
-
 /// Gives a site each proper prefix of some bytes as an input, the shortest first, and appends its replies.
 fn push_each(
     alloc: Global,
@@ -33,7 +18,8 @@ fn push_each(
     let mut repeats = Repeats::new(alloc);
     for end in 0..bytes.len() {
         let mut reply = Line::new(alloc);
-        push_reply_to(alloc, given, name, word, &bytes[..end], &mut reply);
+        let input = input_of_bytes(word, &bytes[..end]);
+        given.push_run(alloc, name, &[input], &mut reply);
         repeats.add(reply, line);
     }
     repeats.push_to(line);

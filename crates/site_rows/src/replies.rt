@@ -1,7 +1,7 @@
 //! Replies as a case prints them.
 use crate::line::{Line, NO_MEMORY};
 use http_service::{Answer, answer_line};
-use site_worlds::{Found, Put, Reply, Site, SiteFault, Stamp, Taken};
+use site::{Found, Put, Reply, Site, SiteFault, Stamp, Taken};
 use std::alloc::Global;
 
 /// Appends the place of an error, or `-` without one.
@@ -30,8 +30,11 @@ fn push_error(line: &mut Line, code: u8, place: Option<usize>, within: Option<u8
     push_within(line, within);
 }
 
-/// Appends why a site rejects an input.
+/// Appends why a site rejects an input: the error's code and places, or its message.
 pub(crate) fn push_fault(line: &mut Line, fault: SiteFault) {
+    if line.has_messages() {
+        return line.push_shown(&fault);
+    }
     push_error(line, fault.code(), fault.place(), fault.within());
 }
 

@@ -7,9 +7,9 @@ use crate::written::{first_word, number_of, push_escaped, push_unescaped, text_i
 use entities::Schema;
 use http_service::serve;
 use http_streams::serve::StreamFault;
-use http_streams::{MemoryReader, MemoryWriter, Plan};
+use http_streams::{Fed, Kept, Plan};
 use plain::{NoMemory, Shared, beside};
-use site_worlds::{Site, SiteName};
+use site::{Site, SiteName};
 use std::alloc::Global;
 
 /// More calls of a device, and more replies, than a case has.
@@ -154,8 +154,8 @@ fn push_served(
     devices: Devices<'_>,
     line: &mut Line,
 ) -> bool {
-    let mut reader = MemoryReader::new(bytes, Plan::new(devices.reads, devices.failing_read));
-    let mut writer = MemoryWriter::new(alloc, Plan::new(devices.writes, devices.failing_write));
+    let mut reader = Fed::new(bytes, Plan::new(devices.reads, devices.failing_read));
+    let mut writer = Kept::new(alloc, Plan::new(devices.writes, devices.failing_write));
     let fault = serve(alloc, site, &mut reader, &mut writer).err();
     push_fault(line, fault);
     push_unread(line, reader.left().len(), devices.second);

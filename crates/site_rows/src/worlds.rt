@@ -1,11 +1,11 @@
 //! Cases of sites that exchange messages.
-use crate::inputs::input_of;
+use crate::inputs::{OwnedInput, input_of};
 use crate::line::{BAD_ROW, BETWEEN, Line, NO_MEMORY};
 use crate::replies::{push_fault, push_reply, push_state};
 use crate::written::{first_word, number_of};
 use entities::Schema;
 use plain::{NoMemory, Shared};
-use site_worlds::{Deed, Event, EventReply, Input, SiteFault, World, simulate};
+use site::{Deed, Event, EventReply, SiteFault, World, simulate};
 use std::alloc::Global;
 
 /// Drops the parts of an input that is not an event.
@@ -14,18 +14,18 @@ fn no_operation<T: Drop>(_parts: T) -> Option<Deed> {
 }
 
 /// Returns the operation of an event, if an input is one.
-fn operation_by(input: Input) -> Option<Deed> {
+fn operation_by(input: OwnedInput) -> Option<Deed> {
     match input {
-        Input::PutPolicy(id, text) => Some(Deed::PutPolicy(id, text)),
-        Input::DeletePolicy(id) => Some(Deed::DeletePolicy(id)),
-        Input::PutEntity(bytes) => Some(Deed::PutEntity(bytes)),
-        Input::DeleteEntity(uid) => Some(Deed::DeleteEntity(uid)),
-        Input::Authorize(bytes) => Some(Deed::Authorize(bytes)),
-        Input::Summary => Some(Deed::Summary),
-        Input::Take(bytes) => no_operation(bytes),
-        Input::Delta(bytes) => no_operation(bytes),
-        Input::GetPolicy(id) => no_operation(id),
-        Input::State => None,
+        OwnedInput::PutPolicy(id, text) => Some(Deed::PutPolicy(id, text)),
+        OwnedInput::DeletePolicy(id) => Some(Deed::DeletePolicy(id)),
+        OwnedInput::PutEntity(bytes) => Some(Deed::PutEntity(bytes)),
+        OwnedInput::DeleteEntity(uid) => Some(Deed::DeleteEntity(uid)),
+        OwnedInput::Authorize(bytes) => Some(Deed::Authorize(bytes)),
+        OwnedInput::Summary => Some(Deed::Summary),
+        OwnedInput::Take(bytes) => no_operation(bytes),
+        OwnedInput::Delta(bytes) => no_operation(bytes),
+        OwnedInput::GetPolicy(id) => no_operation(id),
+        OwnedInput::State => None,
     }
 }
 

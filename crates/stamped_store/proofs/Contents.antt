@@ -13,7 +13,7 @@ use Rattle.values.specs.declared.name.Name.{Name}
 use Rattle.values.specs.declared.name.Name.TheVariants.{Policy, Entity}
 use Rattle.values.specs.declared.entity_uid.EntityUid.{EntityUid}
 use Rattle.values.specs.Names.{name_cmp, name_cmp-IsTotalOrder, name_cmp-IsAntisymmetric}
-use Rattle.stamped_entries.specs.EntryOrder.{PlainEntry}
+use Rattle.stamped_store.specs.EntryOrder.{PlainEntry}
 use Rattle.stamped_store.specs.Store.{Store, Update, updates}
 use Rattle.stamped_store.specs.Contents.{text_under, policy_text, entity_text, policies_of, entities_of}
 use Rattle.plain.proofs.Members.{Contains-none, Contains-here, Contains-there}

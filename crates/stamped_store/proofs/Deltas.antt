@@ -11,9 +11,9 @@ use Rattle.std.specs.declared.cmp.Ordering.TheVariants.{Less, Equal, Greater}
 use Rattle.std.proofs.lemmas.Cmp.{nat_cmp_total, nat_list_cmp_total, on_total, then_total}
 use Rattle.values.specs.declared.name.Name.{Name}
 use Rattle.values.specs.Names.{name_cmp, name_cmp-IsTotalOrder, name_cmp-IsAntisymmetric}
-use Rattle.stamped_entries.specs.declared.entry.Stamp.{Stamp}
-use Rattle.stamped_entries.specs.Joins.{option_joined, option_below}
-use Rattle.stamped_entries.specs.EntryOrder.{PlainEntry, body_cmp, site_cmp, greater_entry}
+use Rattle.stamped_store.specs.declared.entry.Stamp.{Stamp}
+use Rattle.stamped_store.specs.Joins.{option_joined, option_below}
+use Rattle.stamped_store.specs.EntryOrder.{PlainEntry, body_cmp, site_cmp, greater_entry}
 use Rattle.stamped_store.specs.Stored.{value_at}
 use Rattle.stamped_store.specs.Store.{Store, Update, updates, plain_below, IsStoreBelow, joined_stores}
 use Rattle.stamped_store.specs.Deltas.{Summary, stamp_of, stamp_cmp, summary_of, is_news, delta, HaveOneEntryForAStamp}

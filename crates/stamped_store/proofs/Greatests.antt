@@ -8,9 +8,9 @@ use Rattle.std.specs.FinMap.Entries.{find, put, by_order}
 use Rattle.std.specs.declared.cmp.Ordering.{Ordering}
 use Rattle.std.specs.declared.cmp.Ordering.TheVariants.{Less, Equal, Greater}
 use Rattle.std.proofs.lemmas.Cmp.{ranked, by_ranked, nat_list_cmp_total}
-use Rattle.stamped_entries.specs.Joins.{IsJoin}
-use Rattle.stamped_entries.specs.EntryOrder.{EntryAt, PlainEntry, body_cmp, site_cmp, entry_cmp_by, entry_cmp, greater_entry}
-use Rattle.stamped_entries.specs.EntryJoins.{entry_cmp_by_total}
+use Rattle.stamped_store.specs.Joins.{IsJoin}
+use Rattle.stamped_store.specs.EntryOrder.{EntryAt, PlainEntry, body_cmp, site_cmp, entry_cmp_by, entry_cmp, greater_entry}
+use Rattle.stamped_store.specs.EntryJoins.{entry_cmp_by_total}
 use Rattle.stamped_store.specs.Stored.{joined_onto}
 use Rattle.stamped_store.specs.Greatest.{max_count, greatest_count, store_of}
 use Rattle.stamped_store.proofs.GreatestsBy.{IsExactOrder, greater_is_join, by_test}

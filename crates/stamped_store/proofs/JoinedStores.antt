@@ -8,9 +8,8 @@ use Rattle.std.proofs.Math.Seq.{take-nil}
 use Rattle.std.proofs.lemmas.Bool.{cases_lt}
 use Prim.Native.Nat.{zero}
 use Rattle.std.specs.Option.{option_map}
-use Rattle.std.specs.Ordering.{is_le, is_eq, eq_by_cmp}
+use Rattle.std.specs.Ordering.{is_le, is_eq, eq_by_cmp, nat_cmp}
 use Rattle.std.specs.String.{string_cmp}
-use Rattle.std.specs.Ordering.{nat_cmp}
 use Rattle.std.specs.Cmp.Lexicographic.{slice_cmp}
 use Rattle.std.specs.FinMap.{get, same_map, get-insert, get-entries}
 use Rattle.std.specs.declared.alloc.Global.{Global}
@@ -20,9 +19,9 @@ use Rattle.values.specs.declared.name.Name.TheVariants.{Policy, Entity}
 use Rattle.values.specs.declared.entity_uid.EntityUid.{EntityUid}
 use Rattle.values.specs.Names.{name_cmp, uid_cmp, text_cmp-IsAntisymmetric}
 use Rattle.values.specs.Names.{name_cmp-IsTotalOrder, name_cmp-IsAntisymmetric}
-use Rattle.stamped_entries.specs.declared.entry.Entry.{Entry}
-use Rattle.stamped_entries.specs.Joins.{option_joined, option_below}
-use Rattle.stamped_entries.specs.EntryOrder.{PlainEntry, plain_entry, entry_cmp, entry_below, greater, greater_entry}
+use Rattle.stamped_store.specs.declared.entry.Entry.{Entry}
+use Rattle.stamped_store.specs.Joins.{option_joined, option_below}
+use Rattle.stamped_store.specs.EntryOrder.{PlainEntry, plain_entry, entry_cmp, entry_below, greater, greater_entry}
 use Rattle.stamped_store.specs.Stored.{value_at, value_at_text, all_taken, joined_onto, IsBelow}
 use Rattle.stamped_store.specs.Greatest.{greatest_count, max_count}
 use Rattle.stamped_store.specs.Abstraction.{abstract_entry, abstract_entries}

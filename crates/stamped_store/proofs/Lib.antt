@@ -1,3 +1,5 @@
+pub mod SiteNames
+pub mod SiteWords
 pub mod Entered
 pub mod Points
 pub mod Lifted

@@ -1,9 +1,8 @@
 -- A join of values makes a join of stores, seen as what they have at each key.
-use Rattle.std.specs.Prelude.{◌≡◌, Bool, true, Option, Some, None, refl}
-use Rattle.std.specs.Prelude.{List}
+use Rattle.std.specs.Prelude.{◌≡◌, Bool, true, Option, Some, None, refl, List}
 use Rattle.std.proofs.Common.{sym, subst}
 use Rattle.std.specs.declared.cmp.Ordering.{Ordering}
-use Rattle.stamped_entries.specs.Joins.{IsJoin, IsLeastAbove, join_from_least, option_below, option_joined}
+use Rattle.stamped_store.specs.Joins.{IsJoin, IsLeastAbove, join_from_least, option_below, option_joined}
 use Rattle.stamped_store.specs.Stored.{IsBelowAt, joined_at, value_at, IsBelow, IsJoined}
 
 module _ {V : Type 0} (below : V → V → Bool) (join : V → V → V) (l : IsJoin (λ a b. below a b ≡ true) join) where

@@ -6,15 +6,14 @@ use Rattle.std.proofs.Common.{subst, sym, ◌∙◌, ap}
 use Rattle.std.specs.BTreeMap.{insert_entry, is_at}
 use Rattle.std.specs.Map.{keys_of}
 use Rattle.std.specs.Ordering.{ordering_reverse, is_eq, match_ordering}
-use Rattle.std.specs.Cmp.{IsTotalOrder, tied_back, tied_itself, alike_right}
+use Rattle.std.specs.Cmp.{IsTotalOrder, tied_back, tied_itself, alike_right, eq_by_cmp_equiv}
 use Rattle.std.specs.List.Sorted.{IsStrictlySortedBy}
 use Rattle.std.specs.declared.cmp.Ordering.{Ordering}
 use Rattle.std.specs.declared.cmp.Ordering.TheVariants.{Less, Equal, Greater}
 use Rattle.std.proofs.lemmas.Map.{lookup-none}
 use Rattle.std.proofs.lemmas.Map.Entries.{none_past_head}
 use Rattle.std.proofs.lemmas.Map.Keys.{sorted_tail, IsDistinct-from_sorted}
-use Rattle.std.specs.Cmp.{eq_by_cmp_equiv}
-use Rattle.stamped_entries.specs.Joins.{option_below, option_joined}
+use Rattle.stamped_store.specs.Joins.{option_below, option_joined}
 use Rattle.stamped_store.specs.Stored.{value_at, taken, all_taken, joined_onto, KeepsOthers, IsJoined, IsBelow}
 
 equal_of : (r : Ordering) → is_eq r ≡ true → r ≡ Equal

@@ -10,12 +10,12 @@ use Rattle.std.specs.FinMap.Entries.{find, is_sorted, below_all}
 use Rattle.std.proofs.lemmas.Cmp.{nat_cmp_total}
 use Rattle.values.specs.declared.name.Name.{Name}
 use Rattle.values.specs.Names.{name_cmp, name_cmp-IsTotalOrder, name_cmp-IsAntisymmetric}
-use Rattle.stamped_entries.specs.EntryOrder.{body_cmp, entry_cmp, greater_of, greater_entry}
+use Rattle.stamped_store.specs.EntryOrder.{body_cmp, entry_cmp, greater_of, greater_entry}
 use Rattle.stamped_store.specs.Stored.{joined_onto}
 use Rattle.stamped_store.specs.Greatest.{greatest_at}
 use Rattle.stamped_store.specs.Store.{updates, store_of, joined_stores, IsStoreJoin}
 use Rattle.stamped_store.specs.Raised.{NumberedEntry, NumberedUpdate, NumberedStore, numbered_cmp, numbered_updates, numbered_store_of, IsNumberedStoreOf, IsNumberedJoin, joined_numbered, IsSiteNumber, HaveSiteNumbers, raise_entry, raise_update, raise, raise_store}
-use Rattle.stamped_entries.proofs.SiteNames.{five_digits_cmp}
+use Rattle.stamped_store.proofs.SiteNames.{five_digits_cmp}
 use Rattle.stamped_store.proofs.Greatests.{entry_order, entry_order_by}
 use Rattle.stamped_store.proofs.GreatestsBy.{IsExactOrder, get-store_of, is_store_of-store_of, same_store, joined_is_least, one_least}
 use Rattle.stamped_store.proofs.JoinedStores.{joined_is_join}

@@ -12,8 +12,8 @@ use Rattle.std.specs.FinMap.{IsAntisymmetric, insert, get, entries, from_sorted,
 use Rattle.std.specs.FinMap.Entries.{is_sorted, below_all, find, put, find-put, by_order}
 use Rattle.std.specs.declared.cmp.Ordering.{Ordering}
 use Rattle.std.specs.declared.cmp.Ordering.TheVariants.{Less, Equal, Greater}
-use Rattle.stamped_entries.specs.declared.entry.Entry.{Entry}
-use Rattle.stamped_entries.specs.EntryOrder.{entry_cmp, greater, greater_entry, plain_entry}
+use Rattle.stamped_store.specs.declared.entry.Entry.{Entry}
+use Rattle.stamped_store.specs.EntryOrder.{entry_cmp, greater, greater_entry, plain_entry}
 use Rattle.stamped_store.specs.Stored.{value_at, taken, all_taken, joined_onto}
 use Rattle.stamped_store.specs.Greatest.{store_of}
 use Rattle.stamped_store.specs.Abstraction.{abstract_entry, abstract_entries, abstract_map, greatest_kept}

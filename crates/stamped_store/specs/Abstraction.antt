@@ -3,8 +3,8 @@
 use Rattle.std.specs.Prelude.{ℕ, max, List, [], ◌∷◌, map}
 use Rattle.std.specs.FinMap.{FinMap, from_entries}
 use Rattle.std.specs.declared.cmp.Ordering.{Ordering}
-use Rattle.stamped_entries.specs.declared.entry.Entry.{Entry}
-use Rattle.stamped_entries.specs.EntryOrder.{PlainEntry, plain_entry}
+use Rattle.stamped_store.specs.declared.entry.Entry.{Entry}
+use Rattle.stamped_store.specs.EntryOrder.{PlainEntry, plain_entry}
 
 module _ {K N P : Type 0} (name : K → N) where
   abbrev pub abstract_entry : K × Entry P → N × PlainEntry

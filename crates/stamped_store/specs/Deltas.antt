@@ -7,8 +7,8 @@ use Rattle.std.specs.Ordering.{nat_cmp, ordering_then, is_lt}
 use Rattle.std.specs.declared.cmp.Ordering.{Ordering}
 use Rattle.values.specs.declared.name.Name.{Name}
 use Rattle.values.specs.Names.{name_cmp}
-use Rattle.stamped_entries.specs.declared.entry.Stamp.{Stamp}
-use Rattle.stamped_entries.specs.EntryOrder.{PlainEntry, site_cmp}
+use Rattle.stamped_store.specs.declared.entry.Stamp.{Stamp}
+use Rattle.stamped_store.specs.EntryOrder.{PlainEntry, site_cmp}
 use Rattle.stamped_store.specs.Stored.{value_at}
 use Rattle.stamped_store.specs.Store.{Store, updates}
 

@@ -1,13 +1,12 @@
 -- The store of a set of updates: each name has the greatest entry that the updates have for it. An entry is here of any
 -- type, and which is the greater is asked of an order.
-use Rattle.std.specs.Prelude.{◌≡◌, ℕ, max, List, [], ◌∷◌, ◌++◌, Option, Some, None, true}
-use Rattle.std.specs.Prelude.{if◌then◌else◌}
+use Rattle.std.specs.Prelude.{◌≡◌, ℕ, max, List, [], ◌∷◌, ◌++◌, Option, Some, None, true, if◌then◌else◌}
 use Rattle.std.specs.List.{Contains}
 use Rattle.std.specs.Ordering.{eq_by_cmp, is_le}
 use Rattle.std.specs.FinMap.{FinMap, empty, get, insert, entries}
 use Rattle.std.specs.declared.cmp.Ordering.{Ordering}
-use Rattle.stamped_entries.specs.Joins.{option_below}
-use Rattle.stamped_entries.specs.EntryOrder.{PlainEntry, greater_of}
+use Rattle.stamped_store.specs.Joins.{option_below}
+use Rattle.stamped_store.specs.EntryOrder.{PlainEntry, greater_of}
 use Rattle.stamped_store.specs.Stored.{joined_onto}
 
 -- the greatest count among entries

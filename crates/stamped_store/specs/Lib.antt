@@ -1,3 +1,7 @@
+pub mod SiteNames
+pub mod Joins
+pub mod EntryOrder
+pub mod EntryJoins
 pub mod Stored
 pub mod Greatest
 pub mod Abstraction
@@ -7,10 +11,3 @@ pub mod Reading
 pub mod Contents
 pub mod Deltas
 pub mod Raised
--- what crates above cite of `stamped_entries`, passed on
-pub use Rattle.stamped_entries.specs.SiteNames
-pub use Rattle.stamped_entries.specs.Joins
-pub use Rattle.stamped_entries.specs.EntryOrder
-pub use Rattle.stamped_entries.specs.EntryJoins
--- crates below, passed on to those above
-pub use Rattle.stamped_entries.specs as stamped_entries

@@ -8,9 +8,9 @@ use Rattle.std.specs.List.{AllByRecursion}
 use Rattle.std.specs.Ordering.{nat_cmp}
 use Rattle.std.specs.declared.cmp.Ordering.{Ordering}
 use Rattle.values.specs.Names.{name_cmp}
-use Rattle.stamped_entries.specs.Joins.{IsLeastAbove}
-use Rattle.stamped_entries.specs.SiteNames.{five_digits}
-use Rattle.stamped_entries.specs.EntryOrder.{EntryAt, PlainEntry, entry_cmp_by}
+use Rattle.stamped_store.specs.Joins.{IsLeastAbove}
+use Rattle.stamped_store.specs.SiteNames.{five_digits}
+use Rattle.stamped_store.specs.EntryOrder.{EntryAt, PlainEntry, entry_cmp_by}
 use Rattle.stamped_store.specs.Greatest as updates_of
 use Rattle.stamped_store.specs.Store.{Store, StoreAt, Update, UpdateAt}
 

@@ -3,8 +3,8 @@
 use Rattle.std.specs.Prelude.{ℕ, List, Option, Some, None, string_bytes}
 use Rattle.std.specs.List.{AllByRecursion}
 use Rattle.values.specs.declared.entity_uid.EntityUid.{EntityUid}
-use Rattle.stamped_entries.specs.declared.entry.Entry.{Entry}
-use Rattle.stamped_entries.specs.declared.entry.ReadText.{ReadText}
+use Rattle.stamped_store.specs.declared.entry.Entry.{Entry}
+use Rattle.stamped_store.specs.declared.entry.ReadText.{ReadText}
 use Rattle.stamped_store.specs.Store.{StoreEntries}
 
 -- F holds of each value and its name; a key shows its name by `name`, which leaves out where the key lies in memory

@@ -9,10 +9,10 @@ use Rattle.values.specs.declared.name.Name.{Name}
 use Rattle.values.specs.declared.name.Name.TheVariants.{Policy, Entity}
 use Rattle.values.specs.declared.entity_uid.EntityUid.{EntityUid}
 use Rattle.values.specs.Names.{name_cmp, uid_cmp}
-use Rattle.stamped_entries.specs.declared.entry.Entry.{Entry}
-use Rattle.stamped_entries.specs.declared.entry.Stamp.{Stamp}
-use Rattle.stamped_entries.specs.Joins.{IsLeastAbove}
-use Rattle.stamped_entries.specs.EntryOrder.{EntryAt, PlainEntry, entry_cmp, greater}
+use Rattle.stamped_store.specs.declared.entry.Entry.{Entry}
+use Rattle.stamped_store.specs.declared.entry.Stamp.{Stamp}
+use Rattle.stamped_store.specs.Joins.{IsLeastAbove}
+use Rattle.stamped_store.specs.EntryOrder.{EntryAt, PlainEntry, entry_cmp, greater}
 use Rattle.stamped_store.specs.Greatest as updates_of
 use Rattle.stamped_store.specs.Stored.{all_taken}
 use Rattle.stamped_store.specs.Abstraction.{abstract_entries}

@@ -5,13 +5,18 @@
 //! which they came.
 #![tactic(auto)]
 
+mod entry;
+mod join;
 pub mod laws;
 mod policy_store;
 mod readings;
+mod site_name;
 mod stamped;
 mod stamping;
 
+pub use entry::{Entry, ReadText, Stamp};
+pub use join::Join;
 pub use policy_store::{COUNT_MAX, PolicyStore};
 pub use readings::Readings;
+pub use site_name::{SiteName, is_site_name};
 pub use stamped::{Short, Stamped};
-pub use stamped_entries::{Entry, Join, ReadText, SiteName, Stamp, is_site_name};

@@ -9,7 +9,7 @@ ghost use Rattle.std.specs.Map.Iter.{ShowsInOrder, deref_pair};
 ghost use Rattle.std.specs.String.{string_cmp};
 ghost use Rattle.std.specs.List.Sorted.{IsStrictlySortedBy};
 ghost use Rattle.values.specs.Names.{uid_cmp};
-ghost use Rattle.stamped_entries.specs.EntryOrder.{plain_entry, greater, entry_below};
+ghost use Rattle.stamped_store.specs.EntryOrder.{plain_entry, greater, entry_below};
 ghost use Rattle.stamped_store.specs.Greatest.{greatest_count};
 ghost use Rattle.stamped_store.specs.Abstraction.{greatest_kept};
 ghost use Rattle.stamped_store.specs.Stored.{value_at, value_at_text, taken, IsBelow};

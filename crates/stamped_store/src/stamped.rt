@@ -5,7 +5,7 @@ ghost use Rattle.std.specs.List.Sorted.{IsStrictlySortedBy};
 ghost use Rattle.std.specs.BTreeMap.{insert_entry};
 ghost use Rattle.std.specs.Map.{keys_of};
 ghost use Rattle.std.specs.Map.Iter.{ShowsInOrder, deref_pair};
-ghost use Rattle.stamped_entries.specs.Joins.{IsLeastAbove, option_below};
+ghost use Rattle.stamped_store.specs.Joins.{IsLeastAbove, option_below};
 ghost use Rattle.stamped_store.specs.Stored.{value_at, value_at_text, joined_onto, taken, all_taken, KeepsOthers};
 ghost use Rattle.stamped_store.specs.Stored.{IsBelow, IsJoined};
 
@@ -14,10 +14,12 @@ use std::alloc::Global;
 use std::collections::BTreeMap;
 use std::collections::btree_map::Iter;
 use std::marker::Model;
+use thiserror::Error;
 
 /// Want of memory in a merge: exactly the entries of the first `taken` keys of the other store were joined, and its
 /// rest was dropped.
-#[derive(Clone, Copy, PartialEq, Eq)]
+#[derive(Clone, Copy, PartialEq, Eq, Debug, Error)]
+#[error("out of memory after {taken} entries")]
 pub struct Short {
     /// How many keys of the other store, from its least on, have their entries in the join.
     pub taken: usize,

@@ -1,8 +1,5 @@
-pub mod Ascending
-pub mod Stamps
-pub mod RoundTrip
-pub mod CompactUtf8
-pub mod OneText
-pub mod Sound
-pub mod Raised
-pub use Rattle.uid_json.proofs.Appending
+pub mod CanonicalTexts
+pub mod FaultLemmas
+pub mod Readings
+-- crates below, passed on to those above
+pub use Rattle.validator.proofs.of_grammar_core

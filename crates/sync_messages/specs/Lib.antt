@@ -1,11 +1,12 @@
-pub mod Faults
-pub mod Numbered
-pub mod Summaries
-pub mod inner
-pub use Rattle.uid_json.specs.Tokens
+pub mod Laws
+pub mod Texts
 -- crates below, passed on to those above
-pub use Rattle.stamped_store.specs as stamped_store
-pub use Rattle.stamped_store.specs.stamped_entries
-pub use Rattle.uid_json.specs as uid_json
-pub use Rattle.uid_json.specs.policy_grammar
-pub use Rattle.uid_json.specs.text_trees
+pub use Rattle.validator.specs.entities
+pub use Rattle.validator.specs.entities.schema
+pub use Rattle.message_format.specs as message_format
+pub use Rattle.message_format.specs.stamped_store
+pub use Rattle.message_format.specs.entity_uids
+pub use Rattle.validator.specs as validator
+pub use Rattle.validator.specs.grammar_core
+pub use Rattle.validator.specs.type_checker
+pub use Rattle.validator.specs.typing

@@ -1,55 +1,24 @@
-//! Laws of messages, by the contracts of functions that do nothing.
-ghost use Rattle.std.specs.Prelude.{◌≡◌, true, Ok, List, ℕ};
-ghost use Rattle.std.specs.Str.{IsUtf8};
-ghost use Rattle.serde_json.specs.Data.{Data};
-ghost use Rattle.values.specs.declared.name.Name.{Name};
-ghost use Rattle.stamped_store.specs.stamped_entries.declared.entry.Stamp.{Stamp};
-ghost use Rattle.stamped_store.specs.Deltas.{Summary, summary_of};
-ghost use Rattle.stamped_store.specs.Store.{Store};
-ghost use Rattle.sync_messages.specs.declared.version.MessageVersion.{MessageVersion};
-ghost use Rattle.sync_messages.specs.Summaries.{ascend, AreStamped, summary_json, summary_in};
-ghost use Rattle.sync_messages.specs.Summaries.{summary_text, summary_stated, IsWritten, IsName, IsStamped};
-ghost use Rattle.sync_messages.specs.Numbered.{NumberedStamp, HaveNumbers, raise_stamps, numbered_summary_json};
-ghost use Rattle.sync_messages.specs.Summaries.{name_json, name_in, stamped_in, judged};
+//! Laws of the definitions, by the contract of a function that does nothing.
+ghost use Rattle.sync_messages.specs.Laws.{PoliciesHaveOneReading, EntitiesHaveOneReading};
+ghost use Rattle.sync_messages.specs.Laws.{PoliciesHaveNoOtherName, CanonicalTextsAreRead};
 
-use json_words::compact_texts_read_back;
-use stamped_store::laws::site_names_are_told;
-use uid_json::names_read_back;
-use values::paths_are_told;
+use validator::policies_have_one_outcome;
 
-/// The JSON of a summary is read as this summary, and the JSON of a summary of version 1 as the summary in which each
-/// site's number is replaced by its five digits; what is read as a summary has names and stamps in their ranges, its
-/// names ascending; so have the names of a store's summary; the text of a summary that may be written is read as this
-/// summary, and two summaries that are written alike are one.
-pub fn summaries_read_back()
-    ensures back { (label : List ℕ) (m : Summary) → AreStamped m → ascend m ≡ true
-        → summary_in label (summary_json label m) ≡ Ok m }
-    ensures numbered { (label : List ℕ) (ns : List NumberedStamp) → HaveNumbers ns → AreStamped (raise_stamps ns)
-        → ascend (raise_stamps ns) ≡ true
-        → summary_in label (numbered_summary_json label ns) ≡ Ok (raise_stamps ns) }
-    ensures sound { (label bytes : List ℕ) (m : Summary) → summary_stated label bytes ≡ Ok m
-        → AreStamped m × (ascend m ≡ true) }
-    ensures ascending { (s : Store) → ascend (summary_of s) ≡ true }
-    ensures text { (label : List ℕ) (m : Summary) → IsUtf8 label → IsWritten m
-        → summary_stated label (summary_text label m) ≡ Ok m }
-    ensures one_text { (label : List ℕ) (m n : Summary) → IsUtf8 label → IsWritten m → IsWritten n
-        → summary_text label m ≡ summary_text label n → m ≡ n }
+/// Proves that under a schema each text is that of one policy that passes, or refused for one fault, and never both;
+/// and so of entities, under each uid.
+pub fn stored_texts_have_one_reading()
+    ensures policies { PoliciesHaveOneReading }
+    ensures entities { EntitiesHaveOneReading }
+    ensures named { PoliciesHaveNoOtherName }
 {
-    paths_are_told();
-    site_names_are_told();
-    compact_texts_read_back();
-    names_read_back();
+    message_format::texts_have_one_reading();
+    policies_have_one_outcome();
 }
 
-/// The JSON of a name is read as this name; a name with a stamp in their ranges is judged so; and what is read as a
-/// name with a stamp, and is judged so, has both in their ranges.
-pub fn stamps_read_back()
-    ensures names { (n : Name) → IsName n → name_in (name_json n) ≡ Ok n }
-    ensures judged { (place : ℕ) (u : Name × Stamp) → IsStamped u → judged place u ≡ Ok u }
-    ensures sound { (place : ℕ) (version : MessageVersion) (d : Data) (u v : Name × Stamp)
-        → stamped_in version d ≡ Ok u → judged place u ≡ Ok v → IsStamped u }
+/// Proves that what is written of an entity which was read from bytes is read again as that entity, under the same
+/// schema.
+pub fn canonical_texts_are_read()
+    ensures { CanonicalTextsAreRead }
 {
-    paths_are_told();
-    site_names_are_told();
-    names_read_back();
+    validator::canonical_texts_are_read();
 }

@@ -1,24 +1,19 @@
-//! Messages between sites: what a store is written as, and what is read from another site.
-//!
-//! Here summaries: the names of a store with the stamps of their entries, by which another site tells what is news to
-//! this one; and what entries of every message have in common with them, a name with a stamp.
+//! What the texts of a store are read as under a schema: policies that pass the validator, and entities in their
+//! canonical text. A message's bodies and a site's commands are judged by this alone.
 #![tactic(auto)]
 
-mod fault;
 mod laws;
-mod members;
-mod reading;
-mod summary;
-mod version;
-mod writing;
+mod texts;
 
-pub use fault::MessageFault;
-pub use laws::{stamps_read_back, summaries_read_back};
-pub use members::{Lent, write_number, write_text};
-pub use reading::{judge_stamp, read_stamped, read_summary, read_version};
-pub use stamped_store::laws::{site_names_are_told, updates_have_one_store};
-pub use stamped_store::{Entry, PolicyStore, ReadText, Readings, SiteName, Stamp};
-pub use summary::Summary;
-pub use uid_json::{Policy, ReadFault, names_read_back, parse_policy, texts_have_one_reading};
-pub use version::MessageVersion;
-pub use writing::write_summary;
+pub use laws::{canonical_texts_are_read, stored_texts_have_one_reading};
+pub use message_format::{
+    MessageFault, PolicyStore, Summary, Update, messages_have_one_outcome, messages_read_back,
+    names_read_back, read_message, read_summary, summaries_read_back, updates_have_one_store,
+    valid_messages_are_read, write_delta, write_state, write_summary,
+};
+pub use texts::SchemaTexts;
+pub use validator::{
+    Entity, Schema, TypeFault, action_types_are_told, bytes_have_one_outcome, check,
+    entities_read_back, json_texts_are_utf8, parents_tell_ancestors, passing_policies_go_right,
+    policies_have_one_outcome,
+};

@@ -4,23 +4,23 @@ use Rattle.std.specs.Prelude.{⊤}
 use Rattle.std.specs.Str.{bytes_eq}
 use Rattle.std.proofs.lemmas.List.{append-nil}
 use Rattle.std.proofs.lemmas.Slice.Eq.{bytes_eq-Decides}
-use Rattle.expressions.specs.declared.operator.Unary.{Unary}
-use Rattle.expressions.specs.declared.operator.Unary.TheVariants.{Is}
-use Rattle.expressions.specs.declared.expr.Expr.{Expr}
-use Rattle.expressions.specs.declared.expr.Expr.TheVariants as form
-use Rattle.expressions.specs.declared.expr.Expr.TheViews.{out-Expr}
-use Rattle.expressions.specs.declared.expr.Expr.TheOpen.{Expr-F}
-use Rattle.static_types.specs.typing.Types as types
-use Rattle.static_types.specs.typing.Environment.{Environment, unexpected}
-use Rattle.static_types.specs.typing.Learned.{Pairs}
-use Rattle.static_types.specs.typing.Rows.{Row, MayBeTrue, unary_type}
-use Rattle.static_types.specs.typing.Typing as typing
-use Rattle.static_types.specs.typing.Typing.{Types}
-use Rattle.static_types.specs.typing.Faults.{Faults}
-use Rattle.static_types.specs.Views.{static_view, fault_view}
-use Rattle.static_types.specs.declared.fault.TypeFault.{TypeFault}
+use Rattle.grammar_core.specs.declared.operator.Unary.{Unary}
+use Rattle.grammar_core.specs.declared.operator.Unary.TheVariants.{Is}
+use Rattle.grammar_core.specs.declared.expr.Expr.{Expr}
+use Rattle.grammar_core.specs.declared.expr.Expr.TheVariants as form
+use Rattle.grammar_core.specs.declared.expr.Expr.TheViews.{out-Expr}
+use Rattle.grammar_core.specs.declared.expr.Expr.TheOpen.{Expr-F}
+use Rattle.typing.specs.Types as types
+use Rattle.typing.specs.Environment.{Environment, unexpected}
+use Rattle.typing.specs.Learned.{Pairs}
+use Rattle.typing.specs.Rows.{Row, MayBeTrue, unary_type}
+use Rattle.typing.specs.Typing as typing
+use Rattle.typing.specs.Typing.{Types}
+use Rattle.typing.specs.Faults.{Faults}
+use Rattle.type_checker.specs.Views.{static_view, fault_view}
+use Rattle.type_checker.specs.declared.fault.ExpressionFault.{ExpressionFault}
 use Rattle.type_checker.specs.declared.typed.Typed.{Typed}
-use Rattle.known_pairs.specs.Pairs.{pairs}
+use Rattle.type_capabilities.specs.Pairs.{pairs}
 use Rattle.type_checker.specs.inner.Judged.{Judged, JudgedBehind}
 use Rattle.type_checker.specs.inner.Asking.{MayHold}
 
@@ -114,7 +114,7 @@ module _ (env : Environment) (K : Pairs) (n : List ℕ) (x : Expr) where
 -- ---- the right behind it
 
 -- the same where nothing more is known
-pub behind_nothing : (env : Environment) (K after : Pairs) (b : Expr) (r : Result Typed TypeFault) → Judged env K b r after
+pub behind_nothing : (env : Environment) (K after : Pairs) (b : Expr) (r : Result Typed ExpressionFault) → Judged env K b r after
     → JudgedBehind env K [] b r after
 behind_nothing env K after b (Ok t) h =
     let L = pairs t.learns.items in
@@ -128,7 +128,7 @@ pub record AskedSo (env : Environment) (K mid : Pairs) (a x : Expr) (n : List �
   pub learned : Pairs
   pub has_type : Types env K x (types.entity_type n) learned
 
-pub asked_so : (env : Environment) (K mid : Pairs) (a x : Expr) (n : List ℕ) (r : Result Typed TypeFault)
+pub asked_so : (env : Environment) (K mid : Pairs) (a x : Expr) (n : List ℕ) (r : Result Typed ExpressionFault)
     → a ≡ form.Unary (Is n) x → MayHold r → Judged env K a r mid → AskedSo env K mid a x n
 asked_so env K mid a x n (Ok t) e m h =
     let L = pairs t.learns.items in

@@ -4,32 +4,32 @@ use Rattle.std.proofs.Common.{ap, inl, inr}
 use Rattle.std.specs.Prelude.{Vec, IfOk, MatchResult}
 use Rattle.std.specs.Option.{option_map}
 use Rattle.std.specs.declared.alloc.Global.{Global}
-use Rattle.expressions.specs.declared.operator.UnaryCall.{UnaryCall}
-use Rattle.expressions.specs.declared.expr.Expr.{Expr}
-use Rattle.expressions.specs.declared.expr.Expr.TheVariants as form
-use Rattle.static_types.specs.evaluator.Operators.{TakesAddress}
-use Rattle.static_types.specs.typing.Types as types
-use Rattle.static_types.specs.typing.Environment as environment
-use Rattle.static_types.specs.typing.Environment.{Environment}
-use Rattle.static_types.specs.typing.Learned as learned
-use Rattle.static_types.specs.typing.Learned.{Pairs, has_learns}
-use Rattle.static_types.specs.typing.Literals.{ReadsLiteral, TakesText}
-use Rattle.static_types.specs.typing.Rows as rows
-use Rattle.static_types.specs.typing.Rows.{Row}
-use Rattle.static_types.specs.typing.Typing as typing
-use Rattle.static_types.specs.typing.Typing.{Types, TypesEach}
-use Rattle.static_types.specs.typing.Faults as faults
-use Rattle.static_types.specs.typing.Faults.{Faults, FaultsEach}
-use Rattle.static_types.specs.Views.{static_view, boolean_view, fault_view, Answers}
-use Rattle.static_types.specs.declared.static_type.StaticType.{StaticType}
-use Rattle.static_types.specs.declared.static_type.BooleanType.{BooleanType}
-use Rattle.static_types.specs.declared.static_type.BooleanType.TheVariants as truth
-use Rattle.static_types.specs.declared.fault.TypeFault.{TypeFault}
-use Rattle.static_types.specs.declared.fault.TypeFault.TheVariants.{NoMemory, NoCommonType}
+use Rattle.grammar_core.specs.declared.operator.UnaryCall.{UnaryCall}
+use Rattle.grammar_core.specs.declared.expr.Expr.{Expr}
+use Rattle.grammar_core.specs.declared.expr.Expr.TheVariants as form
+use Rattle.typing.specs.evaluator.Operators.{TakesAddress}
+use Rattle.typing.specs.Types as types
+use Rattle.typing.specs.Environment as environment
+use Rattle.typing.specs.Environment.{Environment}
+use Rattle.typing.specs.Learned as learned
+use Rattle.typing.specs.Learned.{Pairs, has_learns}
+use Rattle.typing.specs.Literals.{ReadsLiteral, TakesText}
+use Rattle.typing.specs.Rows as rows
+use Rattle.typing.specs.Rows.{Row}
+use Rattle.typing.specs.Typing as typing
+use Rattle.typing.specs.Typing.{Types, TypesEach}
+use Rattle.typing.specs.Faults as faults
+use Rattle.typing.specs.Faults.{Faults, FaultsEach}
+use Rattle.type_checker.specs.Views.{static_view, boolean_view, fault_view, Answers}
+use Rattle.type_checker.specs.declared.static_type.StaticType.{StaticType}
+use Rattle.type_checker.specs.declared.static_type.BooleanType.{BooleanType}
+use Rattle.type_checker.specs.declared.static_type.BooleanType.TheVariants as truth
+use Rattle.type_checker.specs.declared.fault.ExpressionFault.{ExpressionFault}
+use Rattle.type_checker.specs.declared.fault.ExpressionFault.TheVariants.{NoMemory, NoCommonType}
 use Rattle.type_checker.specs.declared.typed.Typed.{Typed}
 use Rattle.type_checker.specs.declared.typed.Then.{Then}
 use Rattle.type_checker.specs.declared.typed.Then.TheVariants as then
-use Rattle.known_pairs.specs.Pairs.{pairs}
+use Rattle.type_capabilities.specs.Pairs.{pairs}
 use Rattle.type_checker.specs.inner.Judged.{Judged, JudgedBehind, JudgedEach, JudgedMembers, MembersHave, ThenTyped}
 use Rattle.type_checker.specs.inner.Judged.{ThenJudged, ThenIs, IsBranch, IsRow, IsHasRow, CallTyped}
 
@@ -46,47 +46,47 @@ boolean_so b e = subst types.IsBoolean (sym e) (is_boolean_view b)
 abbrev CommonIs : {B : Type 0} → Typed → Typed → Result (Option StaticType) B → Type 0
 CommonIs s t r = IfOk r (λ o. option_map static_view o ≡ types.common (static_view s.kind) (static_view t.kind))
 
-abbrev KindOf : {B : Type 0} → Result (Option StaticType) B → Result StaticType TypeFault → Type 0
+abbrev KindOf : {B : Type 0} → Result (Option StaticType) B → Result StaticType ExpressionFault → Type 0
 KindOf joined kind = MatchResult kind (λ t. joined ≡ Ok (Some t)) (λ f. f ≢ NoMemory → (f ≡ NoCommonType) × (joined ≡ Ok None))
 
 module _ (env : Environment) (K after : Pairs) where
-  pub typed_so : (a : Expr) {r : Result Typed TypeFault} {t : Typed} → r ≡ Ok t → Judged env K a r after
+  pub typed_so : (a : Expr) {r : Result Typed ExpressionFault} {t : Typed} → r ≡ Ok t → Judged env K a r after
       → (after ≡ K) × Types env K a (static_view t.kind) (pairs t.learns.items)
   typed_so a e h = subst (λ r. Judged env K a r after) e h
 
   -- the same, of a kind that is told
-  pub has_kind : (a : Expr) {r : Result Typed TypeFault} {t : Typed} {s : types.StaticType} → r ≡ Ok t → static_view t.kind ≡ s
+  pub has_kind : (a : Expr) {r : Result Typed ExpressionFault} {t : Typed} {s : types.StaticType} → r ≡ Ok t → static_view t.kind ≡ s
       → Judged env K a r after → (after ≡ K) × Types env K a s (pairs t.learns.items)
   has_kind a {t} e k h =
       let g = typed_so a e h in
       (g.0, subst (λ s. Types env K a s (pairs t.learns.items)) k g.1)
 
-  pub faulty_so : (a : Expr) {r : Result Typed TypeFault} {f : TypeFault} → r ≡ Err f → Judged env K a r after
+  pub faulty_so : (a : Expr) {r : Result Typed ExpressionFault} {f : ExpressionFault} → r ≡ Err f → Judged env K a r after
       → f ≢ NoMemory → Faults env K a (fault_view f)
   faulty_so a e h = subst (λ r. Judged env K a r after) e h
 
-  pub behind_so : (L : Pairs) (a : Expr) {r : Result Typed TypeFault} {t : Typed} → r ≡ Ok t
+  pub behind_so : (L : Pairs) (a : Expr) {r : Result Typed ExpressionFault} {t : Typed} → r ≡ Ok t
       → JudgedBehind env K L a r after
       → (after ≡ K) × ((M : Pairs) × Types env (K ++ L) a (static_view t.kind) M × (pairs t.learns.items ≡ L ++ M))
   behind_so L a e h = subst (λ r. JudgedBehind env K L a r after) e h
 
-  pub behind_faulty : (L : Pairs) (a : Expr) {r : Result Typed TypeFault} {f : TypeFault} → r ≡ Err f
+  pub behind_faulty : (L : Pairs) (a : Expr) {r : Result Typed ExpressionFault} {f : ExpressionFault} → r ≡ Err f
       → JudgedBehind env K L a r after → f ≢ NoMemory → Faults env (K ++ L) a (fault_view f)
   behind_faulty L a e h = subst (λ r. JudgedBehind env K L a r after) e h
 
-  pub each_so : (xs : List Expr) {r : Result (Vec StaticType Global) TypeFault} {ts : Vec StaticType Global} → r ≡ Ok ts
+  pub each_so : (xs : List Expr) {r : Result (Vec StaticType Global) ExpressionFault} {ts : Vec StaticType Global} → r ≡ Ok ts
       → JudgedEach env K xs r after → (after ≡ K) × TypesEach env K xs (map static_view ts.items)
   each_so xs e h = subst (λ r. JudgedEach env K xs r after) e h
 
-  pub members_so : (xs : List Expr) {r : Result (Vec StaticType Global) TypeFault} {ts : Vec StaticType Global} → r ≡ Ok ts
+  pub members_so : (xs : List Expr) {r : Result (Vec StaticType Global) ExpressionFault} {ts : Vec StaticType Global} → r ≡ Ok ts
       → JudgedMembers env K xs r after → (after ≡ K) × MembersHave env K xs (map static_view ts.items)
   members_so xs e h = subst (λ r. JudgedMembers env K xs r after) e h
 
-  pub members_faulty : (xs : List Expr) {r : Result (Vec StaticType Global) TypeFault} {f : TypeFault} → r ≡ Err f
+  pub members_faulty : (xs : List Expr) {r : Result (Vec StaticType Global) ExpressionFault} {f : ExpressionFault} → r ≡ Err f
       → JudgedMembers env K xs r after → f ≢ NoMemory → FaultsEach env K xs (fault_view f)
   members_faulty xs e h = subst (λ r. JudgedMembers env K xs r after) e h
 
-  pub each_faulty : (xs : List Expr) {r : Result (Vec StaticType Global) TypeFault} {f : TypeFault} → r ≡ Err f
+  pub each_faulty : (xs : List Expr) {r : Result (Vec StaticType Global) ExpressionFault} {f : ExpressionFault} → r ≡ Err f
       → JudgedEach env K xs r after → f ≢ NoMemory → FaultsEach env K xs (fault_view f)
   each_faulty xs e h = subst (λ r. JudgedEach env K xs r after) e h
 
@@ -97,17 +97,17 @@ module _ (env : Environment) (K after : Pairs) where
       (same, subst (λ u. Types env K x u (pairs p.learns.items)) (sym e) (subst (λ ps. Types env K x t (pairs ps)) (sym l) h))
 
   -- a row's type or fault
-  pub row_judged : (x : Expr) (j : Row) (row : Result StaticType TypeFault) (r : Result Typed TypeFault)
+  pub row_judged : (x : Expr) (j : Row) (row : Result StaticType ExpressionFault) (r : Result Typed ExpressionFault)
       → Answers row j → IsRow row r → after ≡ K → ((t : types.StaticType) → j ≡ Ok t → Types env K x t [])
-      → ((n : environment.TypeFault) → j ≡ Err n → Faults env K x n) → Judged env K x r after
+      → ((n : environment.ExpressionFault) → j ≡ Err n → Faults env K x n) → Judged env K x r after
   row_judged x j row (Ok t) a (e, l) same f g =
       plain_judged x t refl l same (f (static_view t.kind) (subst (λ q. Answers q j) e a))
   row_judged x j row (Err n) a e same f g = λ h. g (fault_view n) (subst (λ q. Answers q j) e a h)
 
-  pub has_judged : (x : Expr) (p : learned.Pair) (j : Row) (row : Result StaticType TypeFault)
-      (r : Result Typed TypeFault) → Answers row j → IsHasRow p row r → after ≡ K
+  pub has_judged : (x : Expr) (p : learned.Pair) (j : Row) (row : Result StaticType ExpressionFault)
+      (r : Result Typed ExpressionFault) → Answers row j → IsHasRow p row r → after ≡ K
       → ((t : types.StaticType) → j ≡ Ok t → Types env K x t (has_learns t p))
-      → ((n : environment.TypeFault) → j ≡ Err n → Faults env K x n) → Judged env K x r after
+      → ((n : environment.ExpressionFault) → j ≡ Err n → Faults env K x n) → Judged env K x r after
   has_judged x p j row (Ok t) a (e, l) same f g =
       (same, subst (λ L. Types env K x (static_view t.kind) L) (sym l) (f (static_view t.kind) (subst (λ q. Answers q j) e a)))
   has_judged x p j row (Err n) a e same f g = λ h. g (fault_view n) (subst (λ q. Answers q j) (e h) a h)
@@ -119,7 +119,7 @@ module _ (env : Environment) (K after : Pairs) where
   call_typed called a h (inl g) = typing.types_literal_call called a h g
   call_typed called a h (inr g) = typing.types_address_test called a g.0 h g.1
 
-  call_faulty : (called : UnaryCall) (a : Expr) {s : types.StaticType} {L : Pairs} (n : environment.TypeFault)
+  call_faulty : (called : UnaryCall) (a : Expr) {s : types.StaticType} {L : Pairs} (n : environment.ExpressionFault)
       → Types env K a s L
       → (TakesText called × ((t : types.StaticType) → ¬ ReadsLiteral called a t) × (n ≡ environment.bad_extension_literal))
       ⊎ (TakesAddress called × (rows.address_test_type s ≡ Err n))
@@ -128,8 +128,8 @@ module _ (env : Environment) (K after : Pairs) where
       subst (λ m. Faults env K (form.UnaryCall called a) m) (sym g.2) (faults.no_literal called a g.0 h g.1)
   call_faulty called a n h (inr g) = faults.fault_of_address_test called a g.0 h g.1
 
-  pub call_judged : (called : UnaryCall) (a : Expr) (s : types.StaticType) (L : Pairs) (row : Result StaticType TypeFault)
-      (r : Result Typed TypeFault) → CallTyped called a s row → IsRow row r → after ≡ K → Types env K a s L
+  pub call_judged : (called : UnaryCall) (a : Expr) (s : types.StaticType) (L : Pairs) (row : Result StaticType ExpressionFault)
+      (r : Result Typed ExpressionFault) → CallTyped called a s row → IsRow row r → after ≡ K → Types env K a s L
       → Judged env K (form.UnaryCall called a) r after
   call_judged called a s L row (Ok t) c (e, l) same h =
       plain_judged (form.UnaryCall called a) t refl l same (call_typed called a h (subst (λ q. CallTyped called a s q) e c))
@@ -161,7 +161,7 @@ module _ (env : Environment) (K after : Pairs) where
 
   -- `if` behind both branches
   pub branches_judged : {B : Type 0} (a b x : Expr) (then_is other : Typed) (joined : Result (Option StaticType) B)
-      (kind : Result StaticType TypeFault) (r : Result Typed TypeFault) → ThenTyped env K a b types.boolean_type then_is
+      (kind : Result StaticType ExpressionFault) (r : Result Typed ExpressionFault) → ThenTyped env K a b types.boolean_type then_is
       → Types env K x (static_view other.kind) (pairs other.learns.items)
       → IfOk joined (λ o. option_map static_view o ≡ types.common (static_view then_is.kind) (static_view other.kind))
       → MatchResult kind (λ t. joined ≡ Ok (Some t)) (λ f. f ≢ NoMemory → (f ≡ NoCommonType) × (joined ≡ Ok None))
@@ -188,30 +188,30 @@ none_learned t p n = refl
 
 -- the same of the pairs that were known before
 
-pub moved : (env : Environment) (x : Expr) (after : Pairs) (r : Result Typed TypeFault) {K M : Pairs} → M ≡ K
+pub moved : (env : Environment) (x : Expr) (after : Pairs) (r : Result Typed ExpressionFault) {K M : Pairs} → M ≡ K
     → Judged env M x r after → Judged env K x r after
 moved env x after r e h = subst (λ N. Judged env N x r after) e h
 
-pub behind_moved : (env : Environment) (x : Expr) (L after : Pairs) (r : Result Typed TypeFault) {K M : Pairs} → M ≡ K
+pub behind_moved : (env : Environment) (x : Expr) (L after : Pairs) (r : Result Typed ExpressionFault) {K M : Pairs} → M ≡ K
     → JudgedBehind env M L x r after → JudgedBehind env K L x r after
 behind_moved env x L after r e h = subst (λ N. JudgedBehind env N L x r after) e h
 
 -- of an expression that is this form
-pub at_form : (env : Environment) (K after : Pairs) (r : Result Typed TypeFault) {x y : Expr} → x ≡ y
+pub at_form : (env : Environment) (K after : Pairs) (r : Result Typed ExpressionFault) {x y : Expr} → x ≡ y
     → Judged env K y r after → Judged env K x r after
 at_form env K after r e h = subst (λ z. Judged env K z r after) (sym e) h
 
 -- `if` behind its test
 
-pub then_so : (env : Environment) (K after : Pairs) (a b : Expr) {r : Result Then TypeFault} {t : Then} → r ≡ Ok t
+pub then_so : (env : Environment) (K after : Pairs) (a b : Expr) {r : Result Then ExpressionFault} {t : Then} → r ≡ Ok t
     → ThenJudged env K a b r after → (after ≡ K) × ThenIs env K a b t
 then_so env K after a b e h = subst (λ r. ThenJudged env K a b r after) e h
 
-pub then_faulty : (env : Environment) (K after : Pairs) (a b : Expr) {r : Result Then TypeFault} {f : TypeFault} → r ≡ Err f
+pub then_faulty : (env : Environment) (K after : Pairs) (a b : Expr) {r : Result Then ExpressionFault} {f : ExpressionFault} → r ≡ Err f
     → ThenJudged env K a b r after → f ≢ NoMemory → (c : Expr) → Faults env K (form.If a b c) (fault_view f)
 then_faulty env K after a b e h = subst (λ r. ThenJudged env K a b r after) e h
 
-pub then_only : (env : Environment) (K L after : Pairs) (a b : Expr) (j : Result Typed TypeFault) (r : Result Then TypeFault)
+pub then_only : (env : Environment) (K L after : Pairs) (a b : Expr) (j : Result Typed ExpressionFault) (r : Result Then ExpressionFault)
     → IsBranch (λ t. then.Only t) j r → Types env K a types.true_type L → JudgedBehind env K L b j after
     → ThenJudged env K a b r after
 then_only env K L after a b j (Ok t) (u, e, f) h g =
@@ -219,7 +219,7 @@ then_only env K L after a b j (Ok t) (u, e, f) h g =
     (s.0, subst (ThenIs env K a b) (sym f) (L, s.1.0, h, s.1.1, s.1.2))
 then_only env K L after a b j (Err f) e h g = λ n c. faults.fault_in_then a b c h rows.surely (behind_faulty env K after L b e g n)
 
-pub then_both : (env : Environment) (K L after : Pairs) (a b : Expr) (j : Result Typed TypeFault) (r : Result Then TypeFault)
+pub then_both : (env : Environment) (K L after : Pairs) (a b : Expr) (j : Result Typed ExpressionFault) (r : Result Then ExpressionFault)
     → IsBranch (λ t. then.Both t) j r → Types env K a types.boolean_type L → JudgedBehind env K L b j after
     → ThenJudged env K a b r after
 then_both env K L after a b j (Ok t) (u, e, f) h g =
@@ -227,7 +227,7 @@ then_both env K L after a b j (Ok t) (u, e, f) h g =
     (s.0, subst (ThenIs env K a b) (sym f) (L, s.1.0, h, s.1.1, s.1.2))
 then_both env K L after a b j (Err f) e h g = λ n c. faults.fault_in_then a b c h rows.perhaps (behind_faulty env K after L b e g n)
 
-pub else_only : (env : Environment) (K L after : Pairs) (a b c : Expr) (r : Result Typed TypeFault)
+pub else_only : (env : Environment) (K L after : Pairs) (a b c : Expr) (r : Result Typed ExpressionFault)
     → Types env K a types.false_type L → Judged env K c r after → Judged env K (form.If a b c) r after
 else_only env K L after a b c (Ok t) h g = (g.0, typing.if_of_false a b c h g.1)
 else_only env K L after a b c (Err f) h g = λ n. faults.fault_in_only_else a b c h (g n)

@@ -2,21 +2,21 @@
 use Rattle.std.proofs.Common.{◌≡◌, ◌<◌, ◌+◌, ◌++◌, ℕ, List, [], ◌∷◌, map, length, get_or, take, drop, Result, Ok, Err}
 use Rattle.std.proofs.Common.{sym, subst, ap, ◌∙◌}
 use Rattle.std.proofs.lemmas.List.{drop_more, take_more, take-append-drop, map-append}
-use Rattle.expressions.specs.declared.expr.Expr.{Expr}
-use Rattle.static_types.specs.typing.Types as types
-use Rattle.static_types.specs.typing.Environment as environment
-use Rattle.static_types.specs.typing.Environment.{Environment}
-use Rattle.static_types.specs.typing.Learned.{Pairs}
-use Rattle.static_types.specs.typing.Typing as typing
-use Rattle.static_types.specs.typing.Typing.{Types, TypesEach}
-use Rattle.static_types.specs.typing.Faults as faults
-use Rattle.static_types.specs.typing.Faults.{Faults, FaultsEach}
-use Rattle.static_types.specs.Views.{static_view}
-use Rattle.static_types.specs.declared.static_type.StaticType.{StaticType}
-use Rattle.static_types.specs.declared.fault.TypeFault.{TypeFault}
-use Rattle.known_pairs.specs.declared.pair.Pair.{Pair}
+use Rattle.grammar_core.specs.declared.expr.Expr.{Expr}
+use Rattle.typing.specs.Types as types
+use Rattle.typing.specs.Environment as environment
+use Rattle.typing.specs.Environment.{Environment}
+use Rattle.typing.specs.Learned.{Pairs}
+use Rattle.typing.specs.Typing as typing
+use Rattle.typing.specs.Typing.{Types, TypesEach}
+use Rattle.typing.specs.Faults as faults
+use Rattle.typing.specs.Faults.{Faults, FaultsEach}
+use Rattle.type_checker.specs.Views.{static_view}
+use Rattle.type_checker.specs.declared.static_type.StaticType.{StaticType}
+use Rattle.type_checker.specs.declared.fault.ExpressionFault.{ExpressionFault}
+use Rattle.type_capabilities.specs.declared.pair.Pair.{Pair}
 use Rattle.type_checker.specs.declared.typed.Typed.{Typed}
-use Rattle.known_pairs.specs.Pairs.{pair_of, pairs}
+use Rattle.type_capabilities.specs.Pairs.{pair_of, pairs}
 use Rattle.type_checker.specs.inner.Judged.{Judged, JudgedBehind, AddsLearned, IsNext}
 use Rattle.type_checker.proofs.Learning.{back_again}
 use Rattle.type_checker.proofs.Carrying.{typed_so, faulty_so}
@@ -47,7 +47,7 @@ module _ (env : Environment) (K : Pairs) where
   each_more typing.types_none h = typing.types_more h typing.types_none
   each_more (typing.types_more g gs) h = typing.types_more g (each_more gs h)
 
-  pub each_stops : {xs : List Expr} {ts : List types.StaticType} {x : Expr} {n : environment.TypeFault} (ys : List Expr)
+  pub each_stops : {xs : List Expr} {ts : List types.StaticType} {x : Expr} {n : environment.ExpressionFault} (ys : List Expr)
       → TypesEach env K xs ts → Faults env K x n → FaultsEach env K (xs ++ x ∷ ys) n
   each_stops ys typing.types_none h = faults.fault_here h
   each_stops ys (typing.types_more g gs) h = faults.fault_later g (each_stops ys gs h)
@@ -59,7 +59,7 @@ module _ (env : Environment) (K : Pairs) where
 
   -- the first of several that has no type stands at this place
   pub stops_at : {X : Type 0} (value : X → Expr) (xs : List X) (i : ℕ) (x : X) (ts : List types.StaticType)
-      (n : environment.TypeFault) → StandsAt xs i x → TypesEach env K (map value (take i xs)) ts
+      (n : environment.ExpressionFault) → StandsAt xs i x → TypesEach env K (map value (take i xs)) ts
       → Faults env K (value x) n → FaultsEach env K (map value xs) n
   stops_at value xs i x ts n at g h =
       subst (λ ys. FaultsEach env K ys n)
@@ -76,7 +76,7 @@ module _ (env : Environment) (K : Pairs) where
       (sym (map-append value (take i xs) (x ∷ [])) ∙ ap (map value) (with_it xs i x at)) (each_more g h))
 
 -- one behind pairs that were put on top of those that were known
-pub behind_judged : (env : Environment) (x : Expr) (K : Pairs) (ls : List Pair) (M : Pairs) (typed r : Result Typed TypeFault)
+pub behind_judged : (env : Environment) (x : Expr) (K : Pairs) (ls : List Pair) (M : Pairs) (typed r : Result Typed ExpressionFault)
     → Judged env (K ++ pairs ls) x typed M → AddsLearned ls typed r
     → JudgedBehind env K (pairs ls) x r (take (length K) M)
 behind_judged env x K ls M typed (Ok t) h (u, e, k, l) =

@@ -4,26 +4,26 @@ use Rattle.std.proofs.Common.{Result, Ok, Err, refl, sym, subst, ap, ◌∙◌}
 use Rattle.std.proofs.lemmas.List.{drop_more, drop_all}
 use Rattle.std.specs.Prelude.{IfOk, IfErr, MatchResult}
 use Rattle.std.specs.Option.{option_map}
-use Rattle.expressions.specs.declared.expr.Expr.{Expr}
-use Rattle.expressions.specs.declared.expr.Expr.TheVariants as form
-use Rattle.static_types.specs.typing.Types as types
-use Rattle.static_types.specs.typing.Types.{IsBoolean}
-use Rattle.static_types.specs.typing.Environment.{Environment, unexpected}
-use Rattle.static_types.specs.typing.Learned.{Pairs}
-use Rattle.static_types.specs.typing.Rows.{and_type, MayBeTrue}
-use Rattle.static_types.specs.typing.Rows as rows
-use Rattle.static_types.specs.typing.Typing as typing
-use Rattle.static_types.specs.typing.Typing.{Types}
-use Rattle.static_types.specs.typing.Faults as faults
-use Rattle.static_types.specs.typing.Faults.{Faults}
-use Rattle.static_types.specs.Views.{boolean_view, static_view, fault_view}
-use Rattle.static_types.specs.declared.fault.TypeFault as fault
-use Rattle.static_types.specs.declared.fault.TypeFault.TheVariants.{NoMemory, Unexpected}
-use Rattle.static_types.specs.declared.static_type.BooleanType.{BooleanType}
-use Rattle.static_types.specs.declared.static_type.StaticType.{StaticType}
+use Rattle.grammar_core.specs.declared.expr.Expr.{Expr}
+use Rattle.grammar_core.specs.declared.expr.Expr.TheVariants as form
+use Rattle.typing.specs.Types as types
+use Rattle.typing.specs.Types.{IsBoolean}
+use Rattle.typing.specs.Environment.{Environment, unexpected}
+use Rattle.typing.specs.Learned.{Pairs}
+use Rattle.typing.specs.Rows.{and_type, MayBeTrue}
+use Rattle.typing.specs.Rows as rows
+use Rattle.typing.specs.Typing as typing
+use Rattle.typing.specs.Typing.{Types}
+use Rattle.typing.specs.Faults as faults
+use Rattle.typing.specs.Faults.{Faults}
+use Rattle.type_checker.specs.Views.{boolean_view, static_view, fault_view}
+use Rattle.type_checker.specs.declared.fault.ExpressionFault as fault
+use Rattle.type_checker.specs.declared.fault.ExpressionFault.TheVariants.{NoMemory, Unexpected}
+use Rattle.type_checker.specs.declared.static_type.BooleanType.{BooleanType}
+use Rattle.type_checker.specs.declared.static_type.StaticType.{StaticType}
 use Rattle.type_checker.specs.declared.typed.Typed.{Typed}
 use Rattle.type_checker.specs.Joined.{joined}
-use Rattle.known_pairs.specs.Pairs.{pairs}
+use Rattle.type_capabilities.specs.Pairs.{pairs}
 use Rattle.type_checker.specs.inner.Joining as joining
 use Rattle.type_checker.specs.inner.Joining.{and_so_far, IsSide, Leads}
 use Rattle.type_checker.proofs.Carrying.{boolean_so}
@@ -94,7 +94,7 @@ module _ (env : Environment) where
 
 -- which type of booleans a left of `&&` has, by its type
 pub left_so : (env : Environment) (K : Pairs) (a : Expr) (t : Typed) (mid after : Pairs)
-    (r : Result BooleanType fault.TypeFault) → mid ≡ K → Types env K a (static_view t.kind) (pairs t.learns.items)
+    (r : Result BooleanType fault.ExpressionFault) → mid ≡ K → Types env K a (static_view t.kind) (pairs t.learns.items)
     → MatchResult r (λ b. (static_view t.kind ≡ boolean_view b) × (after ≡ mid ++ pairs t.learns.items))
     (λ f. f ≢ NoMemory → (f ≡ Unexpected) × ¬ IsBoolean (static_view t.kind))
     → MatchResult r (λ b. (L : Pairs) × Types env K a (boolean_view b) L × (after ≡ K ++ L))
@@ -133,7 +133,7 @@ module _ (env : Environment) (s : Option types.StaticType) (K : Pairs) (parts : 
   at_last le h = subst (λ xs. Leads env s K (joined xs last) whole) (drop_all i parts le) h
 
 pub last_typed : (env : Environment) (s : Option types.StaticType) (K L : Pairs) (x whole : Expr) (t : types.StaticType)
-    (r : Result StaticType fault.TypeFault) → Leads env s K x whole → Types env K x t L
+    (r : Result StaticType fault.ExpressionFault) → Leads env s K x whole → Types env K x t L
     → MatchResult r (λ u. IsSide s t × (static_view u ≡ and_so_far s t)) (λ f. (f ≡ Unexpected) × ¬ IsSide s t)
     → IfOk r (λ u. (M : Pairs) × Types env [] whole (static_view u) M)
 last_typed env s K L x whole t (Ok u) h g (i, e) =
@@ -142,7 +142,7 @@ last_typed env s K L x whole t (Ok u) h g (i, e) =
 last_typed env s K L x whole t (Err f) h g e = tt
 
 pub last_faulty : (env : Environment) (s : Option types.StaticType) (K L : Pairs) (x whole : Expr) (t : types.StaticType)
-    (r : Result StaticType fault.TypeFault) → Leads env s K x whole → Types env K x t L
+    (r : Result StaticType fault.ExpressionFault) → Leads env s K x whole → Types env K x t L
     → MatchResult r (λ u. IsSide s t × (static_view u ≡ and_so_far s t)) (λ f. (f ≡ Unexpected) × ¬ IsSide s t)
     → IfErr r (λ f. f ≢ NoMemory → Faults env [] whole (fault_view f))
 last_faulty env s K L x whole t (Ok u) h g e = tt

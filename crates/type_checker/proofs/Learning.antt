@@ -1,10 +1,10 @@
 -- Lists of pairs, item by item.
 use Rattle.std.proofs.Common.{◌≡◌, ◌+◌, ◌<◌, ℕ, List, [], ◌∷◌, ◌++◌, length, get_or, take, Contains, refl, sym, ap, ◌∙◌}
 use Rattle.std.proofs.lemmas.List.{take_more, map-append}
-use Rattle.static_types.specs.typing.Learned as learned
-use Rattle.static_types.specs.typing.Learned.{Pairs, InBoth}
-use Rattle.known_pairs.specs.declared.pair.Pair.{Pair}
-use Rattle.known_pairs.specs.Pairs.{pair_of, pairs}
+use Rattle.typing.specs.Learned as learned
+use Rattle.typing.specs.Learned.{Pairs, InBoth}
+use Rattle.type_capabilities.specs.declared.pair.Pair.{Pair}
+use Rattle.type_capabilities.specs.Pairs.{pair_of, pairs}
 
 -- the pairs that both lists have, where one more of the first is looked at
 

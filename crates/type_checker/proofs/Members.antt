@@ -3,17 +3,17 @@ use Rattle.std.proofs.Common.{◌≡◌, ◌∙◌, ◌+◌, ℕ, List, [], ◌�
 use Rattle.std.proofs.Common.{subst, ap}
 use Rattle.std.specs.Prelude.{IsSomeAnd, ⊤}
 use Rattle.std.specs.Borrow.{Bor}
-use Rattle.expressions.specs.declared.expr.Expr.{Expr}
-use Rattle.static_types.specs.typing.Types as types
-use Rattle.static_types.specs.typing.Environment as environment
-use Rattle.static_types.specs.typing.Environment.{Environment}
-use Rattle.static_types.specs.typing.Learned.{Pairs}
-use Rattle.static_types.specs.typing.Rows.{set_literal_type}
-use Rattle.static_types.specs.typing.Typing as typing
-use Rattle.static_types.specs.typing.Typing.{Types, TypesEach}
-use Rattle.static_types.specs.typing.Faults.{Faults, FaultsEach}
-use Rattle.static_types.specs.Views.{static_view}
-use Rattle.static_types.specs.declared.static_type.StaticType.{StaticType}
+use Rattle.grammar_core.specs.declared.expr.Expr.{Expr}
+use Rattle.typing.specs.Types as types
+use Rattle.typing.specs.Environment as environment
+use Rattle.typing.specs.Environment.{Environment}
+use Rattle.typing.specs.Learned.{Pairs}
+use Rattle.typing.specs.Rows.{set_literal_type}
+use Rattle.typing.specs.Typing as typing
+use Rattle.typing.specs.Typing.{Types, TypesEach}
+use Rattle.typing.specs.Faults.{Faults, FaultsEach}
+use Rattle.type_checker.specs.Views.{static_view}
+use Rattle.type_checker.specs.declared.static_type.StaticType.{StaticType}
 use Rattle.type_checker.specs.inner.Judged.{IsNext}
 use Rattle.type_checker.proofs.Each.{StandsAt, with_it, parted, each_more, each_stops}
 use Rattle.type_checker.proofs.Repeating.{repeated, adding_alike}
@@ -67,6 +67,6 @@ module _ (env : Environment) (K : Pairs) where
 
   -- the first member that has no type stands at this place
   pub member_stops : (xs : List Expr) (i : ℕ) (x : Expr) {o : Option (Bor Expr)} (ts : List types.StaticType)
-      (n : environment.TypeFault) → StandsAt xs i x → SoFar env K (take i xs) o ts → Faults env K x n → FaultsEach env K xs n
+      (n : environment.ExpressionFault) → StandsAt xs i x → SoFar env K (take i xs) o ts → Faults env K x n → FaultsEach env K xs n
   member_stops xs i x ts n at s h =
       subst (λ ys. FaultsEach env K ys n) (parted xs i x at) (each_stops env K (drop (i + 1) xs) s.typed h)

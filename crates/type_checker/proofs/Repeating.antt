@@ -4,11 +4,10 @@ use Rattle.std.proofs.Common.{None, Ok, Err, refl, sym, ap}
 use Rattle.std.specs.Option.{option_map, option_and_then}
 use Rattle.std.specs.Str.{bytes_eq}
 use Rattle.std.proofs.lemmas.Slice.Eq.{bytes_eq-Decides}
-use Rattle.static_types.specs.typing.Types as types
-use Rattle.static_types.specs.typing.Types.{StaticType, FieldTypes, common, common_fields, common_of, field_before}
-use Rattle.static_types.specs.typing.Types.{same_requirement}
-use Rattle.static_types.specs.typing.Environment as environment
-use Rattle.static_types.specs.typing.Rows.{Row, set_of_common, set_literal_type}
+use Rattle.typing.specs.Types as types
+use Rattle.typing.specs.Types.{StaticType, FieldTypes, common, common_fields, common_of, field_before, same_requirement}
+use Rattle.typing.specs.Environment as environment
+use Rattle.typing.specs.Rows.{Row, set_of_common, set_literal_type}
 
 -- ---- the common type of a type with itself
 

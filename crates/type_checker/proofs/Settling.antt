@@ -8,22 +8,22 @@ use Rattle.values.specs.declared.entity_uid.EntityUid.{EntityUid}
 use Rattle.values.specs.extensions.DecimalText.{IsDecimalText}
 use Rattle.values.specs.extensions.Network.{Network}
 use Rattle.values.specs.extensions.NetworkText.{IsNetworkText}
-use Rattle.expressions.specs.declared.leaf.Literal.{Literal}
-use Rattle.expressions.specs.declared.leaf.Literal.TheVariants as literal
-use Rattle.expressions.specs.declared.leaf.Variable.{Variable}
-use Rattle.expressions.specs.declared.leaf.Variable.TheVariants as variable
-use Rattle.expressions.specs.declared.operator.Binary.TheVariants as binary
-use Rattle.expressions.specs.declared.operator.UnaryCall.TheVariants as unary_call
-use Rattle.expressions.specs.declared.expr.Expr.{Expr}
-use Rattle.expressions.specs.declared.expr.Expr.TheVariants as form
-use Rattle.expressions.specs.declared.expr.Expr.TheViews.{out-Expr}
-use Rattle.expressions.specs.declared.expr.Expr.TheOpen.{Expr-F}
-use Rattle.static_types.specs.typing.Types as types
-use Rattle.static_types.specs.typing.Environment.{Environment}
-use Rattle.static_types.specs.typing.Literals as literals
-use Rattle.static_types.specs.typing.Literals.{IsLiteral, AreEntityLiterals, ListsEntities, IsActionIn, Settled}
-use Rattle.static_types.specs.typing.Literals.{IsUnsettled, ReadsLiteral}
-use Rattle.expressions.specs.declared.operator.Binary.{Binary}
+use Rattle.grammar_core.specs.declared.leaf.Literal.{Literal}
+use Rattle.grammar_core.specs.declared.leaf.Literal.TheVariants as literal
+use Rattle.grammar_core.specs.declared.leaf.Variable.{Variable}
+use Rattle.grammar_core.specs.declared.leaf.Variable.TheVariants as variable
+use Rattle.grammar_core.specs.declared.operator.Binary.TheVariants as binary
+use Rattle.grammar_core.specs.declared.operator.UnaryCall.TheVariants as unary_call
+use Rattle.grammar_core.specs.declared.expr.Expr.{Expr}
+use Rattle.grammar_core.specs.declared.expr.Expr.TheVariants as form
+use Rattle.grammar_core.specs.declared.expr.Expr.TheViews.{out-Expr}
+use Rattle.grammar_core.specs.declared.expr.Expr.TheOpen.{Expr-F}
+use Rattle.typing.specs.Types as types
+use Rattle.typing.specs.Environment.{Environment}
+use Rattle.typing.specs.Literals as literals
+use Rattle.typing.specs.Literals.{IsLiteral, AreEntityLiterals, ListsEntities, IsActionIn, Settled}
+use Rattle.typing.specs.Literals.{IsUnsettled, ReadsLiteral}
+use Rattle.grammar_core.specs.declared.operator.Binary.{Binary}
 use Rattle.plain.proofs.Members.{Contains-here, Contains-cases, Contains-none}
 
 module _ (env : Environment) where

@@ -1,13 +1,13 @@
 -- What `||` learns, by the type of its right.
 use Rattle.std.proofs.Common.{◌≡◌, List, [], sym, subst}
-use Rattle.static_types.specs.typing.Types as types
-use Rattle.static_types.specs.typing.Learned as learned
-use Rattle.static_types.specs.typing.Learned.{Pairs, InBoth}
-use Rattle.static_types.specs.Views.{boolean_view}
-use Rattle.static_types.specs.declared.static_type.BooleanType.{BooleanType}
-use Rattle.static_types.specs.declared.static_type.BooleanType.TheVariants as truth
-use Rattle.known_pairs.specs.declared.pair.Pair.{Pair}
-use Rattle.known_pairs.specs.Pairs.{pairs}
+use Rattle.typing.specs.Types as types
+use Rattle.typing.specs.Learned as learned
+use Rattle.typing.specs.Learned.{Pairs, InBoth}
+use Rattle.type_checker.specs.Views.{boolean_view}
+use Rattle.type_checker.specs.declared.static_type.BooleanType.{BooleanType}
+use Rattle.type_checker.specs.declared.static_type.BooleanType.TheVariants as truth
+use Rattle.type_capabilities.specs.declared.pair.Pair.{Pair}
+use Rattle.type_capabilities.specs.Pairs.{pairs}
 
 pub or_none : {b : BooleanType} {L M : Pairs} {ps : List Pair} → b ≡ truth.True → ps ≡ []
     → learned.OrLearns (boolean_view b) L M (pairs ps)

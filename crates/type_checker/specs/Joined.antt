@@ -2,8 +2,8 @@
 -- Source: Cedar reference guide 4.0, "Basic policy construction"; cedar-spec, cedar-lean/Cedar/Spec/Policy.lean
 -- (`Policy.toExpr`).
 use Rattle.std.specs.Prelude.{List, [], ◌∷◌}
-use Rattle.expressions.specs.declared.expr.Expr.{Expr}
-use Rattle.expressions.specs.declared.expr.Expr.TheVariants as form
+use Rattle.grammar_core.specs.declared.expr.Expr.{Expr}
+use Rattle.grammar_core.specs.declared.expr.Expr.TheVariants as form
 
 abbrev pub joined : List Expr → Expr → Expr
 joined [] x = x

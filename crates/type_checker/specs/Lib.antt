@@ -1,2 +1,13 @@
-pub mod Joined
+pub mod FromSchemas
+pub mod Laws
+pub mod Views
 pub mod inner
+pub mod Joined
+-- crates below, passed on to those above
+pub use Rattle.entities.specs as entities
+pub use Rattle.entities.specs.policy_grammar
+pub use Rattle.entities.specs.schema
+pub use Rattle.schema_types.specs as schema_types
+pub use Rattle.typing.specs as typing
+pub use Rattle.typing.specs.ancestor_search
+pub use Rattle.typing.specs.evaluator

@@ -1,3 +1,7 @@
+pub mod Joins
+pub mod Layers
+pub mod Parts
+pub mod Rows
 pub mod Asking
 pub mod Joining
 pub mod Judged

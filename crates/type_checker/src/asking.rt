@@ -1,26 +1,29 @@
 //! `a is T in b`, which stands for `a is T && a in b`: its operand is typed once.
 ghost use Rattle.std.specs.Prelude.{◌≡◌, IsTrue, IfSome, MatchResult};
-ghost use Rattle.expressions.specs.declared.expr.Expr.{Expr};
-ghost use Rattle.expressions.specs.declared.expr.Expr.TheVariants as form;
-ghost use Rattle.static_types.specs.typing.Types as types;
-ghost use Rattle.static_types.specs.typing.Rows.{MayBeTrue};
-ghost use Rattle.static_types.specs.typing.Learned.{Pairs};
-ghost use Rattle.static_types.specs.typing.Literals.{IsUnsettled};
-ghost use Rattle.static_types.specs.typing.Typing.{Types};
-ghost use Rattle.static_types.specs.Views.{static_view, typing_environment};
+ghost use Rattle.grammar_core.specs.declared.expr.Expr.{Expr};
+ghost use Rattle.grammar_core.specs.declared.expr.Expr.TheVariants as form;
+ghost use Rattle.typing.specs.Types as types;
+ghost use Rattle.typing.specs.Rows.{MayBeTrue};
+ghost use Rattle.typing.specs.Learned.{Pairs};
+ghost use Rattle.typing.specs.Literals.{IsUnsettled};
+ghost use Rattle.typing.specs.Typing.{Types};
+ghost use Rattle.type_checker.specs.Views.{static_view, typing_environment};
 ghost use Rattle.type_checker.specs.inner.Judged.{Judged};
 ghost use Rattle.type_checker.specs.inner.Asking.{AsksAgain, MayHold};
 
+use crate::environment::TypingEnvironment;
 use crate::equal::same_expr;
+use crate::fault::ExpressionFault;
 use crate::literals::settled;
+use crate::operators::binary_type;
+use crate::static_type::{Leaf, StaticType};
 use crate::typed::{Typed, typed_row};
-use expressions::{Binary, Expr, Unary};
-use static_types::{Leaf, StaticType, TypeFault, TypingEnvironment, binary_type};
+use grammar_core::{Binary, Expr, Unary};
 use std::alloc::Global;
 use values::TypeName;
 
 /// Returns whether there is a type that may be true.
-fn may_hold(test: &Result<Typed<'_>, TypeFault>) -> bool
+fn may_hold(test: &Result<Typed<'_>, ExpressionFault>) -> bool
     ensures { IsTrue result → MayHold test.now }
 {
     match test {
@@ -47,7 +50,7 @@ fn is_unsettled<'a>(
 /// Returns whether a test that may be true asks of an operand that stands first in what is behind it too.
 fn is_again<'a>(
     env: TypingEnvironment<'a>,
-    test: &Result<Typed<'a>, TypeFault>,
+    test: &Result<Typed<'a>, ExpressionFault>,
     operand: &'a Expr,
     operator: Binary,
     again: &'a Expr,
@@ -70,7 +73,7 @@ fn is_again<'a>(
 #[tactic(auto, using(crate::proofs::AskedLemmas::asks_again))]
 pub(crate) fn asked_again<'a>(
     env: TypingEnvironment<'a>,
-    test: &Result<Typed<'a>, TypeFault>,
+    test: &Result<Typed<'a>, ExpressionFault>,
     left: &'a Expr,
     operator: Binary,
     again: &'a Expr,
@@ -104,8 +107,8 @@ pub(crate) fn again_typed<'a>(
     env: TypingEnvironment<'a>,
     operator: Binary,
     name: &'a TypeName,
-    other: Result<Typed<'a>, TypeFault>,
-) -> Result<Typed<'a>, TypeFault>
+    other: Result<Typed<'a>, ExpressionFault>,
+) -> Result<Typed<'a>, ExpressionFault>
     ensures { let E = typing_environment env.entry in
         (K L after : Pairs) (a b : Expr) → IsUnsettled E operator a b
         → Types E K a (types.entity_type name.entry.now) L → Judged E K b other.entry after

@@ -2,23 +2,25 @@
 //!
 //! Each clause says: whatever the operands are, wherever so is judged of them, so is judged of the form.
 ghost use Rattle.std.specs.Prelude.{◌≡◌, ◌≢◌, IfOk, MatchResult, Ok, Err, Some, None};
-ghost use Rattle.expressions.specs.declared.expr.Expr.{Expr};
-ghost use Rattle.expressions.specs.declared.expr.Expr.TheVariants as form;
-ghost use Rattle.static_types.specs.typing.Types.{false_type, boolean_type};
-ghost use Rattle.static_types.specs.typing.Rows.{MayBeTrue, and_type, or_type};
-ghost use Rattle.static_types.specs.typing.Environment as environment;
-ghost use Rattle.static_types.specs.typing.Learned.{Pairs, InBoth, OrLearns};
-ghost use Rattle.static_types.specs.typing.Typing.{Types};
-ghost use Rattle.static_types.specs.Views.{boolean_view};
-ghost use Rattle.known_pairs.specs.Pairs.{pairs};
+ghost use Rattle.grammar_core.specs.declared.expr.Expr.{Expr};
+ghost use Rattle.grammar_core.specs.declared.expr.Expr.TheVariants as form;
+ghost use Rattle.typing.specs.Types.{false_type, boolean_type};
+ghost use Rattle.typing.specs.Rows.{MayBeTrue, and_type, or_type};
+ghost use Rattle.typing.specs.Environment as environment;
+ghost use Rattle.typing.specs.Learned.{Pairs, InBoth, OrLearns};
+ghost use Rattle.typing.specs.Typing.{Types};
+ghost use Rattle.type_checker.specs.Views.{boolean_view};
+ghost use Rattle.type_capabilities.specs.Pairs.{pairs};
 ghost use Rattle.type_checker.specs.inner.Judged.{Judged, JudgedBehind, ThenTyped};
 
+use crate::common_types::common;
+use crate::fault::ExpressionFault;
 use crate::known::in_both_lists;
+use crate::static_type::{BooleanType, StaticType};
 use crate::typed::Typed;
-use known_pairs::Pair;
 use plain::NoMemory;
-use static_types::{BooleanType, StaticType, TypeFault, common};
 use std::alloc::Global;
+use type_capabilities::Pair;
 
 /// Returns the type of `&&`, by those of its sides, the left of which may be true.
 pub(crate) fn and_truth(left: BooleanType, right: BooleanType) -> BooleanType
@@ -38,8 +40,8 @@ pub(crate) fn and_truth(left: BooleanType, right: BooleanType) -> BooleanType
 /// `&&`, whose left may be true.
 pub(crate) fn and_typed<'a>(
     left: BooleanType,
-    right: Result<Typed<'a>, TypeFault>,
-) -> Result<Typed<'a>, TypeFault>
+    right: Result<Typed<'a>, ExpressionFault>,
+) -> Result<Typed<'a>, ExpressionFault>
     ensures { (env : environment.Environment) (K L after : Pairs) (a b : Expr) → Types env K a (boolean_view left) L
         → MayBeTrue (boolean_view left) → JudgedBehind env K L b right.entry after
         → Judged env K (form.And a b) result after }
@@ -58,15 +60,15 @@ pub(crate) fn and_typed<'a>(
         }
         None => {
             drop(right);
-            Err(TypeFault::Unexpected)
+            Err(ExpressionFault::Unexpected)
         }
     }
 }
 
 /// `||`, whose left is False.
 pub(crate) fn or_behind_false<'a>(
-    right: Result<Typed<'a>, TypeFault>,
-) -> Result<Typed<'a>, TypeFault>
+    right: Result<Typed<'a>, ExpressionFault>,
+) -> Result<Typed<'a>, ExpressionFault>
     ensures { (env : environment.Environment) (K L after : Pairs) (a b : Expr) → Types env K a false_type L
         → Judged env K b right.entry after → Judged env K (form.Or a b) result after }
 {
@@ -78,7 +80,7 @@ pub(crate) fn or_behind_false<'a>(
         Some(_) => Ok(right),
         None => {
             drop(right);
-            Err(TypeFault::Unexpected)
+            Err(ExpressionFault::Unexpected)
         }
     }
 }
@@ -116,8 +118,8 @@ fn or_learns<'a>(
 pub(crate) fn or_typed<'a>(
     alloc: Global,
     left: Vec<Pair<'a>>,
-    right: Result<Typed<'a>, TypeFault>,
-) -> Result<Typed<'a>, TypeFault>
+    right: Result<Typed<'a>, ExpressionFault>,
+) -> Result<Typed<'a>, ExpressionFault>
     ensures { (env : environment.Environment) (K after : Pairs) (a b : Expr)
         → Types env K a boolean_type (pairs left.entry.items) → Judged env K b right.entry after
         → Judged env K (form.Or a b) result after }
@@ -138,13 +140,13 @@ pub(crate) fn or_typed<'a>(
                     kind: StaticType::boolean(or_truth(truth)),
                     learns,
                 }),
-                Err(_) => Err(TypeFault::NoMemory),
+                Err(_) => Err(ExpressionFault::NoMemory),
             }
         }
         None => {
             drop(left);
             drop(right);
-            Err(TypeFault::Unexpected)
+            Err(ExpressionFault::Unexpected)
         }
     }
 }
@@ -152,33 +154,33 @@ pub(crate) fn or_typed<'a>(
 /// Returns the type of an `if` whose branches have this common type, if there is one.
 fn branch_type<'a>(
     kind: Result<Option<StaticType<'a>>, NoMemory>,
-) -> Result<StaticType<'a>, TypeFault>
+) -> Result<StaticType<'a>, ExpressionFault>
     ensures { MatchResult result (λ t. kind.entry ≡ Ok (Some t))
-        (λ f. f ≢ TypeFault.NoMemory → (f ≡ TypeFault.NoCommonType) × (kind.entry ≡ Ok None)) }
+        (λ f. f ≢ ExpressionFault.NoMemory → (f ≡ ExpressionFault.NoCommonType) × (kind.entry ≡ Ok None)) }
 {
     match kind {
         Ok(Some(kind)) => Ok(kind),
-        Ok(None) => Err(TypeFault::NoCommonType),
-        Err(_) => Err(TypeFault::NoMemory),
+        Ok(None) => Err(ExpressionFault::NoCommonType),
+        Err(_) => Err(ExpressionFault::NoMemory),
     }
 }
 
 /// Returns a type with what both branches learn.
 fn with_both<'a>(
     alloc: Global,
-    kind: Result<StaticType<'a>, TypeFault>,
+    kind: Result<StaticType<'a>, ExpressionFault>,
     consequent: &Vec<Pair<'a>>,
     alternative: &Vec<Pair<'a>>,
-) -> Result<Typed<'a>, TypeFault>
+) -> Result<Typed<'a>, ExpressionFault>
     ensures { MatchResult result
         (λ t. (kind.entry ≡ Ok t.kind)
         × InBoth (pairs alternative.now.items) (pairs consequent.now.items) (pairs t.learns.items))
-        (λ f. f ≢ TypeFault.NoMemory → kind.entry ≡ Err f) }
+        (λ f. f ≢ ExpressionFault.NoMemory → kind.entry ≡ Err f) }
 {
     match kind {
         Ok(kind) => match in_both_lists(alloc, alternative, consequent) {
             Ok(learns) => Ok(Typed { kind, learns }),
-            Err(_) => Err(TypeFault::NoMemory),
+            Err(_) => Err(ExpressionFault::NoMemory),
         },
         Err(fault) => Err(fault),
     }
@@ -188,8 +190,8 @@ fn with_both<'a>(
 pub(crate) fn branches<'a>(
     alloc: Global,
     then: Typed<'a>,
-    other: Result<Typed<'a>, TypeFault>,
-) -> Result<Typed<'a>, TypeFault>
+    other: Result<Typed<'a>, ExpressionFault>,
+) -> Result<Typed<'a>, ExpressionFault>
     ensures { (env : environment.Environment) (K after : Pairs) (a b c : Expr)
         → ThenTyped env K a b boolean_type then.entry → Judged env K c other.entry after
         → Judged env K (form.If a b c) result after }

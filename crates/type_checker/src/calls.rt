@@ -1,16 +1,18 @@
 //! The types of calls with one operand.
 ghost use Rattle.std.specs.Prelude.{◌≡◌, ◌≢◌, ◌↔◌, ℕ, List, IsTrue, MatchOption, MatchResult, true, false};
-ghost use Rattle.expressions.specs.declared.leaf.Literal.TheVariants as literal;
-ghost use Rattle.expressions.specs.declared.operator.UnaryCall.TheVariants as unary_call;
-ghost use Rattle.expressions.specs.declared.expr.Expr.TheVariants as form;
-ghost use Rattle.static_types.specs.typing.Types as types;
-ghost use Rattle.static_types.specs.typing.Literals.{ReadsLiteral};
-ghost use Rattle.static_types.specs.Views.{static_view, leaf_view};
+ghost use Rattle.grammar_core.specs.declared.leaf.Literal.TheVariants as literal;
+ghost use Rattle.grammar_core.specs.declared.operator.UnaryCall.TheVariants as unary_call;
+ghost use Rattle.grammar_core.specs.declared.expr.Expr.TheVariants as form;
+ghost use Rattle.typing.specs.Types as types;
+ghost use Rattle.typing.specs.Literals.{ReadsLiteral};
+ghost use Rattle.type_checker.specs.Views.{static_view, leaf_view};
 ghost use Rattle.type_checker.specs.inner.Judged.{CallTyped};
 
-use expressions::{Expr, Literal, UnaryCall};
+use crate::fault::ExpressionFault;
+use crate::operators::address_test_type;
+use crate::static_type::{Leaf, StaticType};
+use grammar_core::{Expr, Literal, UnaryCall};
 use plain::Text;
-use static_types::{Leaf, StaticType, TypeFault, address_test_type};
 use values::{Decimal, IpNet};
 
 /// Returns the text that an expression is a literal of.
@@ -51,14 +53,14 @@ fn is_network(expr: &Expr) -> bool
 }
 
 /// Returns a type where the operand is a literal of its extension.
-fn if_literal<'a>(is_literal: bool, leaf: Leaf<'a>) -> Result<StaticType<'a>, TypeFault>
+fn if_literal<'a>(is_literal: bool, leaf: Leaf<'a>) -> Result<StaticType<'a>, ExpressionFault>
     ensures { MatchResult result (λ t. (is_literal ≡ true) × (static_view t ≡ leaf_view leaf.entry))
-        (λ f. (is_literal ≡ false) × (f ≡ TypeFault.BadExtensionLiteral)) }
+        (λ f. (is_literal ≡ false) × (f ≡ ExpressionFault.BadExtensionLiteral)) }
 {
     if is_literal {
         Ok(StaticType::Leaf(leaf))
     } else {
-        Err(TypeFault::BadExtensionLiteral)
+        Err(ExpressionFault::BadExtensionLiteral)
     }
 }
 
@@ -67,7 +69,7 @@ pub(crate) fn unary_call_type<'a>(
     called: UnaryCall,
     operand: &Expr,
     kind: StaticType<'a>,
-) -> Result<StaticType<'a>, TypeFault>
+) -> Result<StaticType<'a>, ExpressionFault>
     ensures { CallTyped called operand.now (static_view kind.entry) result }
 {
     match called {

@@ -1,8 +1,8 @@
 //! Whether two expressions are the same. Takes no memory.
 ghost use Rattle.std.specs.Prelude.{◌≡◌, IsTrue, IsSomeAnd};
 
-use expressions::Expr;
-use known_pairs::compare;
+use grammar_core::Expr;
+use type_capabilities::compare;
 
 /// Returns whether two expressions are equal. They are compared form by form, which is much cheaper than to type one.
 pub(crate) fn same_expr(one: &Expr, other: &Expr) -> bool

@@ -2,37 +2,39 @@
 //!
 //! Each clause says: whatever the operands are, wherever so is judged of them, so is judged of the form.
 ghost use Rattle.std.specs.Prelude.{◌≡◌, ◌≢◌, List, map, IfOk, MatchResult};
-ghost use Rattle.expressions.specs.declared.expr.Expr.{Expr};
-ghost use Rattle.expressions.specs.declared.expr.Expr.TheVariants as form;
-ghost use Rattle.static_types.specs.typing.Environment as environment;
-ghost use Rattle.static_types.specs.typing.Learned as learned;
-ghost use Rattle.static_types.specs.typing.Learned.{Pairs, has_learns};
-ghost use Rattle.static_types.specs.typing.Literals.{IsUnsettled};
-ghost use Rattle.static_types.specs.typing.Typing.{Types};
-ghost use Rattle.static_types.specs.typing.Faults.{Faults};
-ghost use Rattle.static_types.specs.Views.{static_view, fault_view, typing_environment};
-ghost use Rattle.known_pairs.specs.Pairs.{pairs};
+ghost use Rattle.grammar_core.specs.declared.expr.Expr.{Expr};
+ghost use Rattle.grammar_core.specs.declared.expr.Expr.TheVariants as form;
+ghost use Rattle.typing.specs.Environment as environment;
+ghost use Rattle.typing.specs.Learned as learned;
+ghost use Rattle.typing.specs.Learned.{Pairs, has_learns};
+ghost use Rattle.typing.specs.Literals.{IsUnsettled};
+ghost use Rattle.typing.specs.Typing.{Types};
+ghost use Rattle.typing.specs.Faults.{Faults};
+ghost use Rattle.type_checker.specs.Views.{static_view, fault_view, typing_environment};
+ghost use Rattle.type_capabilities.specs.Pairs.{pairs};
 ghost use Rattle.type_checker.specs.inner.Pairs.{if_learned};
 ghost use Rattle.type_checker.specs.inner.Judged.{Judged, JudgedEach, JudgedMembers, IsHasRow, IsNext};
 
 use crate::calls::unary_call_type;
+use crate::environment::TypingEnvironment;
+use crate::fault::ExpressionFault;
+use crate::fields::{field_type, has_type};
 use crate::known::knows;
+use crate::literal_types::{record_literal_type, set_literal_type};
+use crate::operators::{binary_type, call_type, unary_type};
+use crate::static_type::{BooleanType, StaticType};
 use crate::typed::{Typed, plain, typed_row};
-use expressions::{Binary, BinaryCall, Expr, Named, Unary, UnaryCall};
-use known_pairs::{Known, Pair};
+use grammar_core::{Binary, BinaryCall, Expr, Named, Unary, UnaryCall};
 use plain::NoMemory;
-use static_types::{
-    BooleanType, StaticType, TypeFault, TypingEnvironment, binary_type, call_type, field_type,
-    has_type, record_literal_type, set_literal_type, unary_type,
-};
 use std::alloc::Global;
+use type_capabilities::{Known, Pair};
 
 /// Returns an operator with its operand.
 pub(crate) fn unary_typed<'a>(
     alloc: Global,
     operator: &Unary,
-    operand: Result<Typed<'a>, TypeFault>,
-) -> Result<Typed<'a>, TypeFault>
+    operand: Result<Typed<'a>, ExpressionFault>,
+) -> Result<Typed<'a>, ExpressionFault>
     ensures { (env : environment.Environment) (K after : Pairs) (a : Expr) → Judged env K a operand.entry after
         → Judged env K (form.Unary operator.now a) result after }
 {
@@ -49,8 +51,8 @@ pub(crate) fn binary_typed<'a>(
     env: TypingEnvironment<'a>,
     operator: Binary,
     left: Typed<'a>,
-    right: Result<Typed<'a>, TypeFault>,
-) -> Result<Typed<'a>, TypeFault>
+    right: Result<Typed<'a>, ExpressionFault>,
+) -> Result<Typed<'a>, ExpressionFault>
     ensures { let E = typing_environment env.entry in
         (K after : Pairs) (a b : Expr) → IsUnsettled E operator a b
         → Types E K a (static_view left.entry.kind) (pairs left.entry.learns.items) → Judged E K b right.entry after
@@ -74,8 +76,8 @@ pub(crate) fn call_typed<'a>(
     alloc: Global,
     called: BinaryCall,
     left: Typed<'a>,
-    right: Result<Typed<'a>, TypeFault>,
-) -> Result<Typed<'a>, TypeFault>
+    right: Result<Typed<'a>, ExpressionFault>,
+) -> Result<Typed<'a>, ExpressionFault>
     ensures { (env : environment.Environment) (K after : Pairs) (a b : Expr)
         → Types env K a (static_view left.entry.kind) (pairs left.entry.learns.items)
         → Judged env K b right.entry after → Judged env K (form.BinaryCall called a b) result after }
@@ -95,8 +97,8 @@ pub(crate) fn unary_call_typed<'a>(
     alloc: Global,
     called: UnaryCall,
     operand: &Expr,
-    typed: Result<Typed<'a>, TypeFault>,
-) -> Result<Typed<'a>, TypeFault>
+    typed: Result<Typed<'a>, ExpressionFault>,
+) -> Result<Typed<'a>, ExpressionFault>
     ensures { (env : environment.Environment) (K after : Pairs) → Judged env K operand.now typed.entry after
         → Judged env K (form.UnaryCall called operand.now) result after }
 {
@@ -114,8 +116,8 @@ pub(crate) fn field_typed<'a>(
     known: &Known<'a>,
     owner: &'a Expr,
     name: &'a str,
-    typed: Result<Typed<'a>, TypeFault>,
-) -> Result<Typed<'a>, TypeFault>
+    typed: Result<Typed<'a>, ExpressionFault>,
+) -> Result<Typed<'a>, ExpressionFault>
     ensures { let E = typing_environment env.entry in
         (K : Pairs) → Judged E K owner.entry.now typed.entry known.now
         → Judged E K (form.Field owner.entry.now name.entry.now) result known.now }
@@ -163,16 +165,16 @@ fn learned<'a>(
 /// Returns the type of `has`, with what it learns.
 fn has_row<'a>(
     alloc: Global,
-    row: Result<StaticType<'a>, TypeFault>,
+    row: Result<StaticType<'a>, ExpressionFault>,
     owner: &'a Expr,
     name: &'a str,
-) -> Result<Typed<'a>, TypeFault>
+) -> Result<Typed<'a>, ExpressionFault>
     ensures { IsHasRow (owner.entry.now, name.entry.now) row.entry result }
 {
     match row {
         Ok(kind) => match learned(alloc, &kind, owner, name) {
             Ok(learns) => Ok(Typed { kind, learns }),
-            Err(_) => Err(TypeFault::NoMemory),
+            Err(_) => Err(ExpressionFault::NoMemory),
         },
         Err(fault) => Err(fault),
     }
@@ -185,8 +187,8 @@ pub(crate) fn has_typed<'a>(
     known: &Known<'a>,
     owner: &'a Expr,
     name: &'a str,
-    typed: Result<Typed<'a>, TypeFault>,
-) -> Result<Typed<'a>, TypeFault>
+    typed: Result<Typed<'a>, ExpressionFault>,
+) -> Result<Typed<'a>, ExpressionFault>
     ensures { let E = typing_environment env.entry in
         (K : Pairs) → Judged E K owner.entry.now typed.entry known.now
         → Judged E K (form.Has owner.entry.now name.entry.now) result known.now }
@@ -204,8 +206,8 @@ pub(crate) fn has_typed<'a>(
 /// Returns a set literal.
 pub(crate) fn set_typed<'a>(
     alloc: Global,
-    types: Result<Vec<StaticType<'a>>, TypeFault>,
-) -> Result<Typed<'a>, TypeFault>
+    types: Result<Vec<StaticType<'a>>, ExpressionFault>,
+) -> Result<Typed<'a>, ExpressionFault>
     ensures { (env : environment.Environment) (K after : Pairs) (xs : List Expr)
         → JudgedMembers env K xs types.entry after → Judged env K (form.Set xs) result after }
 {
@@ -220,8 +222,8 @@ pub(crate) fn set_typed<'a>(
 pub(crate) fn record_typed<'a>(
     alloc: Global,
     fields: &'a [Named<Expr>],
-    types: Result<Vec<StaticType<'a>>, TypeFault>,
-) -> Result<Typed<'a>, TypeFault>
+    types: Result<Vec<StaticType<'a>>, ExpressionFault>,
+) -> Result<Typed<'a>, ExpressionFault>
     ensures { (env : environment.Environment) (K after : Pairs)
         → JudgedEach env K (map (λ f. f.value) fields.entry.now) types.entry after
         → Judged env K (form.Record fields.entry.now) result after }
@@ -232,18 +234,18 @@ pub(crate) fn record_typed<'a>(
     };
     match record_literal_type(alloc, fields, types) {
         Ok(kind) => Ok(plain(alloc, kind)),
-        Err(_) => Err(TypeFault::NoMemory),
+        Err(_) => Err(ExpressionFault::NoMemory),
     }
 }
 
 /// Puts the type of one more behind those of several.
 pub(crate) fn put_type<'a>(
     types: &mut Vec<StaticType<'a>>,
-    typed: Result<Typed<'a>, TypeFault>,
-) -> Result<(), TypeFault>
+    typed: Result<Typed<'a>, ExpressionFault>,
+) -> Result<(), ExpressionFault>
     ensures { (env : environment.Environment) (K after : Pairs) (x : Expr) → Judged env K x typed.entry after
         → MatchResult result (λ _. (after ≡ K) × IsNext env K x types.old.items types.new.items)
-        (λ f. f ≢ TypeFault.NoMemory → Faults env K x (fault_view f)) }
+        (λ f. f ≢ ExpressionFault.NoMemory → Faults env K x (fault_view f)) }
 {
     let typed = match typed {
         Ok(typed) => typed,

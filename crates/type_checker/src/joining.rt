@@ -1,37 +1,40 @@
 //! Expressions that are joined by `&&`, to the right: one part after the other.
 ghost use Rattle.std.specs.Prelude.{◌≡◌, ◌≢◌, ◌++◌, Some, option_map, MatchResult};
-ghost use Rattle.expressions.specs.declared.expr.Expr.{Expr};
-ghost use Rattle.expressions.specs.declared.expr.Expr.TheVariants as form;
-ghost use Rattle.static_types.specs.typing.Types.{IsBoolean};
-ghost use Rattle.static_types.specs.typing.Learned.{Pairs};
-ghost use Rattle.static_types.specs.typing.Typing.{Types};
-ghost use Rattle.static_types.specs.typing.Faults.{Faults};
-ghost use Rattle.static_types.specs.Views.{boolean_view, static_view, fault_view, typing_environment};
-ghost use Rattle.known_pairs.specs.Pairs.{pairs};
+ghost use Rattle.grammar_core.specs.declared.expr.Expr.{Expr};
+ghost use Rattle.grammar_core.specs.declared.expr.Expr.TheVariants as form;
+ghost use Rattle.typing.specs.Types.{IsBoolean};
+ghost use Rattle.typing.specs.Learned.{Pairs};
+ghost use Rattle.typing.specs.Typing.{Types};
+ghost use Rattle.typing.specs.Faults.{Faults};
+ghost use Rattle.type_checker.specs.Views.{boolean_view, static_view, fault_view, typing_environment};
+ghost use Rattle.type_capabilities.specs.Pairs.{pairs};
 ghost use Rattle.type_checker.specs.inner.Joining.{and_so_far, IsSide};
 
 use crate::branching::and_truth;
+use crate::environment::TypingEnvironment;
+use crate::fault::ExpressionFault;
 use crate::judging::type_of;
 use crate::known::know_too;
+use crate::static_type::{BooleanType, StaticType};
 use crate::typed::Typed;
-use expressions::Expr;
-use known_pairs::Known;
-use static_types::{BooleanType, StaticType, TypeFault, TypingEnvironment};
+use grammar_core::Expr;
 use std::alloc::Global;
+use type_capabilities::Known;
 
 /// Returns which type of booleans a left of `&&` has; what it learns is put on top of what is known.
-fn known_left<'a>(known: &mut Known<'a>, typed: &Typed<'a>) -> Result<BooleanType, TypeFault>
+fn known_left<'a>(known: &mut Known<'a>, typed: &Typed<'a>) -> Result<BooleanType, ExpressionFault>
     ensures { MatchResult result
         (λ b. (static_view typed.now.kind ≡ boolean_view b)
         × (known.new ≡ known.old ++ pairs typed.now.learns.items))
-        (λ f. f ≢ TypeFault.NoMemory → (f ≡ TypeFault.Unexpected) × ¬ IsBoolean (static_view typed.now.kind)) }
+        (λ f. f ≢ ExpressionFault.NoMemory
+        → (f ≡ ExpressionFault.Unexpected) × ¬ IsBoolean (static_view typed.now.kind)) }
 {
     match typed.kind.as_boolean() {
         Some(truth) => match know_too(known, &typed.learns) {
             Ok(()) => Ok(truth),
-            Err(_) => Err(TypeFault::NoMemory),
+            Err(_) => Err(ExpressionFault::NoMemory),
         },
-        None => Err(TypeFault::Unexpected),
+        None => Err(ExpressionFault::Unexpected),
     }
 }
 
@@ -41,11 +44,11 @@ pub(crate) fn left_type<'a>(
     env: TypingEnvironment<'a>,
     left: &'a Expr,
     known: &mut Known<'a>,
-) -> Result<BooleanType, TypeFault>
+) -> Result<BooleanType, ExpressionFault>
     ensures { let E = typing_environment env.entry in MatchResult result
         (λ b. (L : Pairs) × Types E known.old left.entry.now (boolean_view b) L
         × (known.new ≡ known.old ++ L))
-        (λ f. f ≢ TypeFault.NoMemory
+        (λ f. f ≢ ExpressionFault.NoMemory
         → (b : Expr) → Faults E known.old (form.And left.entry.now b) (fault_view f)) }
 {
     match type_of(alloc, left, env, known) {
@@ -69,15 +72,15 @@ pub(crate) fn and_one_more(so_far: Option<BooleanType>, truth: BooleanType) -> O
 pub(crate) fn and_last<'a>(
     so_far: Option<BooleanType>,
     last: StaticType<'a>,
-) -> Result<StaticType<'a>, TypeFault>
+) -> Result<StaticType<'a>, ExpressionFault>
     ensures { let s = option_map boolean_view so_far in MatchResult result
         (λ t. IsSide s (static_view last.entry) × (static_view t ≡ and_so_far s (static_view last.entry)))
-        (λ f. (f ≡ TypeFault.Unexpected) × ¬ IsSide s (static_view last.entry)) }
+        (λ f. (f ≡ ExpressionFault.Unexpected) × ¬ IsSide s (static_view last.entry)) }
 {
     match so_far {
         Some(left) => match last.as_boolean() {
             Some(truth) => Ok(StaticType::boolean(and_truth(left, truth))),
-            None => Err(TypeFault::Unexpected),
+            None => Err(ExpressionFault::Unexpected),
         },
         None => Ok(last),
     }

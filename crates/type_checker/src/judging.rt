@@ -1,28 +1,31 @@
 //! The recursion over an expression.
 ghost use Rattle.std.specs.Prelude.{map};
-ghost use Rattle.expressions.specs.declared.expr.Expr.{Expr};
-ghost use Rattle.expressions.specs.declared.expr.Expr.TheVariants as form;
-ghost use Rattle.static_types.specs.typing.Learned.{Pairs};
-ghost use Rattle.static_types.specs.typing.Literals.{IsUnsettled};
-ghost use Rattle.static_types.specs.Views.{typing_environment};
-ghost use Rattle.known_pairs.specs.Pairs.{pairs};
+ghost use Rattle.grammar_core.specs.declared.expr.Expr.{Expr};
+ghost use Rattle.grammar_core.specs.declared.expr.Expr.TheVariants as form;
+ghost use Rattle.typing.specs.Learned.{Pairs};
+ghost use Rattle.typing.specs.Literals.{IsUnsettled};
+ghost use Rattle.type_checker.specs.Views.{typing_environment};
+ghost use Rattle.type_capabilities.specs.Pairs.{pairs};
 ghost use Rattle.type_checker.specs.inner.Judged.{Judged, JudgedBehind, JudgedEach, JudgedMembers, ThenJudged};
 
 use crate::asking::{again_typed, asked_again};
 use crate::branching::{and_typed, branches, or_behind_false, or_typed};
+use crate::environment::TypingEnvironment;
 use crate::equal::repeats;
+use crate::fault::ExpressionFault;
 use crate::finishing::{
     binary_typed, call_typed, field_typed, has_typed, put_type, record_typed, set_typed,
     unary_call_typed, unary_typed,
 };
 use crate::known::know_too;
+use crate::literal_types::literal_type;
 use crate::literals::settled;
+use crate::static_type::{BooleanType, StaticType};
 use crate::typed::{Then, Typed, both, is_looked_at, learned_too, only, plain, truth_type};
-use expressions::{Binary, BinaryCall, Expr, Named};
-use known_pairs::{Known, Pair};
+use grammar_core::{Binary, BinaryCall, Expr, Named};
 use plain::{Items, Shared};
-use static_types::{BooleanType, StaticType, TypeFault, TypingEnvironment, literal_type};
 use std::alloc::Global;
+use type_capabilities::{Known, Pair};
 
 /// Returns what is judged of an expression where these pairs are known. They are a stack, which is as it was wherever
 /// there is a type.
@@ -32,7 +35,7 @@ pub(crate) fn type_of<'a>(
     expr: &'a Expr,
     env: TypingEnvironment<'a>,
     known: &mut Known<'a>,
-) -> Result<Typed<'a>, TypeFault>
+) -> Result<Typed<'a>, ExpressionFault>
     ensures { Judged (typing_environment env.entry) known.old expr.entry.now result known.new }
 {
     match expr {
@@ -85,7 +88,7 @@ fn type_behind<'a>(
     env: TypingEnvironment<'a>,
     known: &mut Known<'a>,
     learns: Vec<Pair<'a>>,
-) -> Result<Typed<'a>, TypeFault>
+) -> Result<Typed<'a>, ExpressionFault>
     ensures { JudgedBehind (typing_environment env.entry) known.old (pairs learns.entry.items)
         expr.entry.now result known.new }
 {
@@ -96,7 +99,7 @@ fn type_behind<'a>(
             known.forget_above(height);
             learned_too(learns, typed)
         }
-        Err(_) => Err(TypeFault::NoMemory),
+        Err(_) => Err(ExpressionFault::NoMemory),
     }
 }
 
@@ -109,7 +112,7 @@ fn type_and<'a>(
     right: &'a Shared<Expr>,
     env: TypingEnvironment<'a>,
     known: &mut Known<'a>,
-) -> Result<Typed<'a>, TypeFault>
+) -> Result<Typed<'a>, ExpressionFault>
     ensures { Judged (typing_environment env.entry) known.old (form.And left.entry.now right.entry.now) result
         known.new }
 {
@@ -139,7 +142,7 @@ fn type_or<'a>(
     right: &'a Shared<Expr>,
     env: TypingEnvironment<'a>,
     known: &mut Known<'a>,
-) -> Result<Typed<'a>, TypeFault>
+) -> Result<Typed<'a>, ExpressionFault>
     ensures { Judged (typing_environment env.entry) known.old (form.Or left.entry.now right.entry.now) result
         known.new }
 {
@@ -157,7 +160,7 @@ fn type_binary<'a>(
     right: &'a Shared<Expr>,
     env: TypingEnvironment<'a>,
     known: &mut Known<'a>,
-) -> Result<Typed<'a>, TypeFault>
+) -> Result<Typed<'a>, ExpressionFault>
     ensures { Judged (typing_environment env.entry) known.old
         (form.Binary operator left.entry.now right.entry.now) result known.new }
 {
@@ -178,8 +181,8 @@ fn second_conjunct<'a>(
     right: &'a Shared<Expr>,
     env: TypingEnvironment<'a>,
     known: &mut Known<'a>,
-    left: Result<Typed<'a>, TypeFault>,
-) -> Result<Typed<'a>, TypeFault>
+    left: Result<Typed<'a>, ExpressionFault>,
+) -> Result<Typed<'a>, ExpressionFault>
     ensures { let E = typing_environment env.entry in (K : Pairs) (a : Expr) → Judged E K a left.entry known.old
         → Judged E K (form.And a right.entry.now) result known.new }
 {
@@ -195,7 +198,7 @@ fn second_conjunct<'a>(
             }
             None => {
                 drop(left);
-                Err(TypeFault::Unexpected)
+                Err(ExpressionFault::Unexpected)
             }
         },
         Err(fault) => Err(fault),
@@ -210,8 +213,8 @@ fn second_disjunct<'a>(
     right: &'a Shared<Expr>,
     env: TypingEnvironment<'a>,
     known: &mut Known<'a>,
-    left: Result<Typed<'a>, TypeFault>,
-) -> Result<Typed<'a>, TypeFault>
+    left: Result<Typed<'a>, ExpressionFault>,
+) -> Result<Typed<'a>, ExpressionFault>
     ensures { let E = typing_environment env.entry in (K : Pairs) (a : Expr) → Judged E K a left.entry known.old
         → Judged E K (form.Or a right.entry.now) result known.new }
 {
@@ -233,7 +236,7 @@ fn second_disjunct<'a>(
             }
             None => {
                 drop(left);
-                Err(TypeFault::Unexpected)
+                Err(ExpressionFault::Unexpected)
             }
         },
         Err(fault) => Err(fault),
@@ -248,8 +251,8 @@ fn type_then<'a>(
     consequent: &'a Shared<Expr>,
     env: TypingEnvironment<'a>,
     known: &mut Known<'a>,
-    test: Result<Typed<'a>, TypeFault>,
-) -> Result<Then<'a>, TypeFault>
+    test: Result<Typed<'a>, ExpressionFault>,
+) -> Result<Then<'a>, ExpressionFault>
     ensures { let E = typing_environment env.entry in (K : Pairs) (a : Expr) → Judged E K a test.entry known.old
         → ThenJudged E K a consequent.entry.now result known.new }
 {
@@ -269,7 +272,7 @@ fn type_then<'a>(
             }
             None => {
                 drop(test);
-                Err(TypeFault::Unexpected)
+                Err(ExpressionFault::Unexpected)
             }
         },
         Err(fault) => Err(fault),
@@ -284,8 +287,8 @@ fn type_else<'a>(
     alternative: &'a Shared<Expr>,
     env: TypingEnvironment<'a>,
     known: &mut Known<'a>,
-    then: Result<Then<'a>, TypeFault>,
-) -> Result<Typed<'a>, TypeFault>
+    then: Result<Then<'a>, ExpressionFault>,
+) -> Result<Typed<'a>, ExpressionFault>
     ensures { let E = typing_environment env.entry in
         (K : Pairs) (a b : Expr) → ThenJudged E K a b then.entry known.old
         → Judged E K (form.If a b alternative.entry.now) result known.new }
@@ -310,8 +313,8 @@ fn second_operand<'a>(
     env: TypingEnvironment<'a>,
     known: &mut Known<'a>,
     operator: Binary,
-    left: Result<Typed<'a>, TypeFault>,
-) -> Result<Typed<'a>, TypeFault>
+    left: Result<Typed<'a>, ExpressionFault>,
+) -> Result<Typed<'a>, ExpressionFault>
     ensures { let E = typing_environment env.entry in
         (K : Pairs) (a : Expr) → IsUnsettled E operator a right.entry.now → Judged E K a left.entry known.old
         → Judged E K (form.Binary operator a right.entry.now) result known.new }
@@ -334,8 +337,8 @@ fn second_called<'a>(
     env: TypingEnvironment<'a>,
     known: &mut Known<'a>,
     called: BinaryCall,
-    left: Result<Typed<'a>, TypeFault>,
-) -> Result<Typed<'a>, TypeFault>
+    left: Result<Typed<'a>, ExpressionFault>,
+) -> Result<Typed<'a>, ExpressionFault>
     ensures { let E = typing_environment env.entry in (K : Pairs) (a : Expr) → Judged E K a left.entry known.old
         → Judged E K (form.BinaryCall called a right.entry.now) result known.new }
 {
@@ -356,7 +359,7 @@ fn types_of<'a>(
     exprs: &'a Items<Expr>,
     env: TypingEnvironment<'a>,
     known: &mut Known<'a>,
-) -> Result<Vec<StaticType<'a>>, TypeFault>
+) -> Result<Vec<StaticType<'a>>, ExpressionFault>
     ensures { JudgedMembers (typing_environment env.entry) known.old exprs.entry.now result known.new }
 {
     let mut types = Vec::new(alloc);
@@ -383,7 +386,7 @@ fn types_of_fields<'a>(
     fields: &'a Items<Named<Expr>>,
     env: TypingEnvironment<'a>,
     known: &mut Known<'a>,
-) -> Result<Vec<StaticType<'a>>, TypeFault>
+) -> Result<Vec<StaticType<'a>>, ExpressionFault>
     ensures { JudgedEach (typing_environment env.entry) known.old
         (map (λ f. f.value) fields.entry.now) result known.new }
 {

@@ -1,12 +1,12 @@
 //! Known pairs, as typing puts them and asks for them.
 ghost use Rattle.std.specs.Prelude.{◌≡◌, ◌↔◌, ◌∷◌, [], ◌++◌, IsTrue, IfOk, Contains};
-ghost use Rattle.static_types.specs.typing.Learned.{Pairs, InBoth};
-ghost use Rattle.known_pairs.specs.Pairs.{pair_of, pairs};
+ghost use Rattle.typing.specs.Learned.{Pairs, InBoth};
+ghost use Rattle.type_capabilities.specs.Pairs.{pair_of, pairs};
 
-use expressions::Expr;
-use known_pairs::{Known, Pair};
+use grammar_core::Expr;
 use plain::NoMemory;
 use std::alloc::Global;
+use type_capabilities::{Known, Pair};
 
 /// Returns whether the pair is known.
 pub(crate) fn knows<'a>(known: &Known<'a>, whole: &'a Expr, name: &'a str) -> bool

@@ -1,17 +1,45 @@
-//! What type an expression has under the strict validator's rules, or why it has none.
+//! What type an expression has under the strict validator's rules, or why it has none: what each form demands of its
+//! operands' types, and the type that it has then. The types that a schema declares are borrowed from it, whole.
 #![tactic(auto)]
 
 mod asking;
 mod branching;
 mod calls;
+mod common_types;
+mod environment;
 mod equal;
+mod fault;
+mod fields;
 mod finishing;
 mod joining;
 mod judging;
 mod known;
+mod laws;
+mod literal_types;
 mod literals;
+mod operators;
+mod parts;
+mod same_types;
+mod static_type;
+mod type_joins;
 mod typed;
 mod whole;
 
-pub use static_types::{StaticType, TypeFault, TypingEnvironment, is_action_type};
+pub use common_types::common;
+pub use entities::{
+    ActionScope, Entity, EntityFault, EntityScope, Environment, Policy, Schema, SchemaFault, Scope,
+    action_types_are_told, bytes_have_one_outcome, canonical_text, canonical_texts_are_read,
+    entities_read_back, json_texts_are_utf8, read_entity, read_schema,
+    stated_schemas_are_well_formed,
+};
+pub use environment::{TypingEnvironment, is_action_type};
+pub use fault::ExpressionFault;
+pub use fields::{field_type, has_type};
+pub use laws::environments_are_well_behaved;
+pub use literal_types::{literal_type, record_literal_type, set_literal_type};
+pub use operators::{address_test_type, binary_type, call_type, unary_type};
+pub use static_type::{BooleanType, Leaf, StaticType};
+pub use typing::{
+    expressions_have_one_judgement, parents_tell_ancestors, typed_expressions_go_right,
+};
 pub use whole::judge_all;

@@ -1,18 +1,17 @@
 //! What literals settle: `==` of two, and an action's `in` entity literals.
 ghost use Rattle.std.specs.Prelude.{◌≡◌, ◌↔◌, ◌⊎◌, List, IsTrue, MatchOption, Contains};
 ghost use Rattle.std.specs.Bool.{Decides};
-ghost use Rattle.expressions.specs.declared.leaf.Literal.{Literal};
-ghost use Rattle.expressions.specs.declared.leaf.Literal.TheVariants as literal;
-ghost use Rattle.expressions.specs.declared.operator.Binary.TheVariants as binary;
+ghost use Rattle.grammar_core.specs.declared.leaf.Literal.{Literal};
+ghost use Rattle.grammar_core.specs.declared.leaf.Literal.TheVariants as literal;
+ghost use Rattle.grammar_core.specs.declared.operator.Binary.TheVariants as binary;
 ghost use Rattle.values.specs.declared.entity_uid.EntityUid.{EntityUid};
-ghost use Rattle.static_types.specs.typing.Literals.{IsLiteral, AreEntityLiterals, ListsEntities, IsActionIn, Settled};
-ghost use Rattle.static_types.specs.typing.Literals.{IsUnsettled};
-ghost use Rattle.static_types.specs.Views.{typing_environment};
+ghost use Rattle.typing.specs.Literals.{IsLiteral, AreEntityLiterals, ListsEntities, IsActionIn, Settled, IsUnsettled};
+ghost use Rattle.type_checker.specs.Views.{typing_environment};
 ghost use Rattle.type_checker.specs.inner.Literals.{literal_of};
 
-use expressions::{Binary, Expr, Literal, Variable};
+use crate::environment::TypingEnvironment;
+use grammar_core::{Binary, Expr, Literal, Variable};
 use plain::Text;
-use static_types::TypingEnvironment;
 use values::EntityUid;
 
 /// A literal, borrowed where it stands; that of `action` stands in the environment.

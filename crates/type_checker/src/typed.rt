@@ -1,14 +1,15 @@
 //! What is judged of an expression, while it is judged.
 ghost use Rattle.std.specs.Prelude.{◌≡◌, ◌↔◌, [], IsTrue, Ok, Err};
-ghost use Rattle.static_types.specs.typing.Types as types;
-ghost use Rattle.static_types.specs.typing.Rows.{MayBeTrue};
-ghost use Rattle.static_types.specs.Views.{boolean_view};
+ghost use Rattle.typing.specs.Types as types;
+ghost use Rattle.typing.specs.Rows.{MayBeTrue};
+ghost use Rattle.type_checker.specs.Views.{boolean_view};
 ghost use Rattle.type_checker.specs.inner.Judged.{IsRow, AddsLearned, IsBranch};
 
+use crate::fault::ExpressionFault;
 use crate::known::learn_too;
-use known_pairs::Pair;
-use static_types::{BooleanType, StaticType, TypeFault};
+use crate::static_type::{BooleanType, StaticType};
 use std::alloc::Global;
+use type_capabilities::Pair;
 
 /// The type of an expression, and what it learns.
 #[derive(Drop)]
@@ -60,8 +61,8 @@ pub(crate) fn plain<'a>(alloc: Global, kind: StaticType<'a>) -> Typed<'a>
 /// Returns the type of a row, of what learns nothing.
 pub(crate) fn typed_row<'a>(
     alloc: Global,
-    row: Result<StaticType<'a>, TypeFault>,
-) -> Result<Typed<'a>, TypeFault>
+    row: Result<StaticType<'a>, ExpressionFault>,
+) -> Result<Typed<'a>, ExpressionFault>
     ensures { IsRow row.entry result }
 {
     match row {
@@ -73,8 +74,8 @@ pub(crate) fn typed_row<'a>(
 /// Returns what learns these pairs too, before its own.
 pub(crate) fn learned_too<'a>(
     learns: Vec<Pair<'a>>,
-    typed: Result<Typed<'a>, TypeFault>,
-) -> Result<Typed<'a>, TypeFault>
+    typed: Result<Typed<'a>, ExpressionFault>,
+) -> Result<Typed<'a>, ExpressionFault>
     ensures { AddsLearned learns.entry.items typed.entry result }
 {
     let Typed { kind, learns: own } = typed?;
@@ -84,7 +85,9 @@ pub(crate) fn learned_too<'a>(
 }
 
 /// Returns the only branch.
-pub(crate) fn only<'a>(typed: Result<Typed<'a>, TypeFault>) -> Result<Then<'a>, TypeFault>
+pub(crate) fn only<'a>(
+    typed: Result<Typed<'a>, ExpressionFault>,
+) -> Result<Then<'a>, ExpressionFault>
     ensures { IsBranch (λ t. Then.Only t) typed.entry result }
 {
     match typed {
@@ -94,7 +97,9 @@ pub(crate) fn only<'a>(typed: Result<Typed<'a>, TypeFault>) -> Result<Then<'a>, 
 }
 
 /// Returns the first branch of two.
-pub(crate) fn both<'a>(typed: Result<Typed<'a>, TypeFault>) -> Result<Then<'a>, TypeFault>
+pub(crate) fn both<'a>(
+    typed: Result<Typed<'a>, ExpressionFault>,
+) -> Result<Then<'a>, ExpressionFault>
     ensures { IsBranch (λ t. Then.Both t) typed.entry result }
 {
     match typed {

@@ -1,18 +1,20 @@
 //! The type of expressions that are joined, where nothing is known.
 ghost use Rattle.std.specs.Prelude.{◌≢◌, [], IfOk, IfErr};
-ghost use Rattle.static_types.specs.typing.Learned.{Pairs};
-ghost use Rattle.static_types.specs.typing.Typing.{Types};
-ghost use Rattle.static_types.specs.typing.Faults.{Faults};
-ghost use Rattle.static_types.specs.Views.{static_view, fault_view, typing_environment};
+ghost use Rattle.typing.specs.Learned.{Pairs};
+ghost use Rattle.typing.specs.Typing.{Types};
+ghost use Rattle.typing.specs.Faults.{Faults};
+ghost use Rattle.type_checker.specs.Views.{static_view, fault_view, typing_environment};
 ghost use Rattle.type_checker.specs.Joined.{joined};
 
+use crate::environment::TypingEnvironment;
+use crate::fault::ExpressionFault;
 use crate::joining::{and_last, and_one_more, left_type};
 use crate::judging::type_of;
+use crate::static_type::{BooleanType, StaticType};
 use crate::typed::is_looked_at;
-use expressions::Expr;
-use known_pairs::Known;
-use static_types::{BooleanType, StaticType, TypeFault, TypingEnvironment};
+use grammar_core::Expr;
 use std::alloc::Global;
+use type_capabilities::Known;
 
 /// Returns the type of expressions that are joined by `&&`, to the right, the last of them by itself, as `a && (b &&
 /// last)`, in an environment where no field is known to be there; else why they have none: the fault of the first
@@ -31,10 +33,10 @@ pub fn judge_all<'a>(
     env: TypingEnvironment<'a>,
     parts: &'a [Expr],
     last: &'a Expr,
-) -> Result<StaticType<'a>, TypeFault>
+) -> Result<StaticType<'a>, ExpressionFault>
     ensures typed { IfOk result (λ t. (L : Pairs)
         × Types (typing_environment env.entry) [] (joined parts.entry.now last.entry.now) (static_view t) L) }
-    ensures faulty { IfErr result (λ f. f ≢ TypeFault.NoMemory
+    ensures faulty { IfErr result (λ f. f ≢ ExpressionFault.NoMemory
         → Faults (typing_environment env.entry) [] (joined parts.entry.now last.entry.now) (fault_view f)) }
 {
     let mut known = Known::new(alloc);

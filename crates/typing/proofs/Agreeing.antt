@@ -2,19 +2,19 @@
 use Rattle.std.specs.Prelude.{◌≡◌, ℕ, List, ◌++◌, map, Bool, true, false, Contains, Option, Some, None, Ok, Err, refl}
 use Rattle.std.specs.Bool.{Decides}
 use Rattle.std.proofs.Common.{inl, inr, ap, sym, subst, ◌∙◌}
-use Rattle.evaluator.specs.expressions.declared.operator.Unary.{Unary}
-use Rattle.evaluator.specs.expressions.declared.operator.Binary.{Binary}
-use Rattle.evaluator.specs.expressions.declared.operator.UnaryCall.{UnaryCall}
-use Rattle.evaluator.specs.expressions.declared.operator.UnaryCall.TheVariants as unary_call
-use Rattle.evaluator.specs.expressions.declared.operator.BinaryCall.{BinaryCall}
-use Rattle.evaluator.specs.expressions.declared.expr.Expr.{Expr}
-use Rattle.evaluator.specs.expressions.declared.expr.Expr.TheVariants as form
+use Rattle.evaluator.specs.grammar_core.declared.operator.Unary.{Unary}
+use Rattle.evaluator.specs.grammar_core.declared.operator.Binary.{Binary}
+use Rattle.evaluator.specs.grammar_core.declared.operator.UnaryCall.{UnaryCall}
+use Rattle.evaluator.specs.grammar_core.declared.operator.UnaryCall.TheVariants as unary_call
+use Rattle.evaluator.specs.grammar_core.declared.operator.BinaryCall.{BinaryCall}
+use Rattle.evaluator.specs.grammar_core.declared.expr.Expr.{Expr}
+use Rattle.evaluator.specs.grammar_core.declared.expr.Expr.TheVariants as form
 use Rattle.values.specs.extensions.Decided.{Decided, told}
 use Rattle.evaluator.specs.Operators.{TakesAddress}
 use Rattle.typing.specs.Types
 use Rattle.typing.specs.Types.{StaticType, IsBoolean}
 use Rattle.typing.specs.Environment
-use Rattle.typing.specs.Environment.{Environment, TypeFault}
+use Rattle.typing.specs.Environment.{Environment, ExpressionFault}
 use Rattle.typing.specs.Learned.{Pairs, has_learns}
 use Rattle.typing.specs.Literals
 use Rattle.typing.specs.Literals.{IsUnsettled, ReadsLiteral, TakesText}
@@ -60,7 +60,7 @@ or_no_left_is Types.false_type n L r = absurd (n Types.is_false)
 or_no_left_is Types.boolean_type n L r = absurd (n Types.is_either)
 or_no_left_is s n L r = refl
 
-or_fault_is : {s : StaticType} → Rows.MayBeFalse s → (L : Pairs) (n : TypeFault) → Judging.or_typed s L (faulty n) ≡ faulty n
+or_fault_is : {s : StaticType} → Rows.MayBeFalse s → (L : Pairs) (n : ExpressionFault) → Judging.or_typed s L (faulty n) ≡ faulty n
 or_fault_is Rows.surely_not L n = refl
 or_fault_is Rows.perhaps_not L n = refl
 
@@ -75,7 +75,7 @@ if_no_test_is Types.false_type n L r p = absurd (n Types.is_false)
 if_no_test_is Types.boolean_type n L r p = absurd (n Types.is_either)
 if_no_test_is s n L r p = refl
 
-if_fault_is : {s : StaticType} → Rows.MayBeTrue s → (L : Pairs) (n : TypeFault) (p : Judgement) → Judging.if_typed s L (faulty n) p ≡ faulty n
+if_fault_is : {s : StaticType} → Rows.MayBeTrue s → (L : Pairs) (n : ExpressionFault) (p : Judgement) → Judging.if_typed s L (faulty n) p ≡ faulty n
 if_fault_is Rows.surely L n p = refl
 if_fault_is Rows.perhaps L n p = refl
 
@@ -198,7 +198,7 @@ module _ (env : Environment) where
 
   mutual
     -- the function gives the fault that the rules do
-    pub faults_is : {K : Pairs} {x : Expr} {n : TypeFault} → Faults env K x n → all K x ≡ faulty n
+    pub faults_is : {K : Pairs} {x : Expr} {n : ExpressionFault} → Faults env K x n → all K x ≡ faulty n
     faults_is (Faults.fault_in_operand {K} (Faults.of_unary op a) (Faults.fault_here h)) = unary_from K op a _ (faults_is h)
     faults_is (Faults.fault_in_operand {K} (Faults.of_binary op a b n) (Faults.fault_here h)) = operands_from K op a b _ n (faults_is h)
     faults_is (Faults.fault_in_operand {K} (Faults.of_binary op a b n) (Faults.fault_later {L} {t = s} h (Faults.fault_here g))) =
@@ -250,7 +250,7 @@ module _ (env : Environment) where
     faults_is (Faults.fault_of_call {K} {L} called a b {s} h g e) =
         call_from K called a b _ (types_is h) ∙ (ap (Judging.call_with env called (typed s L)) (types_is g) ∙ ap (typed_row Judging.learns_none) e)
 
-    each_faults_is : {K : Pairs} {xs : List Expr} {n : TypeFault} → FaultsEach env K xs n → Judging.each_of env (map (all K) xs) ≡ Err n
+    each_faults_is : {K : Pairs} {xs : List Expr} {n : ExpressionFault} → FaultsEach env K xs n → Judging.each_of env (map (all K) xs) ≡ Err n
     each_faults_is (Faults.fault_here {K} {x} {xs} h) = ap (λ r. Judging.member_type r (Judging.each_of env (map (all K) xs))) (faults_is h)
     each_faults_is (Faults.fault_later {K} {L} {x} {xs} {t} h hs) =
         ap (λ r. Judging.member_type r (Judging.each_of env (map (all K) xs))) (types_is h) ∙ ap (Judging.member_type (typed t L)) (each_faults_is hs)

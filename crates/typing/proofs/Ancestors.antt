@@ -1,7 +1,7 @@
 -- What is true of parents is true of ancestors.
 use Rattle.std.specs.Prelude.{List, [], ◌∷◌, IsTrue, IsFalse}
 use Rattle.values.specs.declared.entity_uid.EntityUid.{EntityUid}
-use Rattle.evaluator.specs.ancestor_closure.Hierarchy.{Parents, Path}
+use Rattle.evaluator.specs.ancestor_search.Hierarchy.{Parents, Path}
 use Rattle.typing.specs.Environment.{Environment}
 use Rattle.typing.specs.Laws.{IsTransitive, ParentsAreAllowed, ParentsTellAncestors}
 

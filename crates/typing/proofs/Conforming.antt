@@ -10,12 +10,12 @@ use Rattle.values.specs.declared.entity_uid.EntityUid.{EntityUid}
 use Rattle.values.specs.Fields.{Field}
 use Rattle.values.specs.Uids.{uid_cmp, uid_cmp-IsTotalOrder, uid_cmp-IsAntisymmetric, equal-is}
 use Rattle.values.specs.Values.{PlainValue, boolean, long}
-use Rattle.evaluator.specs.expressions.declared.leaf.Literal.TheVariants as literal
-use Rattle.evaluator.specs.expressions.declared.leaf.Variable.TheVariants as variable
-use Rattle.evaluator.specs.expressions.declared.operator.Binary.TheVariants as binary
-use Rattle.evaluator.specs.expressions.declared.expr.Expr.{Expr}
-use Rattle.evaluator.specs.expressions.declared.expr.Expr.TheVariants as form
-use Rattle.evaluator.specs.ancestor_closure.Hierarchy.{Path, Above}
+use Rattle.evaluator.specs.grammar_core.declared.leaf.Literal.TheVariants as literal
+use Rattle.evaluator.specs.grammar_core.declared.leaf.Variable.TheVariants as variable
+use Rattle.evaluator.specs.grammar_core.declared.operator.Binary.TheVariants as binary
+use Rattle.evaluator.specs.grammar_core.declared.expr.Expr.{Expr}
+use Rattle.evaluator.specs.grammar_core.declared.expr.Expr.TheVariants as form
+use Rattle.evaluator.specs.ancestor_search.Hierarchy.{Path, Above}
 use Rattle.typing.specs.Types
 use Rattle.typing.specs.Types.{StaticType, declared_as, field_declared_at}
 use Rattle.typing.specs.Membership

@@ -1,21 +1,21 @@
 -- What the function does the rules judge; so each expression has exactly one judgement.
 use Rattle.std.specs.Prelude.{◌≡◌, ℕ, List, [], ◌∷◌, ◌++◌, map, Bool, Option, Some, None, Result, Ok, Err, refl}
 use Rattle.std.proofs.Common.{inl, inr, sym, subst}
-use Rattle.evaluator.proofs.of_expressions.Forms.{Every, Cases, by_forms}
-use Rattle.evaluator.specs.expressions.declared.operator.Unary.{Unary}
-use Rattle.evaluator.specs.expressions.declared.operator.Binary.{Binary}
-use Rattle.evaluator.specs.expressions.declared.operator.UnaryCall.{UnaryCall}
-use Rattle.evaluator.specs.expressions.declared.operator.UnaryCall.TheVariants as unary_call
-use Rattle.evaluator.specs.expressions.declared.operator.BinaryCall.{BinaryCall}
-use Rattle.evaluator.specs.expressions.declared.expr.Named.{Named}
-use Rattle.evaluator.specs.expressions.declared.expr.Expr.{Expr}
-use Rattle.evaluator.specs.expressions.declared.expr.Expr.TheVariants as form
+use Rattle.evaluator.proofs.of_grammar_core.Forms.{Every, Cases, by_forms}
+use Rattle.evaluator.specs.grammar_core.declared.operator.Unary.{Unary}
+use Rattle.evaluator.specs.grammar_core.declared.operator.Binary.{Binary}
+use Rattle.evaluator.specs.grammar_core.declared.operator.UnaryCall.{UnaryCall}
+use Rattle.evaluator.specs.grammar_core.declared.operator.UnaryCall.TheVariants as unary_call
+use Rattle.evaluator.specs.grammar_core.declared.operator.BinaryCall.{BinaryCall}
+use Rattle.evaluator.specs.grammar_core.declared.expr.Named.{Named}
+use Rattle.evaluator.specs.grammar_core.declared.expr.Expr.{Expr}
+use Rattle.evaluator.specs.grammar_core.declared.expr.Expr.TheVariants as form
 use Rattle.values.specs.extensions.Decided.{Decided, told}
 use Rattle.evaluator.specs.Operators.{TakesAddress}
 use Rattle.typing.specs.Types
 use Rattle.typing.specs.Types.{StaticType, IsBoolean}
 use Rattle.typing.specs.Environment
-use Rattle.typing.specs.Environment.{Environment, TypeFault}
+use Rattle.typing.specs.Environment.{Environment, ExpressionFault}
 use Rattle.typing.specs.Learned.{Pairs, has_learns}
 use Rattle.typing.specs.Literals.{ReadsLiteral, TakesText}
 use Rattle.typing.specs.Rows
@@ -40,7 +40,7 @@ module _ (env : Environment) where
   Holds = Judges env
 
   row_case : (K : Pairs) (x : Expr) (f : StaticType → Pairs) (r : Row) → ((t : StaticType) → r ≡ Ok t → Types env K x t (f t))
-      → ((n : TypeFault) → r ≡ Err n → Faults env K x n) → Holds K x (Judging.row r f)
+      → ((n : ExpressionFault) → r ≡ Err n → Faults env K x n) → Holds K x (Judging.row r f)
   row_case K x f (Ok t) g h = g t refl
   row_case K x f (Err n) g h = h n refl
 
@@ -159,25 +159,25 @@ module _ (env : Environment) where
   if_case K a b c (typed s L) h g i = if_test_case K a b c s L (all (K ++ L) b) (all K c) h (g (K ++ L)) i
   if_case K a b c (faulty n) h g i = Faults.fault_in_test a b c h
 
-  HoldsEach : Pairs → List Expr → Result (List StaticType) TypeFault → Type 0
+  HoldsEach : Pairs → List Expr → Result (List StaticType) ExpressionFault → Type 0
   HoldsEach K xs (Ok ts) = TypesEach env K xs ts
   HoldsEach K xs (Err n) = FaultsEach env K xs n
 
-  each_case : (K : Pairs) (x : Expr) (xs : List Expr) (r : Judgement) (p : Result (List StaticType) TypeFault) → Holds K x r
+  each_case : (K : Pairs) (x : Expr) (xs : List Expr) (r : Judgement) (p : Result (List StaticType) ExpressionFault) → Holds K x r
       → HoldsEach K xs p → HoldsEach K (x ∷ xs) (Judging.member_type r p)
   unfolding HoldsEach
   each_case K x xs (typed t L) (Ok ts) h g = Typing.types_more h g
   each_case K x xs (typed t L) (Err n) h g = Faults.fault_later h g
   each_case K x xs (faulty n) p h g = Faults.fault_here h
 
-  set_case : (K : Pairs) (xs : List Expr) (p : Result (List StaticType) TypeFault) → HoldsEach K xs p
+  set_case : (K : Pairs) (xs : List Expr) (p : Result (List StaticType) ExpressionFault) → HoldsEach K xs p
       → Holds K (form.Set xs) (Judging.members_type p)
   unfolding HoldsEach
   set_case K xs (Ok ts) h =
       row_case K (form.Set xs) Judging.learns_none (Rows.set_literal_type ts) (λ t e. Typing.types_set xs h e) (λ n e. Faults.fault_of_set xs h e)
   set_case K xs (Err n) h = Faults.fault_in_operand (Faults.of_set xs) h
 
-  record_case : (K : Pairs) (xs : List (Named Expr)) (p : Result (List StaticType) TypeFault) → HoldsEach K (Judging.values env xs) p
+  record_case : (K : Pairs) (xs : List (Named Expr)) (p : Result (List StaticType) ExpressionFault) → HoldsEach K (Judging.values env xs) p
       → Holds K (form.Record xs) (Judging.record_typed (Judging.names env xs) p)
   unfolding HoldsEach
   record_case K xs (Ok ts) h = Typing.types_record xs h

@@ -10,18 +10,18 @@ use Rattle.values.specs.declared.entity_uid.EntityUid.{EntityUid}
 use Rattle.values.specs.declared.request.Request.{Request}
 use Rattle.values.specs.Fields.{Field, find_field}
 use Rattle.values.specs.Values.{PlainValue, PlainFields, boolean, entity, record_of, pairs_of}
-use Rattle.evaluator.specs.expressions.declared.operator.Unary.{Unary}
-use Rattle.evaluator.specs.expressions.declared.operator.Unary.TheVariants as unary
-use Rattle.evaluator.specs.expressions.declared.operator.Binary.{Binary}
-use Rattle.evaluator.specs.expressions.declared.operator.Binary.TheVariants as binary
-use Rattle.evaluator.specs.expressions.declared.operator.UnaryCall.{UnaryCall}
-use Rattle.evaluator.specs.expressions.declared.operator.BinaryCall.{BinaryCall}
-use Rattle.evaluator.specs.expressions.declared.operator.BinaryCall.TheVariants as call
+use Rattle.evaluator.specs.grammar_core.declared.operator.Unary.{Unary}
+use Rattle.evaluator.specs.grammar_core.declared.operator.Unary.TheVariants as unary
+use Rattle.evaluator.specs.grammar_core.declared.operator.Binary.{Binary}
+use Rattle.evaluator.specs.grammar_core.declared.operator.Binary.TheVariants as binary
+use Rattle.evaluator.specs.grammar_core.declared.operator.UnaryCall.{UnaryCall}
+use Rattle.evaluator.specs.grammar_core.declared.operator.BinaryCall.{BinaryCall}
+use Rattle.evaluator.specs.grammar_core.declared.operator.BinaryCall.TheVariants as call
 use Rattle.evaluator.specs.declared.fault.EvalFault.TheVariants as fault
 use Rattle.evaluator.specs.Outcomes
 use Rattle.evaluator.specs.Outcomes.{EvaluationResult, IsTruthOf, IsChecked}
-use Rattle.evaluator.specs.ancestor_closure.Hierarchy.{IsIn}
-use Rattle.evaluator.specs.evaluation_steps.Attributes
+use Rattle.evaluator.specs.ancestor_search.Hierarchy.{IsIn}
+use Rattle.evaluator.specs.evaluator_steps.Attributes
 use Rattle.evaluator.specs.Operators
 use Rattle.evaluator.specs.Operators.{World, UnaryGives, BinaryGives, FieldGives, HasGives, UnaryCallGives}
 use Rattle.evaluator.specs.Operators.{BinaryCallGives, TakesAddress, TakesDecimals}

@@ -2,26 +2,26 @@
 use Rattle.std.specs.Prelude.{◌≡◌, ℕ, List, [], ◌∷◌, ◌++◌, map, Bool, true, false, Option, Some, None, Result, Ok, Err}
 use Rattle.std.specs.Prelude.{refl}
 use Rattle.std.proofs.Common.{ap, ◌∙◌}
-use Rattle.evaluator.proofs.of_expressions.Forms.{Every, Cases, by_forms, fold_literal, fold_variable, fold_if}
-use Rattle.evaluator.proofs.of_expressions.Forms.{fold_and, fold_or, fold_unary, fold_binary, fold_field, fold_has}
-use Rattle.evaluator.proofs.of_expressions.Forms.{fold_set, fold_record, fold_unary_call, fold_binary_call}
-use Rattle.evaluator.specs.expressions.declared.leaf.Literal.{Literal}
-use Rattle.evaluator.specs.expressions.declared.leaf.Variable.{Variable}
-use Rattle.evaluator.specs.expressions.declared.operator.Unary.{Unary}
-use Rattle.evaluator.specs.expressions.declared.operator.Binary.{Binary}
-use Rattle.evaluator.specs.expressions.declared.operator.UnaryCall.{UnaryCall}
-use Rattle.evaluator.specs.expressions.declared.operator.UnaryCall.TheVariants as unary_call
-use Rattle.evaluator.specs.expressions.declared.operator.BinaryCall.{BinaryCall}
-use Rattle.evaluator.specs.expressions.declared.expr.Named.{Named}
-use Rattle.evaluator.specs.expressions.declared.expr.Expr.{Expr}
-use Rattle.evaluator.specs.expressions.declared.expr.Expr.TheVariants as form
-use Rattle.evaluator.specs.expressions.declared.expr.Expr.TheViews.{roll-Expr}
-use Rattle.evaluator.specs.expressions.declared.expr.Expr.TheOpen.{Expr-F}
-use Rattle.evaluator.specs.expressions.declared.expr.Expr.TheFolds.{map-Expr, fold-Expr}
+use Rattle.evaluator.proofs.of_grammar_core.Forms.{Every, Cases, by_forms, fold_literal, fold_variable, fold_if}
+use Rattle.evaluator.proofs.of_grammar_core.Forms.{fold_and, fold_or, fold_unary, fold_binary, fold_field, fold_has}
+use Rattle.evaluator.proofs.of_grammar_core.Forms.{fold_set, fold_record, fold_unary_call, fold_binary_call}
+use Rattle.evaluator.specs.grammar_core.declared.leaf.Literal.{Literal}
+use Rattle.evaluator.specs.grammar_core.declared.leaf.Variable.{Variable}
+use Rattle.evaluator.specs.grammar_core.declared.operator.Unary.{Unary}
+use Rattle.evaluator.specs.grammar_core.declared.operator.Binary.{Binary}
+use Rattle.evaluator.specs.grammar_core.declared.operator.UnaryCall.{UnaryCall}
+use Rattle.evaluator.specs.grammar_core.declared.operator.UnaryCall.TheVariants as unary_call
+use Rattle.evaluator.specs.grammar_core.declared.operator.BinaryCall.{BinaryCall}
+use Rattle.evaluator.specs.grammar_core.declared.expr.Named.{Named}
+use Rattle.evaluator.specs.grammar_core.declared.expr.Expr.{Expr}
+use Rattle.evaluator.specs.grammar_core.declared.expr.Expr.TheVariants as form
+use Rattle.evaluator.specs.grammar_core.declared.expr.Expr.TheViews.{roll-Expr}
+use Rattle.evaluator.specs.grammar_core.declared.expr.Expr.TheOpen.{Expr-F}
+use Rattle.evaluator.specs.grammar_core.declared.expr.Expr.TheFolds.{map-Expr, fold-Expr}
 use Rattle.typing.specs.Types
 use Rattle.typing.specs.Types.{StaticType}
 use Rattle.typing.specs.Environment
-use Rattle.typing.specs.Environment.{Environment, TypeFault}
+use Rattle.typing.specs.Environment.{Environment, ExpressionFault}
 use Rattle.typing.specs.Learned.{Pairs, has_learns}
 use Rattle.typing.specs.Rows
 use Rattle.typing.specs.Rows.{Row}
@@ -79,17 +79,17 @@ abbrev pub settled_or : Option Bool → Judgement → Judgement
 settled_or (Some b) r = typed (Types.truth_type b) []
 settled_or None r = r
 
-abbrev pub members_type : Result (List StaticType) TypeFault → Judgement
+abbrev pub members_type : Result (List StaticType) ExpressionFault → Judgement
 members_type (Ok ts) = row (Rows.set_literal_type ts) learns_none
 members_type (Err n) = faulty n
 
-abbrev pub member_type : Judgement → Result (List StaticType) TypeFault → Result (List StaticType) TypeFault
+abbrev pub member_type : Judgement → Result (List StaticType) ExpressionFault → Result (List StaticType) ExpressionFault
 member_type (typed t L) (Ok ts) = Ok (t ∷ ts)
 member_type (typed t L) (Err n) = Err n
 member_type (faulty n) r = Err n
 
 -- a record whose fields of these names have these types
-abbrev pub record_typed : List (List ℕ) → Result (List StaticType) TypeFault → Judgement
+abbrev pub record_typed : List (List ℕ) → Result (List StaticType) ExpressionFault → Judgement
 record_typed ks (Ok ts) = typed (Types.record_type (Types.put_each ks ts Types.no_field_types)) []
 record_typed ks (Err n) = faulty n
 
@@ -144,7 +144,7 @@ module _ (env : Environment) where
   abbrev pub call_with : BinaryCall → Judgement → Judgement → Judgement
   call_with called r p = on_typed r (λ s L. on_typed p (λ t M. row (Rows.call_type called s t) learns_none))
 
-  abbrev pub each_of : List Judgement → Result (List StaticType) TypeFault
+  abbrev pub each_of : List Judgement → Result (List StaticType) ExpressionFault
   each_of [] = Ok []
   each_of (r ∷ rs) = member_type r (each_of rs)
 

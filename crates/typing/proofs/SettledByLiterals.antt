@@ -10,20 +10,20 @@ use Rattle.values.specs.declared.entity_uid.EntityUid.{EntityUid}
 use Rattle.values.specs.declared.request.Request.{Request}
 use Rattle.values.specs.Sets.{IsSetOf}
 use Rattle.values.specs.Values.{PlainValue, text, entity, set, values_of, list_of-values_of}
-use Rattle.evaluator.specs.expressions.declared.leaf.Literal.{Literal}
-use Rattle.evaluator.specs.expressions.declared.leaf.Literal.TheVariants as literal
-use Rattle.evaluator.specs.expressions.declared.leaf.Variable.TheVariants as variable
-use Rattle.evaluator.specs.expressions.declared.operator.Binary.{Binary}
-use Rattle.evaluator.specs.expressions.declared.operator.Binary.TheVariants as binary
-use Rattle.evaluator.specs.expressions.declared.operator.UnaryCall.{UnaryCall}
-use Rattle.evaluator.specs.expressions.declared.operator.UnaryCall.TheVariants as unary_call
-use Rattle.evaluator.specs.expressions.declared.expr.Expr.{Expr}
-use Rattle.evaluator.specs.expressions.declared.expr.Expr.TheVariants as form
-use Rattle.evaluator.specs.expressions.declared.expr.Expr.TheOpen.{Expr-F}
+use Rattle.evaluator.specs.grammar_core.declared.leaf.Literal.{Literal}
+use Rattle.evaluator.specs.grammar_core.declared.leaf.Literal.TheVariants as literal
+use Rattle.evaluator.specs.grammar_core.declared.leaf.Variable.TheVariants as variable
+use Rattle.evaluator.specs.grammar_core.declared.operator.Binary.{Binary}
+use Rattle.evaluator.specs.grammar_core.declared.operator.Binary.TheVariants as binary
+use Rattle.evaluator.specs.grammar_core.declared.operator.UnaryCall.{UnaryCall}
+use Rattle.evaluator.specs.grammar_core.declared.operator.UnaryCall.TheVariants as unary_call
+use Rattle.evaluator.specs.grammar_core.declared.expr.Expr.{Expr}
+use Rattle.evaluator.specs.grammar_core.declared.expr.Expr.TheVariants as form
+use Rattle.evaluator.specs.grammar_core.declared.expr.Expr.TheOpen.{Expr-F}
 use Rattle.evaluator.specs.declared.fault.EvalFault.{EvalFault}
 use Rattle.evaluator.specs.Outcomes
 use Rattle.evaluator.specs.Outcomes.{EvaluationResult, IsTruthOf}
-use Rattle.evaluator.specs.ancestor_closure.Hierarchy.{IsIn}
+use Rattle.evaluator.specs.ancestor_search.Hierarchy.{IsIn}
 use Rattle.evaluator.specs.Operators
 use Rattle.evaluator.specs.Operators.{World, BinaryGives, UnaryCallGives}
 use Rattle.evaluator.specs.Evaluation as rule

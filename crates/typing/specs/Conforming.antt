@@ -8,8 +8,8 @@ use Rattle.values.specs.declared.entity_uid.EntityUid.{EntityUid}
 use Rattle.values.specs.declared.request.Request.{Request}
 use Rattle.values.specs.Fields.{Field}
 use Rattle.values.specs.Values.{boolean, record_of, fields_of}
-use Rattle.evaluator.specs.ancestor_closure.Hierarchy.{Above, IsAllAbove}
-use Rattle.evaluator.specs.expressions.declared.expr.Expr.TheVariants as form
+use Rattle.evaluator.specs.ancestor_search.Hierarchy.{Above, IsAllAbove}
+use Rattle.evaluator.specs.grammar_core.declared.expr.Expr.TheVariants as form
 use Rattle.evaluator.specs.declared.fault.EvalFault.{EvalFault}
 use Rattle.evaluator.specs.declared.fault.EvalFault.TheVariants.{EntityDoesNotExist, ArithBoundsError}
 use Rattle.evaluator.specs.Outcomes.{EvaluationResult}

@@ -24,14 +24,14 @@ pub record Environment : Type 0 where
   pub action_ancestors : EntityUid → List EntityUid
 
 -- why an expression has no type; the numbers are those of the refusals
-pub data TypeFault : Type 0 where
+pub data ExpressionFault : Type 0 where
   -- 42: another kind of type is needed
-  unexpected : TypeFault
+  unexpected : ExpressionFault
   -- 43
-  no_common_type : TypeFault
+  no_common_type : ExpressionFault
   -- 44: not declared, or optional and not known to be there
-  attribute_may_be_missing : TypeFault
+  attribute_may_be_missing : ExpressionFault
   -- 45: a set literal without members
-  empty_set : TypeFault
+  empty_set : ExpressionFault
   -- 46: no text of the extension's grammar is written out
-  bad_extension_literal : TypeFault
+  bad_extension_literal : ExpressionFault

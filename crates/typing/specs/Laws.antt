@@ -3,22 +3,21 @@ use Rattle.std.specs.Prelude.{◌≡◌, ◌≢◌, ℕ, List, [], ◌∷◌, Co
 use Rattle.values.specs.declared.entity_uid.EntityUid.{EntityUid}
 use Rattle.values.specs.declared.request.Request.{Request}
 use Rattle.values.specs.Values.{boolean}
-use Rattle.evaluator.specs.ancestor_closure.Hierarchy.{Parents, Above}
-use Rattle.evaluator.specs.ancestor_closure.Decided.{Decides, HaveAllParents}
-use Rattle.evaluator.specs.expressions.declared.expr.Expr.{Expr}
-use Rattle.evaluator.specs.expressions.declared.expr.Expr.TheVariants as form
+use Rattle.evaluator.specs.ancestor_search.Hierarchy.{Parents, Above}
+use Rattle.evaluator.specs.ancestor_search.Decided.{Decides, HaveAllParents}
+use Rattle.evaluator.specs.grammar_core.declared.expr.Expr.{Expr}
+use Rattle.evaluator.specs.grammar_core.declared.expr.Expr.TheVariants as form
 use Rattle.evaluator.specs.Outcomes.{EvaluationResult}
 use Rattle.evaluator.specs.Operators.{World}
 use Rattle.evaluator.specs.Evaluation.{EvaluatesTo}
 use Rattle.typing.specs.Types.{StaticType, false_type, boolean_type, IsBoolean}
-use Rattle.typing.specs.Environment.{Environment, TypeFault, attribute_may_be_missing}
+use Rattle.typing.specs.Environment.{Environment, ExpressionFault, attribute_may_be_missing}
 use Rattle.typing.specs.Learned.{Pair, Pairs}
 use Rattle.typing.specs.Ordered.{IsOrdered, HasOrderedTypes}
 use Rattle.typing.specs.Typing.{Types}
 use Rattle.typing.specs.Faults.{Faults}
 use Rattle.typing.specs.Judgement.{Judgement, Judges}
-use Rattle.typing.specs.Example.{environment, world, request, parents, alice, view, age_of_principal, has_age}
-use Rattle.typing.specs.Example.{is_aged}
+use Rattle.typing.specs.Example.{environment, world, request, parents, alice, view, age_of_principal, has_age, is_aged}
 use Rattle.typing.specs.Conforming.{Conforms, Fits, ArePresent, GoesRight}
 
 -- whatever is known, each expression has exactly one judgement: a type with what it learns, or a fault
@@ -36,7 +35,7 @@ pub record AreSamePairs (K M : Pairs) : Type 0 where
 abbrev pub KnownPairsAreASet : Type 0
 KnownPairsAreASet = (env : Environment) (K M : Pairs) (x : Expr) → AreSamePairs K M
     → ((t : StaticType) (L : Pairs) → Types env K x t L → (N : Pairs) × AreSamePairs L N × Types env M x t N)
-    × ((n : TypeFault) → Faults env K x n → Faults env M x n)
+    × ((n : ExpressionFault) → Faults env K x n → Faults env M x n)
 
 -- Where the keys of a schema's record types ascend, those of each expression's type do; so record types with the same
 -- keys have them in the same order.

@@ -13,4 +13,4 @@ pub mod Types
 pub mod Typing
 -- crates below, passed on to those above
 pub use Rattle.evaluator.specs as evaluator
-pub use Rattle.evaluator.specs.ancestor_closure
+pub use Rattle.evaluator.specs.ancestor_search

@@ -4,15 +4,15 @@
 -- both sides do.
 use Rattle.std.specs.Prelude.{◌≡◌, ℕ, List, [], ◌∷◌, ◌++◌, map, Contains, Bool, Some, Ok}
 use Rattle.std.specs.Bool.{Decides}
-use Rattle.evaluator.specs.expressions.declared.leaf.Literal.{Literal}
-use Rattle.evaluator.specs.expressions.declared.leaf.Variable.{Variable}
-use Rattle.evaluator.specs.expressions.declared.operator.Unary.{Unary}
-use Rattle.evaluator.specs.expressions.declared.operator.Binary.{Binary}
-use Rattle.evaluator.specs.expressions.declared.operator.UnaryCall.{UnaryCall}
-use Rattle.evaluator.specs.expressions.declared.operator.BinaryCall.{BinaryCall}
-use Rattle.evaluator.specs.expressions.declared.expr.Named.{Named}
-use Rattle.evaluator.specs.expressions.declared.expr.Expr.{Expr}
-use Rattle.evaluator.specs.expressions.declared.expr.Expr.TheVariants as form
+use Rattle.evaluator.specs.grammar_core.declared.leaf.Literal.{Literal}
+use Rattle.evaluator.specs.grammar_core.declared.leaf.Variable.{Variable}
+use Rattle.evaluator.specs.grammar_core.declared.operator.Unary.{Unary}
+use Rattle.evaluator.specs.grammar_core.declared.operator.Binary.{Binary}
+use Rattle.evaluator.specs.grammar_core.declared.operator.UnaryCall.{UnaryCall}
+use Rattle.evaluator.specs.grammar_core.declared.operator.BinaryCall.{BinaryCall}
+use Rattle.evaluator.specs.grammar_core.declared.expr.Named.{Named}
+use Rattle.evaluator.specs.grammar_core.declared.expr.Expr.{Expr}
+use Rattle.evaluator.specs.grammar_core.declared.expr.Expr.TheVariants as form
 use Rattle.evaluator.specs.Operators.{TakesAddress}
 use Rattle.typing.specs.Types.{StaticType, true_type, false_type, boolean_type, record_type}
 use Rattle.typing.specs.Types.{no_field_types, put_each, truth_type, IsBoolean, common}

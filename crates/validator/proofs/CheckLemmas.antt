@@ -5,17 +5,17 @@ use Rattle.std.proofs.Common.{sym, ap, ◌∙◌, subst, suc, drop-cons, add-one
 use Rattle.std.proofs.lemmas.Bool.{and_from}
 use Rattle.std.proofs.lemmas.List.{drop_all}
 use Rattle.std.proofs.lemmas.List.Elements.{All-nil, All-cons, All-head, All-tail}
-use Rattle.expressions.specs.declared.expr.Expr.{Expr}
-use Rattle.static_types.specs.policy_grammar.declared.policy.Policy.{Policy}
-use Rattle.static_types.specs.policy_grammar.Whole.{expression_of}
-use Rattle.static_types.specs.schema_parts.declared.parts.Environment as given
-use Rattle.static_types.specs.schema.Schemas.{StatedSchema}
-use Rattle.static_types.specs.schema.Views.{environment_view}
-use Rattle.static_types.specs.typing.Types.{false_type}
-use Rattle.static_types.specs.typing.Environment.{Environment}
-use Rattle.static_types.specs.FromSchemas.{typing_environment_of}
-use Rattle.validator.specs.declared.fault.CheckFault.{CheckFault}
-use Rattle.validator.specs.declared.fault.CheckFault.TheVariants.{NoMemory}
+use Rattle.grammar_core.specs.declared.expr.Expr.{Expr}
+use Rattle.type_checker.specs.policy_grammar.declared.policy.Policy.{Policy}
+use Rattle.type_checker.specs.policy_grammar.Whole.{expression_of}
+use Rattle.type_checker.specs.schema.declared.parts.Environment as given
+use Rattle.type_checker.specs.schema.Schemas.{StatedSchema}
+use Rattle.type_checker.specs.schema.Views.{environment_view}
+use Rattle.type_checker.specs.typing.Types.{false_type}
+use Rattle.type_checker.specs.typing.Environment.{Environment}
+use Rattle.type_checker.specs.FromSchemas.{typing_environment_of}
+use Rattle.validator.specs.declared.fault.TypeFault.{TypeFault}
+use Rattle.validator.specs.declared.fault.TypeFault.TheVariants.{NoMemory}
 use Rattle.validator.specs.Names.{names_of}
 use Rattle.validator.specs.Passing
 use Rattle.validator.specs.Passing.{environments_of, HasType, HasBooleanType, IsVerdict, IsCheckRefused}
@@ -32,7 +32,7 @@ both_true true false e = absurd (cc)
 both_true false b e = absurd (cc)
 
 module _ (x : Expr) where
-  one_more : (before d : Bool) (env : Environment) (envs : List Environment) → IsJudged env x (Ok d) → (r : Result Bool CheckFault)
+  one_more : (before d : Bool) (env : Environment) (envs : List Environment) → IsJudged env x (Ok d) → (r : Result Bool TypeFault)
       → AreJudged x (before && d) envs r → AreJudged x before (env ∷ envs) r
   one_more before d env envs h (Ok c) g = (
     All-cons (HasBooleanType x) env envs h.0 g.0,
@@ -43,7 +43,7 @@ module _ (x : Expr) where
   )
   one_more before d env envs h (Err f) g = λ n. let k = g n in (k.0, k.1, Passing.faulty_later h.0 k.2)
 
-  faulty_now : (before : Bool) (env : Environment) (envs : List Environment) (f : CheckFault) → IsJudged env x (Err f)
+  faulty_now : (before : Bool) (env : Environment) (envs : List Environment) (f : TypeFault) → IsJudged env x (Err f)
       → AreJudged x before (env ∷ envs) (Err f)
   faulty_now before env envs f h = λ n. let k = h n in (k.0, k.1, Passing.faulty_here k.2)
 
@@ -59,13 +59,13 @@ module _ (x : Expr) where
   module _ (s : StatedSchema) (ps : List given.Environment) (i : ℕ) (p : given.Environment) (lt : i < length ps) (is : p ≡ get_or ps i p)
       (before : Bool) where
     pub environment_next : (d q : Bool) → q ≡ (before && d) → IsJudged (typing_environment_of s (environment_view p)) x (Ok d)
-        → (r : Result Bool CheckFault) → AreJudged x q (typed_in s (drop (i + 1) ps)) r → AreJudged x before (typed_in s (drop i ps)) r
+        → (r : Result Bool TypeFault) → AreJudged x q (typed_in s (drop (i + 1) ps)) r → AreJudged x before (typed_in s (drop i ps)) r
     environment_next d q e h r g =
         subst (λ (qs : List given.Environment). AreJudged x before (typed_in s qs) r) (sym (turn ps i p lt is))
         (one_more before d (typing_environment_of s (environment_view p)) (typed_in s (drop (i + 1) ps)) h r
         (subst (λ v. AreJudged x v (typed_in s (drop (i + 1) ps)) r) e g))
 
-    pub environment_faulty : (f : CheckFault) → IsJudged (typing_environment_of s (environment_view p)) x (Err f)
+    pub environment_faulty : (f : TypeFault) → IsJudged (typing_environment_of s (environment_view p)) x (Err f)
         → AreJudged x before (typed_in s (drop i ps)) (Err f)
     environment_faulty f h =
         subst (λ (qs : List given.Environment). AreJudged x before (typed_in s qs) (Err f)) (sym (turn ps i p lt is))
@@ -89,18 +89,18 @@ module _ (s : StatedSchema) (policy : Policy) (parts : List Expr) (are : parts �
   names_come : (r : WalkResult) → r ≡ parts_told s parts policy.condition → ReportsNames s (names_of policy) r
   names_come r e = subst (ReportsNames s (names_of policy)) (sym (e ∙ told_is)) (names_tell s (names_of policy))
 
-  pub name_refused : (f : CheckFault) → Err f ≡ parts_told s parts policy.condition → IsCheckRefused s policy f
+  pub name_refused : (f : TypeFault) → Err f ≡ parts_told s parts policy.condition → IsCheckRefused s policy f
   name_refused f e = Passing.for_name (names_come (Err f) e)
 
   module _ (ps : List given.Environment) (all : map environment_view ps ≡ s.environments) where
     environments : typed_in s ps ≡ environments_of s
     environments = mapped environment_view (typing_environment_of s) ps ∙ ap (map (typing_environment_of s)) all
 
-    moved : (r : Result Bool CheckFault) → AreJudged (expression_of policy) true (typed_in s ps) r
+    moved : (r : Result Bool TypeFault) → AreJudged (expression_of policy) true (typed_in s ps) r
         → AreJudged (expression_of policy) true (environments_of s) r
     moved r h = subst (λ es. AreJudged (expression_of policy) true es r) environments h
 
-    pub type_refused : Ok tt ≡ parts_told s parts policy.condition → (f : CheckFault)
+    pub type_refused : Ok tt ≡ parts_told s parts policy.condition → (f : TypeFault)
         → AreJudged (expression_of policy) true (typed_in s ps) (Err f) → f ≢ NoMemory → IsCheckRefused s policy f
     type_refused e f h n =
         let k = moved (Err f) h n in

@@ -12,7 +12,7 @@ use Rattle.std.proofs.lemmas.Bool.{or_right}
 use Rattle.std.proofs.lemmas.Map.Text.{is_eq-slice_cmp}
 use Rattle.values.specs.declared.entity_uid.EntityUid.{EntityUid}
 use Rattle.values.specs.Names.{uid_cmp, text_cmp, text_cmp-IsTotalOrder, text_cmp-IsAntisymmetric}
-use Rattle.static_types.specs.ancestor_closure.Hierarchy.{IsAscending}
+use Rattle.type_checker.specs.ancestor_search.Hierarchy.{IsAscending}
 use Rattle.validator.specs.inner.Walking.{type_at}
 
 lt_only : (o : Ordering) → is_lt o ≡ true → o ≡ Less

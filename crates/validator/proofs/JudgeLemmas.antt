@@ -2,22 +2,22 @@
 use Rattle.std.specs.Prelude.{◌≡◌, ◌≢◌, List, [], Bool, Result, Ok, Err, IfOk, IfErr, refl}
 use Rattle.std.specs.Bool.{Decides}
 use Rattle.std.proofs.Common.{ap, ◌∙◌, subst, inl, inr}
-use Rattle.expressions.specs.declared.expr.Expr.{Expr}
-use Rattle.static_types.specs.policy_grammar.declared.policy.Policy.{Policy}
-use Rattle.static_types.specs.policy_grammar.Whole.{expression_of}
-use Rattle.static_types.specs.typing.Types.{StaticType, false_type}
-use Rattle.static_types.specs.typing.Environment.{Environment}
-use Rattle.static_types.specs.typing.Learned.{Pairs}
-use Rattle.static_types.specs.typing.Typing.{Types}
-use Rattle.static_types.specs.typing.Faults.{Faults}
-use Rattle.static_types.specs.typing.Laws.{HaveOneJudgement}
-use Rattle.static_types.specs.declared.fault.TypeFault as at_hand
-use Rattle.static_types.specs.declared.fault.TypeFault.TheVariants as fault
-use Rattle.static_types.specs.declared.static_type.StaticType as at_hand_type
-use Rattle.static_types.specs.Views.{static_view, fault_view}
+use Rattle.grammar_core.specs.declared.expr.Expr.{Expr}
+use Rattle.type_checker.specs.policy_grammar.declared.policy.Policy.{Policy}
+use Rattle.type_checker.specs.policy_grammar.Whole.{expression_of}
+use Rattle.type_checker.specs.typing.Types.{StaticType, false_type}
+use Rattle.type_checker.specs.typing.Environment.{Environment}
+use Rattle.type_checker.specs.typing.Learned.{Pairs}
+use Rattle.type_checker.specs.typing.Typing.{Types}
+use Rattle.type_checker.specs.typing.Faults.{Faults}
+use Rattle.type_checker.specs.typing.Laws.{HaveOneJudgement}
+use Rattle.type_checker.specs.declared.fault.ExpressionFault as at_hand
+use Rattle.type_checker.specs.declared.fault.ExpressionFault.TheVariants as fault
+use Rattle.type_checker.specs.declared.static_type.StaticType as at_hand_type
+use Rattle.type_checker.specs.Views.{static_view, fault_view}
 use Rattle.type_checker.specs.Joined.{joined}
-use Rattle.validator.specs.declared.fault.CheckFault.{CheckFault}
-use Rattle.validator.specs.declared.fault.CheckFault.TheVariants.{NoMemory}
+use Rattle.validator.specs.declared.fault.TypeFault.{TypeFault}
+use Rattle.validator.specs.declared.fault.TypeFault.TheVariants.{NoMemory}
 use Rattle.validator.specs.Faults.{of_typing, of_types}
 use Rattle.validator.specs.Passing.{HasType, HasBooleanType}
 use Rattle.validator.specs.inner.Checking.{scope_parts, ReportsFalse, IsJudged}
@@ -44,7 +44,7 @@ module _ (one : HaveOneJudgement) (policy : Policy) (parts : List Expr) (are : p
         ),
       )
 
-  told_as : (f : at_hand.TypeFault) → of_types f ≢ NoMemory → of_types f ≡ of_typing (fault_view f)
+  told_as : (f : at_hand.ExpressionFault) → of_types f ≢ NoMemory → of_types f ≡ of_typing (fault_view f)
   told_as fault.NoMemory n = absurd (n refl)
   told_as fault.Unexpected n = refl
   told_as fault.NoCommonType n = refl
@@ -52,8 +52,8 @@ module _ (one : HaveOneJudgement) (policy : Policy) (parts : List Expr) (are : p
   told_as fault.EmptySet n = refl
   told_as fault.BadExtensionLiteral n = refl
 
-  pub judged_faulty : (f : at_hand.TypeFault) → (f ≢ fault.NoMemory → Faults env [] (joined parts policy.condition) (fault_view f))
-      → (g : CheckFault) → g ≡ of_types f → IsJudged e (expression_of policy) (Err g)
+  pub judged_faulty : (f : at_hand.ExpressionFault) → (f ≢ fault.NoMemory → Faults env [] (joined parts policy.condition) (fault_view f))
+      → (g : TypeFault) → g ≡ of_types f → IsJudged e (expression_of policy) (Err g)
   judged_faulty f h g is = λ n.
       let apart : of_types f ≢ NoMemory = λ m. n (is ∙ m) in (
         fault_view f,
@@ -62,10 +62,10 @@ module _ (one : HaveOneJudgement) (policy : Policy) (parts : List Expr) (are : p
             (subst (λ x. Faults env [] x (fault_view f)) whole (h (λ m. apart (ap of_types m)))),
       )
 
-  pub judged : (r : Result at_hand_type.StaticType at_hand.TypeFault)
+  pub judged : (r : Result at_hand_type.StaticType at_hand.ExpressionFault)
       → IfOk r (λ t. (L : Pairs) × Types env [] (joined parts policy.condition) (static_view t) L)
       → IfErr r (λ f. f ≢ fault.NoMemory → Faults env [] (joined parts policy.condition) (fault_view f))
-      → (told : Result Bool CheckFault) → ReportsFalse r told → IsJudged e (expression_of policy) told
+      → (told : Result Bool TypeFault) → ReportsFalse r told → IsJudged e (expression_of policy) told
   judged (Ok t) h g (Ok b) d = judged_typed (static_view t) h.0 h.1 b d
   judged (Err f) h g (Err n) d = judged_faulty f g n d
   judged (Ok t) h g (Err n) d = absurd d

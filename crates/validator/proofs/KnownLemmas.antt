@@ -12,11 +12,11 @@ use Rattle.std.proofs.lemmas.Map.Views.{Contains-from_any, list_any-from_Contain
 use Rattle.std.proofs.lemmas.Slice.Eq.{bytes_eq-Decides}
 use Rattle.values.specs.declared.entity_uid.EntityUid.{EntityUid}
 use Rattle.values.specs.Names.{uid_cmp-IsTotalOrder, uid_cmp-IsAntisymmetric}
-use Rattle.static_types.specs.schema.Schemas.{StatedSchema}
-use Rattle.static_types.specs.schema.WellFormed.{IsWellFormed}
-use Rattle.static_types.specs.entities.Entities.{is_action_type}
-use Rattle.validator.specs.declared.fault.CheckFault.{CheckFault}
-use Rattle.validator.specs.declared.fault.CheckFault.TheVariants.{UnknownType, UnknownAction}
+use Rattle.type_checker.specs.schema.Schemas.{StatedSchema}
+use Rattle.type_checker.specs.schema.WellFormed.{IsWellFormed}
+use Rattle.type_checker.specs.entities.Entities.{is_action_type}
+use Rattle.validator.specs.declared.fault.TypeFault.{TypeFault}
+use Rattle.validator.specs.declared.fault.TypeFault.TheVariants.{UnknownType, UnknownAction}
 use Rattle.validator.specs.Names.{Name, tested_type, entity}
 use Rattle.validator.specs.Unknown
 use Rattle.validator.specs.Unknown.{IsEntityType, IsTypeOfAction, IsUnknown, IsKnown, FirstUnknown}
@@ -65,16 +65,16 @@ abbrev pub ReportsNames : StatedSchema → List Name → WalkResult → Type 0
 ReportsNames s ns (Ok u) = All (IsKnown s) ns
 ReportsNames s ns (Err f) = FirstUnknown s ns f
 
-not_tested : {s : StatedSchema} {n : List ℕ} {f : CheckFault} → IsUnknown s (tested_type n) f
+not_tested : {s : StatedSchema} {n : List ℕ} {f : TypeFault} → IsUnknown s (tested_type n) f
     → ¬ IsEntityType s n × ¬ IsTypeOfAction s n
 not_tested (Unknown.unknown_tested_type n e a) = (e, a)
 
-not_entity : {s : StatedSchema} {u : EntityUid} {f : CheckFault} → IsUnknown s (entity u) f → IsTrue (is_action_type u.type_name)
+not_entity : {s : StatedSchema} {u : EntityUid} {f : TypeFault} → IsUnknown s (entity u) f → IsTrue (is_action_type u.type_name)
     → ¬ Contains s.actions u
 not_entity (Unknown.unknown_type u i n) t = absurd (false≢true (sym i ∙ t))
 not_entity (Unknown.unknown_action u i n) t = n
 
-not_other : {s : StatedSchema} {u : EntityUid} {f : CheckFault} → IsUnknown s (entity u) f → IsFalse (is_action_type u.type_name)
+not_other : {s : StatedSchema} {u : EntityUid} {f : TypeFault} → IsUnknown s (entity u) f → IsFalse (is_action_type u.type_name)
     → ¬ IsEntityType s u.type_name
 not_other (Unknown.unknown_type u i n) t = n
 not_other (Unknown.unknown_action u i n) t = absurd (false≢true (sym t ∙ i))
@@ -106,7 +106,7 @@ name_tells s (tested_type n) = tested_case s n (is_some (s.shape n)) (is_type_of
 name_tells s (entity u) = entity_case s u (is_action_type u.type_name) refl
 
 -- a name is refused for one cause
-one_cause : (s : StatedSchema) (n : Name) (f g : CheckFault) → IsUnknown s n f → IsUnknown s n g → f ≡ g
+one_cause : (s : StatedSchema) (n : Name) (f g : TypeFault) → IsUnknown s n f → IsUnknown s n g → f ≡ g
 one_cause s n f g (Unknown.unknown_tested_type m a b) (Unknown.unknown_tested_type l c d) = refl
 one_cause s n f g (Unknown.unknown_type u i a) (Unknown.unknown_type v j b) = refl
 one_cause s n f g (Unknown.unknown_type u i a) (Unknown.unknown_action v j b) = absurd (false≢true (sym i ∙ j))
@@ -125,7 +125,7 @@ names_tell s [] = All-nil (IsKnown s)
 names_tell s (n ∷ ns) = more_tell s n ns (name_told s n) (names_told s ns) (name_tells s n) (names_tell s ns)
 
 -- the first that is refused is refused for one cause
-pub one_first : (s : StatedSchema) (ns : List Name) (f g : CheckFault) → FirstUnknown s ns f → FirstUnknown s ns g → f ≡ g
+pub one_first : (s : StatedSchema) (ns : List Name) (f g : TypeFault) → FirstUnknown s ns f → FirstUnknown s ns g → f ≡ g
 one_first s [] f g h k = elim h [ ]
 one_first s (n ∷ ns) f g (Unknown.unknown_here h) (Unknown.unknown_here k) = one_cause s n f g h k
 one_first s (n ∷ ns) f g (Unknown.unknown_here h) (Unknown.unknown_later k l) = absurd (k f h)
@@ -133,7 +133,7 @@ one_first s (n ∷ ns) f g (Unknown.unknown_later h l) (Unknown.unknown_here k) 
 one_first s (n ∷ ns) f g (Unknown.unknown_later h l) (Unknown.unknown_later k m) = one_first s ns f g l m
 
 -- where all are known none is refused
-pub none_first : (s : StatedSchema) (ns : List Name) (f : CheckFault) → All (IsKnown s) ns → FirstUnknown s ns f → ⊥
+pub none_first : (s : StatedSchema) (ns : List Name) (f : TypeFault) → All (IsKnown s) ns → FirstUnknown s ns f → ⊥
 none_first s [] f h k = elim k [ ]
 none_first s (n ∷ ns) f h (Unknown.unknown_here k) = All-head (IsKnown s) n ns h f k
 none_first s (n ∷ ns) f h (Unknown.unknown_later k l) = none_first s ns f (All-tail (IsKnown s) n ns h) l

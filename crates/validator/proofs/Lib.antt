@@ -5,4 +5,4 @@ pub mod KnownLemmas
 pub mod OutcomeLemmas
 pub mod WalkLemmas
 -- crates below, passed on to those above
-pub use Rattle.expressions.proofs as of_expressions
+pub use Rattle.grammar_core.proofs as of_grammar_core

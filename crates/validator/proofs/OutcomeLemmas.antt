@@ -4,24 +4,24 @@ use Rattle.std.specs.Bool.{Decides, one_answer}
 use Rattle.std.proofs.Common.{sym, ap, ◌∙◌, subst, inl, inr}
 use Rattle.std.proofs.lemmas.Bool.{false≢true}
 use Rattle.std.proofs.lemmas.List.Elements.{All-nil, All-cons, All-head, All-tail, All-contains}
-use Rattle.expressions.specs.declared.expr.Expr.{Expr}
-use Rattle.expressions.specs.declared.expr.Expr.TheVariants as form
-use Rattle.static_types.specs.policy_grammar.declared.policy.Policy.{Policy}
-use Rattle.static_types.specs.policy_grammar.Whole.{expression_of}
-use Rattle.static_types.specs.schema.Schemas.{StatedSchema}
-use Rattle.static_types.specs.typing.Types
-use Rattle.static_types.specs.typing.Types.{StaticType, IsBoolean, false_type}
-use Rattle.static_types.specs.typing.Environment.{Environment, TypeFault, unexpected}
-use Rattle.static_types.specs.typing.Learned.{Pairs}
-use Rattle.static_types.specs.typing.Rows
-use Rattle.static_types.specs.typing.Rows.{MayBeTrue}
-use Rattle.static_types.specs.typing.Typing
-use Rattle.static_types.specs.typing.Typing.{Types}
-use Rattle.static_types.specs.typing.Faults.{Faults}
-use Rattle.static_types.specs.typing.Judgement.{Judgement, typed, faulty, Judges}
-use Rattle.static_types.specs.typing.Laws.{HaveOneJudgement, PoliciesGoRight}
-use Rattle.static_types.specs.FromSchemas.{typing_environment_of}
-use Rattle.validator.specs.declared.fault.CheckFault.{CheckFault}
+use Rattle.grammar_core.specs.declared.expr.Expr.{Expr}
+use Rattle.grammar_core.specs.declared.expr.Expr.TheVariants as form
+use Rattle.type_checker.specs.policy_grammar.declared.policy.Policy.{Policy}
+use Rattle.type_checker.specs.policy_grammar.Whole.{expression_of}
+use Rattle.type_checker.specs.schema.Schemas.{StatedSchema}
+use Rattle.type_checker.specs.typing.Types
+use Rattle.type_checker.specs.typing.Types.{StaticType, IsBoolean, false_type}
+use Rattle.type_checker.specs.typing.Environment.{Environment, ExpressionFault, unexpected}
+use Rattle.type_checker.specs.typing.Learned.{Pairs}
+use Rattle.type_checker.specs.typing.Rows
+use Rattle.type_checker.specs.typing.Rows.{MayBeTrue}
+use Rattle.type_checker.specs.typing.Typing
+use Rattle.type_checker.specs.typing.Typing.{Types}
+use Rattle.type_checker.specs.typing.Faults.{Faults}
+use Rattle.type_checker.specs.typing.Judgement.{Judgement, typed, faulty, Judges}
+use Rattle.type_checker.specs.typing.Laws.{HaveOneJudgement, PoliciesGoRight}
+use Rattle.type_checker.specs.FromSchemas.{typing_environment_of}
+use Rattle.validator.specs.declared.fault.TypeFault.{TypeFault}
 use Rattle.validator.specs.Faults.{of_typing}
 use Rattle.validator.specs.Names.{names_of}
 use Rattle.validator.specs.Unknown.{IsKnown}
@@ -57,7 +57,7 @@ and_boolean Rows.perhaps Types.is_either = Types.is_either
 
 -- a boolean type, or a fault
 abbrev pub IsTest : Environment → Expr → Type 0
-IsTest env x = HasBooleanType x env ⊎ ((n : TypeFault) × Faults env [] x n)
+IsTest env x = HasBooleanType x env ⊎ ((n : ExpressionFault) × Faults env [] x n)
 
 module _ (one : HaveOneJudgement) (env : Environment) (a b : Expr) where
   right_case : (s : StaticType) (L : Pairs) → Types env [] a s L → MayBeTrue s → (r : Judgement) → Judges env ([] ++ L) b r
@@ -91,10 +91,10 @@ module _ (one : HaveOneJudgement) (env : Environment) (a b : Expr) where
 typed_same : {s t : StaticType} {L M : Pairs} → typed s L ≡ typed t M → s ≡ t
 typed_same e = cc
 
-faulty_same : {m n : TypeFault} → faulty m ≡ faulty n → m ≡ n
+faulty_same : {m n : ExpressionFault} → faulty m ≡ faulty n → m ≡ n
 faulty_same e = cc
 
-typed_not_faulty : {t : StaticType} {L : Pairs} {n : TypeFault} → typed t L ≡ faulty n → ⊥
+typed_not_faulty : {t : StaticType} {L : Pairs} {n : ExpressionFault} → typed t L ≡ faulty n → ⊥
 typed_not_faulty e = cc
 
 module _ (one : HaveOneJudgement) (x : Expr) where
@@ -104,25 +104,25 @@ module _ (one : HaveOneJudgement) (x : Expr) where
   pub one_type : (env : Environment) (s t : StaticType) → HasType x s env → HasType x t env → s ≡ t
   one_type env s t h g = typed_same (both env (typed s h.0) (typed t g.0) h.1 g.1)
 
-  one_fault : (env : Environment) (m n : TypeFault) → Faults env [] x m → Faults env [] x n → m ≡ n
+  one_fault : (env : Environment) (m n : ExpressionFault) → Faults env [] x m → Faults env [] x n → m ≡ n
   one_fault env m n h g = faulty_same (both env (faulty m) (faulty n) h g)
 
-  pub typed_or_faulty : (env : Environment) (t : StaticType) (n : TypeFault) → HasType x t env → Faults env [] x n → ⊥
+  pub typed_or_faulty : (env : Environment) (t : StaticType) (n : ExpressionFault) → HasType x t env → Faults env [] x n → ⊥
   typed_or_faulty env t n h g = typed_not_faulty (both env (typed t h.0) (faulty n) h.1 g)
 
-  not_both : (env : Environment) (n : TypeFault) → HasBooleanType x env → Faults env [] x n → ⊥
+  not_both : (env : Environment) (n : ExpressionFault) → HasBooleanType x env → Faults env [] x n → ⊥
   not_both env n h g = typed_or_faulty env h.0 n h.2 g
 
   -- ---- environments in turn
 
-  one_faulty : (envs : List Environment) (m n : TypeFault) → FirstFaulty x envs m → FirstFaulty x envs n → m ≡ n
+  one_faulty : (envs : List Environment) (m n : ExpressionFault) → FirstFaulty x envs m → FirstFaulty x envs n → m ≡ n
   one_faulty [] m n h g = elim h [ ]
   one_faulty (env ∷ envs) m n (Passing.faulty_here h) (Passing.faulty_here g) = one_fault env m n h g
   one_faulty (env ∷ envs) m n (Passing.faulty_here h) (Passing.faulty_later g k) = absurd (not_both env m g h)
   one_faulty (env ∷ envs) m n (Passing.faulty_later h k) (Passing.faulty_here g) = absurd (not_both env n h g)
   one_faulty (env ∷ envs) m n (Passing.faulty_later h k) (Passing.faulty_later g l) = one_faulty envs m n k l
 
-  none_faulty : (envs : List Environment) (n : TypeFault) → All (HasBooleanType x) envs → FirstFaulty x envs n → ⊥
+  none_faulty : (envs : List Environment) (n : ExpressionFault) → All (HasBooleanType x) envs → FirstFaulty x envs n → ⊥
   none_faulty [] n h g = elim g [ ]
   none_faulty (env ∷ envs) n h (Passing.faulty_here g) = not_both env n (All-head (HasBooleanType x) env envs h) g
   none_faulty (env ∷ envs) n h (Passing.faulty_later g k) = none_faulty envs n (All-tail (HasBooleanType x) env envs h) k
@@ -132,7 +132,7 @@ module _ (one : HaveOneJudgement) (x : Expr) where
   AreTyped envs = (b : Bool) × All (HasBooleanType x) envs × Decides b (All (HasType x false_type) envs)
 
   AreJudged : List Environment → Type 0
-  AreJudged envs = AreTyped envs ⊎ ((n : TypeFault) × FirstFaulty x envs n)
+  AreJudged envs = AreTyped envs ⊎ ((n : ExpressionFault) × FirstFaulty x envs n)
 
   false_or_not : (env : Environment) (t : StaticType) → IsBoolean t → HasType x t env → (b : Bool) × Decides b (HasType x false_type env)
   false_or_not env t Types.is_true h = (false, ((λ e. absurd (false≢true e)), λ g. absurd (true_is_false (one_type env _ _ h g))))
@@ -178,14 +178,14 @@ pub policy_is_test : HaveOneJudgement → (policy : Policy) (env : Environment) 
 policy_is_test one policy env = and_is_test one env _ _
 
 module _ (one : HaveOneJudgement) (s : StatedSchema) (policy : Policy) where
-  one_refusal : (f g : CheckFault) → IsCheckRefused s policy f → IsCheckRefused s policy g → f ≡ g
+  one_refusal : (f g : TypeFault) → IsCheckRefused s policy f → IsCheckRefused s policy g → f ≡ g
   one_refusal f g (Passing.for_name h) (Passing.for_name k) = one_first s (names_of policy) f g h k
   one_refusal f g (Passing.for_name h) (Passing.for_type k l) = absurd (none_first s (names_of policy) f k h)
   one_refusal f g (Passing.for_type h l) (Passing.for_name k) = absurd (none_first s (names_of policy) g h k)
   one_refusal f g (Passing.for_type {n = m} h l) (Passing.for_type {n = n} k i) =
       ap of_typing (one_faulty one (expression_of policy) (environments_of s) m n l i)
 
-  not_refused : (f : CheckFault) → Passes s policy → IsCheckRefused s policy f → ⊥
+  not_refused : (f : TypeFault) → Passes s policy → IsCheckRefused s policy f → ⊥
   not_refused f h (Passing.for_name k) = none_first s (names_of policy) f h.known k
   not_refused f h (Passing.for_type {n = n} k l) = none_faulty one (expression_of policy) (environments_of s) n h.typed l
 

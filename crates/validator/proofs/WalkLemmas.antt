@@ -1,18 +1,18 @@
 -- The walk over an expression comes to what its names come to, one after the other.
 use Rattle.std.specs.Prelude.{◌≡◌, List, [], ◌∷◌, ◌++◌, map, Ok, Err, refl}
 use Rattle.std.proofs.Common.{sym, ap, ◌∙◌}
-use Rattle.expressions.proofs.Forms.{Every, Cases, by_forms, fold_literal, fold_variable, fold_if, fold_and, fold_or}
-use Rattle.expressions.proofs.Forms.{fold_unary, fold_binary, fold_field, fold_has, fold_set, fold_record}
-use Rattle.expressions.proofs.Forms.{fold_unary_call, fold_binary_call}
-use Rattle.expressions.specs.Size.{values_of}
-use Rattle.expressions.specs.declared.leaf.Literal.{Literal}
-use Rattle.expressions.specs.declared.leaf.Literal.TheVariants as literal
-use Rattle.expressions.specs.declared.operator.Unary.{Unary}
-use Rattle.expressions.specs.declared.operator.Unary.TheVariants as unary
-use Rattle.expressions.specs.declared.expr.Named.{Named}
-use Rattle.expressions.specs.declared.expr.Expr.{Expr}
-use Rattle.expressions.specs.declared.expr.Expr.TheVariants as form
-use Rattle.static_types.specs.schema.Schemas.{StatedSchema}
+use Rattle.grammar_core.proofs.Forms.{Every, Cases, by_forms, fold_literal, fold_variable, fold_if, fold_and, fold_or}
+use Rattle.grammar_core.proofs.Forms.{fold_unary, fold_binary, fold_field, fold_has, fold_set, fold_record}
+use Rattle.grammar_core.proofs.Forms.{fold_unary_call, fold_binary_call}
+use Rattle.grammar_core.specs.Size.{values_of}
+use Rattle.grammar_core.specs.declared.leaf.Literal.{Literal}
+use Rattle.grammar_core.specs.declared.leaf.Literal.TheVariants as literal
+use Rattle.grammar_core.specs.declared.operator.Unary.{Unary}
+use Rattle.grammar_core.specs.declared.operator.Unary.TheVariants as unary
+use Rattle.grammar_core.specs.declared.expr.Named.{Named}
+use Rattle.grammar_core.specs.declared.expr.Expr.{Expr}
+use Rattle.grammar_core.specs.declared.expr.Expr.TheVariants as form
+use Rattle.type_checker.specs.schema.Schemas.{StatedSchema}
 use Rattle.validator.specs.Names.{Name, literal_names, operator_names, joined, names_step, names_in}
 use Rattle.validator.specs.inner.Walking.{WalkResult, and_then, in_turn, literal_told, operator_told, walk_step, walk}
 use Rattle.validator.specs.inner.Walking.{named_walk, name_told, names_told, parts_told}

@@ -1,14 +1,14 @@
 -- The refusals by number, which are a rule of this product, and those of typing among them.
 use Rattle.std.specs.Prelude.{ℕ}
-use Rattle.static_types.specs.typing.Environment as typing
-use Rattle.static_types.specs.declared.fault.TypeFault.{TypeFault}
-use Rattle.static_types.specs.declared.fault.TypeFault.TheVariants as found
-use Rattle.validator.specs.declared.fault.CheckFault.{CheckFault}
-use Rattle.validator.specs.declared.fault.CheckFault.TheVariants.{NoMemory, UnknownType, UnknownAction, Unexpected}
-use Rattle.validator.specs.declared.fault.CheckFault.TheVariants.{NoCommonType, AttributeMayBeMissing, EmptySet}
-use Rattle.validator.specs.declared.fault.CheckFault.TheVariants.{BadExtensionLiteral}
+use Rattle.type_checker.specs.typing.Environment as typing
+use Rattle.type_checker.specs.declared.fault.ExpressionFault.{ExpressionFault}
+use Rattle.type_checker.specs.declared.fault.ExpressionFault.TheVariants as found
+use Rattle.validator.specs.declared.fault.TypeFault.{TypeFault}
+use Rattle.validator.specs.declared.fault.TypeFault.TheVariants.{NoMemory, UnknownType, UnknownAction, Unexpected}
+use Rattle.validator.specs.declared.fault.TypeFault.TheVariants.{NoCommonType, AttributeMayBeMissing, EmptySet}
+use Rattle.validator.specs.declared.fault.TypeFault.TheVariants.{BadExtensionLiteral}
 
-abbrev pub code_of : CheckFault → ℕ
+abbrev pub code_of : TypeFault → ℕ
 code_of NoMemory = 1
 code_of UnknownType = 40
 code_of UnknownAction = 41
@@ -19,7 +19,7 @@ code_of EmptySet = 45
 code_of BadExtensionLiteral = 46
 
 -- that an expression has no type
-abbrev pub of_typing : typing.TypeFault → CheckFault
+abbrev pub of_typing : typing.ExpressionFault → TypeFault
 of_typing typing.unexpected = Unexpected
 of_typing typing.no_common_type = NoCommonType
 of_typing typing.attribute_may_be_missing = AttributeMayBeMissing
@@ -27,7 +27,7 @@ of_typing typing.empty_set = EmptySet
 of_typing typing.bad_extension_literal = BadExtensionLiteral
 
 -- what typing tells
-abbrev pub of_types : TypeFault → CheckFault
+abbrev pub of_types : ExpressionFault → TypeFault
 of_types found.NoMemory = NoMemory
 of_types found.Unexpected = Unexpected
 of_types found.NoCommonType = NoCommonType

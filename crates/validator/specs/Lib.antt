@@ -5,8 +5,9 @@ pub mod Passing
 pub mod Outcomes
 pub mod inner
 -- crates below, passed on to those above
-pub use Rattle.expressions.specs as expressions
-pub use Rattle.static_types.specs as static_types
-pub use Rattle.static_types.specs.schema
-pub use Rattle.static_types.specs.schema_types
-pub use Rattle.static_types.specs.typing
+pub use Rattle.grammar_core.specs as grammar_core
+pub use Rattle.type_checker.specs as type_checker
+pub use Rattle.type_checker.specs.schema
+pub use Rattle.type_checker.specs.schema_types
+pub use Rattle.type_checker.specs.typing
+pub use Rattle.type_checker.specs.entities

@@ -5,16 +5,16 @@
 -- the same here and in the text.
 use Rattle.std.specs.Prelude.{ℕ, List, [], ◌∷◌, ◌++◌}
 use Rattle.values.specs.declared.entity_uid.EntityUid.{EntityUid}
-use Rattle.expressions.specs.Size.{values_of}
-use Rattle.expressions.specs.declared.leaf.Literal.{Literal}
-use Rattle.expressions.specs.declared.leaf.Literal.TheVariants as literal
-use Rattle.expressions.specs.declared.operator.Unary.{Unary}
-use Rattle.expressions.specs.declared.operator.Unary.TheVariants.{Is}
-use Rattle.expressions.specs.declared.expr.Expr.{Expr}
-use Rattle.expressions.specs.declared.expr.Expr.TheOpen.{Expr-F}
-use Rattle.expressions.specs.declared.expr.Expr.TheFolds.{fold-Expr}
-use Rattle.static_types.specs.policy_grammar.declared.policy.Policy.{Policy}
-use Rattle.static_types.specs.policy_grammar.Whole.{expression_of}
+use Rattle.grammar_core.specs.Size.{values_of}
+use Rattle.grammar_core.specs.declared.leaf.Literal.{Literal}
+use Rattle.grammar_core.specs.declared.leaf.Literal.TheVariants as literal
+use Rattle.grammar_core.specs.declared.operator.Unary.{Unary}
+use Rattle.grammar_core.specs.declared.operator.Unary.TheVariants.{Is}
+use Rattle.grammar_core.specs.declared.expr.Expr.{Expr}
+use Rattle.grammar_core.specs.declared.expr.Expr.TheOpen.{Expr-F}
+use Rattle.grammar_core.specs.declared.expr.Expr.TheFolds.{fold-Expr}
+use Rattle.type_checker.specs.policy_grammar.declared.policy.Policy.{Policy}
+use Rattle.type_checker.specs.policy_grammar.Whole.{expression_of}
 
 pub data Name : Type 0 where
   -- the entity type behind `is`

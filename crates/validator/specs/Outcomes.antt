@@ -3,17 +3,17 @@ use Rattle.std.specs.Prelude.{◌≡◌, ◌≢◌, Bool, true, [], All, Contain
 use Rattle.values.specs.declared.entity_uid.EntityUid.{EntityUid}
 use Rattle.values.specs.declared.request.Request.{Request}
 use Rattle.values.specs.Values.{boolean}
-use Rattle.static_types.specs.ancestor_closure.Decided as hierarchy
-use Rattle.static_types.specs.policy_grammar.declared.policy.Policy.{Policy}
-use Rattle.static_types.specs.policy_grammar.Whole.{expression_of}
-use Rattle.static_types.specs.schema.Schemas.{StatedSchema}
-use Rattle.static_types.specs.evaluator.Operators.{World}
-use Rattle.static_types.specs.evaluator.Outcomes as evaluation
-use Rattle.static_types.specs.evaluator.Evaluation.{EvaluatesTo}
-use Rattle.static_types.specs.typing.Types.{boolean_type}
-use Rattle.static_types.specs.typing.Environment.{Environment}
-use Rattle.static_types.specs.typing.Conforming.{Conforms, Fits}
-use Rattle.validator.specs.declared.fault.CheckFault.{CheckFault}
+use Rattle.type_checker.specs.ancestor_search.Decided as hierarchy
+use Rattle.type_checker.specs.policy_grammar.declared.policy.Policy.{Policy}
+use Rattle.type_checker.specs.policy_grammar.Whole.{expression_of}
+use Rattle.type_checker.specs.schema.Schemas.{StatedSchema}
+use Rattle.type_checker.specs.evaluator.Operators.{World}
+use Rattle.type_checker.specs.evaluator.Outcomes as evaluation
+use Rattle.type_checker.specs.evaluator.Evaluation.{EvaluatesTo}
+use Rattle.type_checker.specs.typing.Types.{boolean_type}
+use Rattle.type_checker.specs.typing.Environment.{Environment}
+use Rattle.type_checker.specs.typing.Conforming.{Conforms, Fits}
+use Rattle.validator.specs.declared.fault.TypeFault.{TypeFault}
 use Rattle.validator.specs.Names.{names_of}
 use Rattle.validator.specs.Unknown.{IsKnown}
 use Rattle.validator.specs.Passing.{environments_of, Passes, IsImpossible, IsVerdict, IsCheckRefused}
@@ -21,7 +21,7 @@ use Rattle.validator.specs.Passing.{environments_of, Passes, IsImpossible, IsVer
 -- it passes, possible or impossible, or it is refused
 pub data CheckResult : Type 0 where
   passes : Bool → CheckResult
-  refused : CheckFault → CheckResult
+  refused : TypeFault → CheckResult
 
 abbrev pub IsCheckResult : StatedSchema → Policy → CheckResult → Type 0
 IsCheckResult s policy (passes impossible) = IsVerdict s policy impossible
@@ -34,7 +34,7 @@ PoliciesHaveOneOutcome = (s : StatedSchema) (policy : Policy)
 
 -- what passes is not refused
 abbrev pub PassingIsNotRefused : Type 0
-PassingIsNotRefused = (s : StatedSchema) (policy : Policy) (f : CheckFault) → Passes s policy
+PassingIsNotRefused = (s : StatedSchema) (policy : Policy) (f : TypeFault) → Passes s policy
     → IsCheckRefused s policy f → ⊥
 
 -- where a schema has no environment, a policy all names of which are known passes, and is impossible

@@ -5,17 +5,17 @@
 -- refused there; here it passes, and is noted as impossible. Where a schema has no environment, so is each policy
 -- whose names are all known.
 use Rattle.std.specs.Prelude.{◌↔◌, List, [], ◌∷◌, map, All, Bool, IsTrue}
-use Rattle.expressions.specs.declared.expr.Expr.{Expr}
-use Rattle.static_types.specs.policy_grammar.declared.policy.Policy.{Policy}
-use Rattle.static_types.specs.policy_grammar.Whole.{expression_of}
-use Rattle.static_types.specs.schema.Schemas.{StatedSchema}
-use Rattle.static_types.specs.typing.Types.{StaticType, false_type, IsBoolean}
-use Rattle.static_types.specs.typing.Environment.{Environment, TypeFault}
-use Rattle.static_types.specs.typing.Learned.{Pairs}
-use Rattle.static_types.specs.typing.Typing.{Types}
-use Rattle.static_types.specs.typing.Faults.{Faults}
-use Rattle.static_types.specs.FromSchemas.{typing_environment_of}
-use Rattle.validator.specs.declared.fault.CheckFault.{CheckFault}
+use Rattle.grammar_core.specs.declared.expr.Expr.{Expr}
+use Rattle.type_checker.specs.policy_grammar.declared.policy.Policy.{Policy}
+use Rattle.type_checker.specs.policy_grammar.Whole.{expression_of}
+use Rattle.type_checker.specs.schema.Schemas.{StatedSchema}
+use Rattle.type_checker.specs.typing.Types.{StaticType, false_type, IsBoolean}
+use Rattle.type_checker.specs.typing.Environment.{Environment, ExpressionFault}
+use Rattle.type_checker.specs.typing.Learned.{Pairs}
+use Rattle.type_checker.specs.typing.Typing.{Types}
+use Rattle.type_checker.specs.typing.Faults.{Faults}
+use Rattle.type_checker.specs.FromSchemas.{typing_environment_of}
+use Rattle.validator.specs.declared.fault.TypeFault.{TypeFault}
 use Rattle.validator.specs.Faults.{of_typing}
 use Rattle.validator.specs.Names.{names_of}
 use Rattle.validator.specs.Unknown.{IsKnown, FirstUnknown}
@@ -34,10 +34,10 @@ abbrev pub HasBooleanType : Expr → Environment → Type 0
 HasBooleanType x env = (t : StaticType) × IsBoolean t × HasType x t env
 
 -- the first of these environments in which the expression has no type, and why
-pub data FirstFaulty (x : Expr) : List Environment → TypeFault → Type 0 where
-  faulty_here : {env : Environment} {envs : List Environment} {n : TypeFault} → Faults env [] x n
+pub data FirstFaulty (x : Expr) : List Environment → ExpressionFault → Type 0 where
+  faulty_here : {env : Environment} {envs : List Environment} {n : ExpressionFault} → Faults env [] x n
       → FirstFaulty x (env ∷ envs) n
-  faulty_later : {env : Environment} {envs : List Environment} {n : TypeFault} → HasBooleanType x env
+  faulty_later : {env : Environment} {envs : List Environment} {n : ExpressionFault} → HasBooleanType x env
       → FirstFaulty x envs n → FirstFaulty x (env ∷ envs) n
 
 -- all names of the policy are known, and it has a boolean type in each environment
@@ -56,7 +56,7 @@ pub record IsVerdict (s : StatedSchema) (policy : Policy) (told : Bool) : Type 0
 
 -- The policy is refused: the first name in the order of its text that is not known, or else, where all are known, the
 -- fault of the first environment that has one.
-pub data IsCheckRefused (s : StatedSchema) (policy : Policy) : CheckFault → Type 0 where
-  for_name : {f : CheckFault} → FirstUnknown s (names_of policy) f → IsCheckRefused s policy f
-  for_type : {n : TypeFault} → All (IsKnown s) (names_of policy)
+pub data IsCheckRefused (s : StatedSchema) (policy : Policy) : TypeFault → Type 0 where
+  for_name : {f : TypeFault} → FirstUnknown s (names_of policy) f → IsCheckRefused s policy f
+  for_type : {n : ExpressionFault} → All (IsKnown s) (names_of policy)
       → FirstFaulty (expression_of policy) (environments_of s) n → IsCheckRefused s policy (of_typing n)

@@ -5,10 +5,10 @@
 -- action.
 use Rattle.std.specs.Prelude.{◌≡◌, ℕ, List, ◌∷◌, Contains, IsTrue, IsFalse, IsSome}
 use Rattle.values.specs.declared.entity_uid.EntityUid.{EntityUid}
-use Rattle.static_types.specs.schema.Schemas.{StatedSchema}
-use Rattle.static_types.specs.entities.Entities.{is_action_type}
-use Rattle.validator.specs.declared.fault.CheckFault.{CheckFault}
-use Rattle.validator.specs.declared.fault.CheckFault.TheVariants.{UnknownType, UnknownAction}
+use Rattle.type_checker.specs.schema.Schemas.{StatedSchema}
+use Rattle.type_checker.specs.entities.Entities.{is_action_type}
+use Rattle.validator.specs.declared.fault.TypeFault.{TypeFault}
+use Rattle.validator.specs.declared.fault.TypeFault.TheVariants.{UnknownType, UnknownAction}
 use Rattle.validator.specs.Names.{Name, tested_type, entity}
 
 -- the schema declares an entity type of this name
@@ -20,7 +20,7 @@ abbrev pub IsTypeOfAction : StatedSchema → List ℕ → Type 0
 IsTypeOfAction s n = (u : EntityUid) × Contains s.actions u × (u.type_name ≡ n)
 
 -- the name is refused
-pub data IsUnknown (s : StatedSchema) : Name → CheckFault → Type 0 where
+pub data IsUnknown (s : StatedSchema) : Name → TypeFault → Type 0 where
   -- behind `is`: neither an entity type nor an action's
   unknown_tested_type : (n : List ℕ) → ¬ IsEntityType s n → ¬ IsTypeOfAction s n
       → IsUnknown s (tested_type n) UnknownType
@@ -32,10 +32,10 @@ pub data IsUnknown (s : StatedSchema) : Name → CheckFault → Type 0 where
       → IsUnknown s (entity u) UnknownAction
 
 abbrev pub IsKnown : StatedSchema → Name → Type 0
-IsKnown s n = (f : CheckFault) → ¬ IsUnknown s n f
+IsKnown s n = (f : TypeFault) → ¬ IsUnknown s n f
 
 -- the first of these names that is refused
-pub data FirstUnknown (s : StatedSchema) : List Name → CheckFault → Type 0 where
-  unknown_here : {n : Name} {ns : List Name} {f : CheckFault} → IsUnknown s n f → FirstUnknown s (n ∷ ns) f
-  unknown_later : {n : Name} {ns : List Name} {f : CheckFault} → IsKnown s n → FirstUnknown s ns f
+pub data FirstUnknown (s : StatedSchema) : List Name → TypeFault → Type 0 where
+  unknown_here : {n : Name} {ns : List Name} {f : TypeFault} → IsUnknown s n f → FirstUnknown s (n ∷ ns) f
+  unknown_later : {n : Name} {ns : List Name} {f : TypeFault} → IsKnown s n → FirstUnknown s ns f
       → FirstUnknown s (n ∷ ns) f

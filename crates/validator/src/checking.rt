@@ -1,20 +1,22 @@
 //! Whether a policy passes.
 ghost use Rattle.std.specs.Prelude.{◌≡◌, ◌≢◌, ◌&&◌, IfOk, IfErr, true};
-ghost use Rattle.static_types.specs.policy_grammar.Whole.{expression_of};
-ghost use Rattle.static_types.specs.schema.Views.{schema_view, environment_view};
-ghost use Rattle.static_types.specs.FromSchemas.{typing_environment_of};
+ghost use Rattle.type_checker.specs.policy_grammar.Whole.{expression_of};
+ghost use Rattle.type_checker.specs.schema.Views.{schema_view, environment_view};
+ghost use Rattle.type_checker.specs.FromSchemas.{typing_environment_of};
 ghost use Rattle.validator.specs.Passing.{IsVerdict, IsCheckRefused};
 ghost use Rattle.validator.specs.inner.Checking.{scope_parts, typed_in, ReportsFalse, IsJudged, AreJudged};
 ghost use Rattle.validator.specs.inner.Walking.{parts_told};
 
-use crate::fault::CheckFault;
+use crate::fault::TypeFault;
 use crate::scope::parts_of;
 use crate::walking::{walk, walk_each};
-use expressions::Expr;
+use grammar_core::Expr;
 use plain::NoMemory;
-use static_types::{Environment, Policy, Schema, expressions_have_one_judgement};
 use std::alloc::Global;
-use type_checker::{StaticType, TypeFault, TypingEnvironment, judge_all};
+use type_checker::{
+    Environment, ExpressionFault, Policy, Schema, StaticType, TypingEnvironment,
+    expressions_have_one_judgement, judge_all,
+};
 
 /// What is told of a policy that passes.
 #[derive(Clone, Copy, PartialEq, Eq)]
@@ -31,7 +33,7 @@ fn scope_of(alloc: Global, policy: &Policy) -> Result<Vec<Expr>, NoMemory>
 }
 
 /// Returns the first name of a policy that the schema does not know: those of its scope, then those of its conditions.
-fn check_names(schema: &Schema, parts: &[Expr], policy: &Policy) -> Result<(), CheckFault>
+fn check_names(schema: &Schema, parts: &[Expr], policy: &Policy) -> Result<(), TypeFault>
     ensures { result ≡ parts_told (schema_view schema.now) parts.now policy.now.condition }
 {
     let condition = policy.condition.get();
@@ -40,12 +42,12 @@ fn check_names(schema: &Schema, parts: &[Expr], policy: &Policy) -> Result<(), C
 }
 
 /// Returns whether the type that was found is False, or why none was found.
-fn told<'a>(found: Result<StaticType<'a>, TypeFault>) -> Result<bool, CheckFault>
+fn told<'a>(found: Result<StaticType<'a>, ExpressionFault>) -> Result<bool, TypeFault>
     ensures { ReportsFalse found.entry result }
 {
     match found {
         Ok(found) => Ok(found.is_false()),
-        Err(fault) => Err(CheckFault::from(fault)),
+        Err(fault) => Err(TypeFault::from(fault)),
     }
 }
 
@@ -56,7 +58,7 @@ fn is_false_at(
     environment: &Environment,
     parts: &[Expr],
     policy: &Policy,
-) -> Result<bool, CheckFault>
+) -> Result<bool, TypeFault>
     requires { parts.now ≡ scope_parts policy.now.scope }
     ensures { IsJudged (typing_environment_of (schema_view schema.now) (environment_view environment.now))
         (expression_of policy.now) result }
@@ -79,7 +81,7 @@ fn is_false_everywhere(
     environments: &[Environment],
     parts: &[Expr],
     policy: &Policy,
-) -> Result<bool, CheckFault>
+) -> Result<bool, TypeFault>
     requires { parts.now ≡ scope_parts policy.now.scope }
     ensures { AreJudged (expression_of policy.now) true (typed_in (schema_view schema.now) environments.now) result }
 {
@@ -103,10 +105,10 @@ fn is_false_everywhere(
 ///
 /// Source: Cedar reference guide, "Policy validation".
 #[tactic(auto, using(crate::proofs::CheckLemmas::name_refused, crate::proofs::CheckLemmas::type_refused))]
-pub fn check(alloc: Global, schema: &Schema, policy: &Policy) -> Result<Verdict, CheckFault>
+pub fn check(alloc: Global, schema: &Schema, policy: &Policy) -> Result<Verdict, TypeFault>
     ensures passes { IfOk result (λ v. IsVerdict (schema_view schema.now) policy.now v.impossible) }
     ensures refused { IfErr result
-        (λ f. f ≢ CheckFault.NoMemory → IsCheckRefused (schema_view schema.now) policy.now f) }
+        (λ f. f ≢ TypeFault.NoMemory → IsCheckRefused (schema_view schema.now) policy.now f) }
 {
     let scope = scope_of(alloc, policy)?;
     let parts = scope.as_slice();

@@ -2,13 +2,12 @@
 ghost use Rattle.std.specs.Prelude.{◌≡◌, is_some, slice_get};
 ghost use Rattle.std.specs.Ordering.{is_lt};
 ghost use Rattle.values.specs.Names.{text_cmp};
-ghost use Rattle.static_types.specs.schema.Views.{schema_view};
+ghost use Rattle.type_checker.specs.schema.Views.{schema_view};
 ghost use Rattle.validator.specs.inner.Walking.{type_at, is_type_of_action, is_declared_action, tested_type_told};
 ghost use Rattle.validator.specs.inner.Walking.{action_told, other_told, entity_told};
 
-use crate::fault::CheckFault;
-use static_types::{Schema, stated_schemas_are_well_formed};
-use type_checker::is_action_type;
+use crate::fault::TypeFault;
+use type_checker::{Schema, is_action_type, stated_schemas_are_well_formed};
 use values::{EntityUid, TypeName};
 
 fn is_entity_type(schema: &Schema, name: &TypeName) -> bool
@@ -58,35 +57,35 @@ fn is_declared_action(schema: &Schema, uid: &EntityUid) -> bool
 }
 
 /// Returns a type behind `is`: an entity type, or the type of an action.
-pub(crate) fn check_tested_type(schema: &Schema, name: &TypeName) -> Result<(), CheckFault>
+pub(crate) fn check_tested_type(schema: &Schema, name: &TypeName) -> Result<(), TypeFault>
     ensures { result ≡ tested_type_told (schema_view schema.now) name.now }
 {
     if is_entity_type(schema, name) || is_type_of_action(schema, name) {
         return Ok(());
     }
-    Err(CheckFault::UnknownType)
+    Err(TypeFault::UnknownType)
 }
 
-fn check_action(schema: &Schema, uid: &EntityUid) -> Result<(), CheckFault>
+fn check_action(schema: &Schema, uid: &EntityUid) -> Result<(), TypeFault>
     ensures { result ≡ action_told (schema_view schema.now) uid.now }
 {
     if is_declared_action(schema, uid) {
         return Ok(());
     }
-    Err(CheckFault::UnknownAction)
+    Err(TypeFault::UnknownAction)
 }
 
-fn check_other(schema: &Schema, uid: &EntityUid) -> Result<(), CheckFault>
+fn check_other(schema: &Schema, uid: &EntityUid) -> Result<(), TypeFault>
     ensures { result ≡ other_told (schema_view schema.now) uid.now }
 {
     if is_entity_type(schema, &uid.type_name) {
         return Ok(());
     }
-    Err(CheckFault::UnknownType)
+    Err(TypeFault::UnknownType)
 }
 
 /// Returns an entity that is written out: a declared action, or one of a declared type.
-pub(crate) fn check_entity(schema: &Schema, uid: &EntityUid) -> Result<(), CheckFault>
+pub(crate) fn check_entity(schema: &Schema, uid: &EntityUid) -> Result<(), TypeFault>
     ensures { result ≡ entity_told (schema_view schema.now) uid.now }
 {
     if is_action_type(&uid.type_name) {

@@ -2,7 +2,7 @@
 ghost use Rattle.validator.specs.Outcomes.{PoliciesHaveOneOutcome, NoEnvironmentIsImpossible};
 ghost use Rattle.validator.specs.Outcomes.{PassingIsNotRefused, PassingPoliciesGoRight};
 
-use static_types::{expressions_have_one_judgement, typed_expressions_go_right};
+use type_checker::{expressions_have_one_judgement, typed_expressions_go_right};
 
 /// Each policy has exactly one outcome under a schema: it passes, and is impossible or not, or it is refused for one
 /// cause. Where the schema has no environment, a policy all names of which are known passes, and is impossible.

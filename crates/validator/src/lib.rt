@@ -12,9 +12,10 @@ mod scope;
 mod walking;
 
 pub use checking::{Verdict, check};
-pub use fault::CheckFault;
+pub use fault::TypeFault;
 pub use laws::{passing_policies_go_right, policies_have_one_outcome};
-pub use static_types::{
-    Schema, SchemaFault, action_types_are_told, bytes_have_one_outcome, entities_read_back,
-    parents_tell_ancestors, read_schema,
+pub use type_checker::{
+    Entity, EntityFault, Schema, SchemaFault, action_types_are_told, bytes_have_one_outcome,
+    canonical_text, canonical_texts_are_read, entities_read_back, json_texts_are_utf8,
+    parents_tell_ancestors, read_entity, read_schema,
 };

@@ -1,12 +1,12 @@
 //! The expression of a policy's scope, part by part: what stands in it before the conditions.
 ghost use Rattle.std.specs.Prelude.{◌≡◌, map, IfOk};
-ghost use Rattle.static_types.specs.policy_grammar.Whole.{entity_literal, is_equal, is_in, entity_part, action_part};
+ghost use Rattle.type_checker.specs.policy_grammar.Whole.{entity_literal, is_equal, is_in, entity_part, action_part};
 ghost use Rattle.validator.specs.inner.Checking.{scope_parts};
 
-use expressions::{Binary, Expr, Literal, Unary, Variable};
+use grammar_core::{Binary, Expr, Literal, Unary, Variable};
 use plain::{Items, NoMemory};
-use static_types::{ActionScope, EntityScope, Scope};
 use std::alloc::Global;
+use type_checker::{ActionScope, EntityScope, Scope};
 use values::{EntityUid, TypeName};
 
 fn entity_literal(uid: &EntityUid) -> Result<Expr, NoMemory>

@@ -1,16 +1,16 @@
 //! The walk over the names of an expression, in the order of the text.
 ghost use Rattle.std.specs.Prelude.{◌≡◌, map};
-ghost use Rattle.static_types.specs.schema.Views.{schema_view};
+ghost use Rattle.type_checker.specs.schema.Views.{schema_view};
 ghost use Rattle.validator.specs.inner.Walking.{in_turn, literal_told, operator_told, walk, named_walk};
-ghost use Rattle.expressions.specs.Size.{values_of};
+ghost use Rattle.grammar_core.specs.Size.{values_of};
 
-use crate::fault::CheckFault;
+use crate::fault::TypeFault;
 use crate::known::{check_entity, check_tested_type};
-use expressions::{Expr, Literal, Named, Unary};
+use grammar_core::{Expr, Literal, Named, Unary};
 use plain::Shared;
-use static_types::Schema;
+use type_checker::Schema;
 
-fn check_literal(schema: &Schema, literal: &Literal) -> Result<(), CheckFault>
+fn check_literal(schema: &Schema, literal: &Literal) -> Result<(), TypeFault>
     ensures { result ≡ literal_told (schema_view schema.now) literal.now }
 {
     match literal {
@@ -19,7 +19,7 @@ fn check_literal(schema: &Schema, literal: &Literal) -> Result<(), CheckFault>
     }
 }
 
-fn check_operator(schema: &Schema, operator: &Unary) -> Result<(), CheckFault>
+fn check_operator(schema: &Schema, operator: &Unary) -> Result<(), TypeFault>
     ensures { result ≡ operator_told (schema_view schema.now) operator.now }
 {
     match operator {
@@ -31,7 +31,7 @@ fn check_operator(schema: &Schema, operator: &Unary) -> Result<(), CheckFault>
 /// Returns the first name of an expression that the schema does not know, whether or not the operand that it stands in
 /// is ever looked at. Takes no memory; its stack grows with the height of the expression.
 #[cycle(walk)]
-pub(crate) fn walk(schema: &Schema, expr: &Expr) -> Result<(), CheckFault>
+pub(crate) fn walk(schema: &Schema, expr: &Expr) -> Result<(), TypeFault>
     ensures { result ≡ walk (schema_view schema.now) expr.now }
 {
     match expr {
@@ -72,7 +72,7 @@ pub(crate) fn walk(schema: &Schema, expr: &Expr) -> Result<(), CheckFault>
 
 /// Returns the first of several expressions in turn.
 #[cycle(walk)]
-pub(crate) fn walk_each(schema: &Schema, exprs: &[Expr]) -> Result<(), CheckFault>
+pub(crate) fn walk_each(schema: &Schema, exprs: &[Expr]) -> Result<(), TypeFault>
     ensures { result ≡ in_turn (map (walk (schema_view schema.now)) exprs.now) }
 {
     for expr in exprs {
@@ -82,7 +82,7 @@ pub(crate) fn walk_each(schema: &Schema, exprs: &[Expr]) -> Result<(), CheckFaul
 }
 
 #[cycle(walk)]
-fn walk_fields(schema: &Schema, fields: &[Named<Expr>]) -> Result<(), CheckFault>
+fn walk_fields(schema: &Schema, fields: &[Named<Expr>]) -> Result<(), TypeFault>
     ensures { result ≡ in_turn (values_of (map (named_walk (schema_view schema.now)) fields.now)) }
 {
     for field in fields {

@@ -169,14 +169,6 @@ impl Value {
         &self.kind
     }
 
-    /// Returns what the value is; takes no memory.
-    pub fn into_kind(self) -> Kind
-        ensures { of_kind result ≡ self }
-    {
-        let Value { kind } = self;
-        kind
-    }
-
     /// Returns the value, borrowed; takes no memory.
     pub fn as_ref(&self) -> ValueRef<'_>
         ensures { result ≡ self.now }

@@ -1,12 +1,11 @@
 -- How the values that the code holds are read by the definitions.
-use Rattle.std.specs.Prelude.{◌≡◌, ◌⊎◌, ⊤, ℕ, List, [], map, Contains, true, false, Ok}
-use Rattle.std.specs.Prelude.{MatchOption, option_map, All}
+use Rattle.std.specs.Prelude.{◌≡◌, ◌⊎◌, ⊤, ℕ, List, [], map, Contains, true, false, Ok, MatchOption, option_map, All}
 use Rattle.std.specs.Borrow.{Bor}
 use Rattle.values.specs.declared.entity_uid.EntityUid.{EntityUid}
 use Rattle.values.specs.declared.request.Request.{Request}
 use Rattle.values.specs.Values.{boolean}
-use Rattle.evaluator.specs.ancestor_closure.Hierarchy.{Parents, IsAllAbove, IsAscending, names}
-use Rattle.expressions.specs.declared.expr.Expr.{Expr}
+use Rattle.evaluator.specs.ancestor_search.Hierarchy.{Parents, IsAllAbove, IsAscending, names}
+use Rattle.grammar_core.specs.declared.expr.Expr.{Expr}
 use Rattle.scope_index.specs.policy_grammar.declared.policy.Scope.{Scope}
 use Rattle.scope_index.specs.policy_grammar.declared.policy.Effect.TheVariants.{Permit, Forbid}
 use Rattle.evaluator.specs.Operators.{World}

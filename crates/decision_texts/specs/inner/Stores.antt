@@ -4,13 +4,12 @@ use Rattle.std.specs.List.{list_any}
 use Rattle.serde_json.specs.Data.{Data}
 use Rattle.values.specs.declared.entity_uid.EntityUid.{EntityUid}
 use Rattle.values.specs.declared.request.Request.{Request}
-use Rattle.entity_worlds.specs.ancestor_closure.Decided.{is_same}
+use Rattle.entity_data.specs.ancestor_search.Decided.{is_same}
 use Rattle.json_words.specs.ReadsAs.{◌>>=◌, demand, Fails}
-use Rattle.entity_worlds.specs.evaluator.Operators.{World}
-use Rattle.entity_worlds.specs.declared.data.EntityData.{EntityData}
-use Rattle.entity_worlds.specs.Entities.{EntityMap}
-use Rattle.entity_worlds.specs.Entities.{world_in as entities_world}
-use Rattle.entity_worlds.specs.Keeping.{Entries, kept_in}
+use Rattle.entity_data.specs.evaluator.Operators.{World}
+use Rattle.entity_data.specs.declared.data.EntityData.{EntityData}
+use Rattle.entity_data.specs.Entities.{EntityMap, world_in as entities_world}
+use Rattle.entity_data.specs.Keeping.{Entries, kept_in}
 use Rattle.authoriser.specs.declared.answer.Answer.{Answer}
 use Rattle.authoriser.specs.Answers.{NamedPolicy, IsAnswer}
 use Rattle.decision_texts.specs.declared.refusal.Refusal.{Refusal}

@@ -5,7 +5,7 @@ use Rattle.std.specs.declared.cmp.Ordering.{Ordering}
 use Rattle.std.specs.declared.cmp.Ordering.TheVariants.{Less}
 use Rattle.values.specs.declared.entity_uid.EntityUid.{EntityUid}
 use Rattle.values.specs.Names.{uid_cmp}
-use Rattle.schema.specs.schema_parts.declared.parts.Place.{Place}
+use Rattle.schema.specs.declared.parts.Place.{Place}
 use Rattle.schema.specs.Schemas.{EnvironmentOf, place_cmp}
 use Rattle.schema_types.specs.Cedar.{Cedar}
 use Rattle.entities.specs.declared.requests.Asked.{Asked}

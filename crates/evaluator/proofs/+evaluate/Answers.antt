@@ -1,6 +1,6 @@
 use Rattle.std.proofs.Common.{sym, subst}
-use Rattle.expressions.specs.declared.operator.Binary.{Binary}
-use Rattle.expressions.specs.declared.expr.Expr.{Expr}
+use Rattle.grammar_core.specs.declared.operator.Binary.{Binary}
+use Rattle.grammar_core.specs.declared.expr.Expr.{Expr}
 use Rattle.evaluator.specs.inner.Computing.{decided_world, Answers, meaning, and_then, as_test, apply_binary}
 use Rattle.evaluator.proofs.AfterFirst.{decided, undecided}
 use Rattle.evaluator.proofs.+evaluate.Goals as goal

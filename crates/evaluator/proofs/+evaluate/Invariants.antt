@@ -1,5 +1,5 @@
 use Rattle.std.proofs.Common.{◌≡◌, ◌+◌, ◌*◌, max, drop, ◌++◌, map, Ok, []}
-use Rattle.expressions.specs.declared.expr.Expr.{size-Expr}
+use Rattle.grammar_core.specs.declared.expr.Expr.{size-Expr}
 use Rattle.evaluator.specs.inner.Computing.{decided_world, and_then, meaning, named_meaning, each, each_field}
 use Rattle.evaluator.proofs.+evaluate.Given as goal
 

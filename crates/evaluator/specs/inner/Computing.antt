@@ -20,22 +20,22 @@ use Rattle.values.specs.Sets.{set_list, has_member}
 use Rattle.values.specs.Values.{PlainValue, boolean, long, entity, set, record_of, decimal, ipaddr, list_of, values_of}
 use Rattle.values.specs.Values.{pairs_of, fields_of}
 use Rattle.values.specs.ValueOrder.{value_cmp}
-use Rattle.expressions.specs.LikeTest.{is_match}
-use Rattle.expressions.specs.declared.operator.Unary.{Unary}
-use Rattle.expressions.specs.declared.operator.Unary.TheVariants.{Not, Negate, Like, Is}
-use Rattle.expressions.specs.declared.operator.Binary.{Binary}
-use Rattle.expressions.specs.declared.operator.Binary.TheVariants.{Equal, In, Less, LessOrEqual, Add, Subtract}
-use Rattle.expressions.specs.declared.operator.Binary.TheVariants.{Multiply, Contains, ContainsAll, ContainsAny}
-use Rattle.expressions.specs.declared.operator.UnaryCall.{UnaryCall}
-use Rattle.expressions.specs.declared.operator.UnaryCall.TheVariants.{Ip, Decimal, IsIpv4, IsIpv6, IsLoopback}
-use Rattle.expressions.specs.declared.operator.UnaryCall.TheVariants.{IsMulticast}
-use Rattle.expressions.specs.declared.operator.BinaryCall.{BinaryCall}
-use Rattle.expressions.specs.declared.operator.BinaryCall.TheVariants.{LessThan, LessThanOrEqual, GreaterThan}
-use Rattle.expressions.specs.declared.operator.BinaryCall.TheVariants.{GreaterThanOrEqual, IsInRange}
-use Rattle.expressions.specs.declared.expr.Named.{Named}
-use Rattle.expressions.specs.declared.expr.Expr.{Expr}
-use Rattle.expressions.specs.declared.expr.Expr.TheOpen.{Expr-F}
-use Rattle.expressions.specs.declared.expr.Expr.TheFolds.{fold-Expr}
+use Rattle.grammar_core.specs.LikeTest.{is_match}
+use Rattle.grammar_core.specs.declared.operator.Unary.{Unary}
+use Rattle.grammar_core.specs.declared.operator.Unary.TheVariants.{Not, Negate, Like, Is}
+use Rattle.grammar_core.specs.declared.operator.Binary.{Binary}
+use Rattle.grammar_core.specs.declared.operator.Binary.TheVariants.{Equal, In, Less, LessOrEqual, Add, Subtract}
+use Rattle.grammar_core.specs.declared.operator.Binary.TheVariants.{Multiply, Contains, ContainsAll, ContainsAny}
+use Rattle.grammar_core.specs.declared.operator.UnaryCall.{UnaryCall}
+use Rattle.grammar_core.specs.declared.operator.UnaryCall.TheVariants.{Ip, Decimal, IsIpv4, IsIpv6, IsLoopback}
+use Rattle.grammar_core.specs.declared.operator.UnaryCall.TheVariants.{IsMulticast}
+use Rattle.grammar_core.specs.declared.operator.BinaryCall.{BinaryCall}
+use Rattle.grammar_core.specs.declared.operator.BinaryCall.TheVariants.{LessThan, LessThanOrEqual, GreaterThan}
+use Rattle.grammar_core.specs.declared.operator.BinaryCall.TheVariants.{GreaterThanOrEqual, IsInRange}
+use Rattle.grammar_core.specs.declared.expr.Named.{Named}
+use Rattle.grammar_core.specs.declared.expr.Expr.{Expr}
+use Rattle.grammar_core.specs.declared.expr.Expr.TheOpen.{Expr-F}
+use Rattle.grammar_core.specs.declared.expr.Expr.TheFolds.{fold-Expr}
 use Rattle.evaluator.specs.declared.fault.EvalFault.{EvalFault}
 use Rattle.evaluator.specs.declared.numbers.Numbers.{Numbers}
 use Rattle.evaluator.specs.declared.fault.EvalFault.TheVariants.{EntityDoesNotExist, AttrDoesNotExist, TypeError}

@@ -1,10 +1,13 @@
 -- What becomes of one request, with the text that its reply is appended to.
-use Rattle.std.specs.Prelude.{◌≡◌, ℕ, List, ◌++◌}
-use Rattle.service_replies.specs.http_texts.declared.status.Status.{Status}
-use Rattle.site_runs.specs.site.Seen.{Seen}
-use Rattle.service_replies.specs.Replies.{IsReplyOrNoMemory}
+use Rattle.std.specs.Prelude.{◌≡◌, ◌⊎◌, ℕ, List, ◌++◌, Err}
+use Rattle.http_replies.specs.http_texts.declared.status.Status.{Status}
+use Rattle.http_replies.specs.site_steps.Seen.{Seen}
+use Rattle.http_replies.specs.Replies.{IsReplyOrNoMemory}
 use Rattle.http_service.specs.Asked.{Asked}
-use Rattle.http_service.specs.Answered.{Replies}
+use Rattle.http_replies.specs.site_steps.declared.fault.SiteFault.TheVariants as fault
+use Rattle.http_replies.specs.site_steps.declared.reply.Reply.{Reply}
+use Rattle.http_replies.specs.site_steps.declared.reply.Reply.TheVariants as reply
+use Rattle.http_service.specs.Answered.{Replies, told}
 
 -- it is told behind what the text had, or want of memory is
 abbrev pub ReportsOrNoMemory : Status × List ℕ → Status → List ℕ → List ℕ → Type 0
@@ -15,3 +18,17 @@ ReportsOrNoMemory reply status before after =
 abbrev pub Deals : Seen → Asked → Status → List ℕ → List ℕ → Seen → Type 0
 Deals old a status before after new =
     (line : List ℕ) × (after ≡ before ++ line) × Replies old a status line new
+
+-- a reply if there is no memory to report it: of a question that there is no memory, of a change the reply itself
+abbrev pub lacking : Reply → Reply
+lacking (reply.Put r) = reply.Put r
+lacking (reply.Stamped r) = reply.Stamped r
+lacking (reply.Taken r) = reply.Taken r
+lacking (reply.Answered r) = reply.Answered (Err fault.NoMemory)
+lacking (reply.Found r) = reply.Found (Err fault.NoMemory)
+lacking (reply.Written r) = reply.Written (Err fault.NoMemory)
+
+-- a reply is appended, or that there is no memory to report it
+abbrev pub Tells : Reply → Status → List ℕ → List ℕ → Type 0
+Tells r status before after =
+    (body : List ℕ) × (after ≡ before ++ body) × (((status, body) ≡ told r) ⊎ ((status, body) ≡ told (lacking r)))

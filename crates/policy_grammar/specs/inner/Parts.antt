@@ -2,16 +2,16 @@
 use Rattle.std.specs.Prelude.{◌≡◌, ◌≢◌, ◌↔◌, ◌&&◌, ◌||◌, ◌==◌, Bool, false, IsTrue, ℕ, List, [], ◌∷◌, ◌++◌}
 use Rattle.std.specs.Prelude.{is_some, find, codes, if◌then◌else◌}
 use Rattle.std.specs.List.{AllByRecursion, flat_map, starts_with}
-use Rattle.text_trees.specs.policy_tokens.Lexing.{quote, backslash}
-use Rattle.text_trees.specs.policy_syntax.declared.tree.Condition.{Condition}
-use Rattle.text_trees.specs.policy_syntax.declared.tree.ConditionWord.{ConditionWord}
-use Rattle.text_trees.specs.policy_syntax.declared.tree.ConditionWord.TheVariants as word
-use Rattle.text_trees.specs.policy_syntax.declared.tree.PolicyTree.{PolicyTree}
-use Rattle.text_trees.specs.desugaring.Faults.{faults_of}
-use Rattle.text_trees.specs.desugaring.Refused.{least}
-use Rattle.text_trees.specs.desugaring.Repeats.{NameAt}
-use Rattle.text_trees.specs.desugaring.declared.measure.Measure.{Measure}
-use Rattle.text_trees.specs.desugaring.Sums.{above}
+use Rattle.grammar_desugaring.specs.grammar_tokens.Lexing.{quote, backslash}
+use Rattle.grammar_policies.specs.declared.tree.Condition.{Condition}
+use Rattle.grammar_policies.specs.declared.tree.ConditionWord.{ConditionWord}
+use Rattle.grammar_policies.specs.declared.tree.ConditionWord.TheVariants as word
+use Rattle.grammar_policies.specs.declared.tree.PolicyTree.{PolicyTree}
+use Rattle.grammar_desugaring.specs.Faults.{faults_of}
+use Rattle.grammar_desugaring.specs.Refused.{least}
+use Rattle.grammar_desugaring.specs.Repeats.{NameAt}
+use Rattle.grammar_desugaring.specs.declared.measure.Measure.{Measure}
+use Rattle.grammar_desugaring.specs.Sums.{above}
 use Rattle.policy_grammar.specs.declared.verdict.Verdict.{Verdict}
 use Rattle.policy_grammar.specs.Limits.{IsSmallTree}
 use Rattle.policy_grammar.specs.PolicyText.{tree_faults}

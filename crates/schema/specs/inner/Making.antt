@@ -3,7 +3,7 @@ use Rattle.std.specs.Prelude.{◌≡◌, ⊤, ℕ, List, Contains, Option, Some,
 use Rattle.std.specs.BTreeMap.{BTreeMap, get}
 use Rattle.values.specs.declared.entity_uid.EntityUid.{EntityUid}
 use Rattle.values.specs.Names.{uid_cmp, text_cmp}
-use Rattle.schema_parts.specs.ancestor_closure.Hierarchy.{Parents}
+use Rattle.ancestor_search.specs.Hierarchy.{Parents}
 use Rattle.schema_types.specs.Qualified.{Qualified}
 use Rattle.schema_types.specs.Cedar.{Cedar}
 use Rattle.schema_types.specs.CedarViews.{cedar_view}
@@ -13,9 +13,9 @@ use Rattle.schema_types.specs.Outcome.{TypeRefused}
 use Rattle.schema_types.specs.declared.fault.SchemaFault.{SchemaFault}
 use Rattle.schema_types.specs.declared.cedar.CedarType.{CedarType}
 use Rattle.schema_names.specs.Qualifying.{FoundEntityType, FoundUse, FoundAction}
-use Rattle.schema_parts.specs.declared.parts.Place.{Place}
-use Rattle.schema_parts.specs.declared.parts.EntityDecl.{EntityDecl}
-use Rattle.schema_parts.specs.Places.{place_cmp, place_of}
+use Rattle.schema.specs.declared.parts.Place.{Place}
+use Rattle.schema.specs.declared.parts.EntityDecl.{EntityDecl}
+use Rattle.schema.specs.Places.{place_cmp, place_of}
 use Rattle.schema.specs.Schemas.{IsRecordOf, IsWritten}
 use Rattle.schema.specs.inner.Filling.{Adds, AddsEach, SomeMay, SomeMust, AllTold}
 

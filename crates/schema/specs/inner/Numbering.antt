@@ -2,13 +2,13 @@
 use Rattle.std.specs.Prelude.{◌≡◌, ◌↔◌, ⊤, ℕ, List, [], ◌∷◌, ◌++◌, map, Contains, IsTrue, IsSome, Option, Some, None}
 use Rattle.std.specs.List.{slice_get}
 use Rattle.std.specs.BTreeMap.{BTreeMap, get}
-use Rattle.schema_parts.specs.number_spans.declared.spans.Span.{Span}
-use Rattle.schema_parts.specs.number_spans.Spans.{has_number}
+use Rattle.schema.specs.declared.spans.Span.{Span}
+use Rattle.schema.specs.Spans.{has_number}
 use Rattle.values.specs.declared.entity_uid.EntityUid.{EntityUid}
 use Rattle.values.specs.Names.{uid_cmp, text_cmp}
-use Rattle.schema_parts.specs.ancestor_closure.Hierarchy.{Parents, Above, names}
+use Rattle.ancestor_search.specs.Hierarchy.{Parents, Above, names}
 use Rattle.schema_names.specs.Qualifying.{FoundEntityType}
-use Rattle.schema_parts.specs.LookUps.{has_number_at}
+use Rattle.schema.specs.LookUps.{has_number_at}
 use Rattle.schema.specs.declared.numbering.Numbered.{Numbered}
 use Rattle.schema.specs.declared.type_numbers.TypeNumbers.{TypeNumbers}
 use Rattle.schema.specs.Schemas.{type_uid}

@@ -3,7 +3,7 @@ use Rattle.std.specs.Prelude.{◌≡◌, map}
 use Rattle.std.specs.BTreeMap.{keys, get}
 use Rattle.std.specs.BTreeMap as tree
 use Rattle.values.specs.Names.{uid_cmp}
-use Rattle.schema_parts.specs.ancestor_closure.Hierarchy.{Parents, IsAscending}
+use Rattle.ancestor_search.specs.Hierarchy.{Parents, IsAscending}
 use Rattle.schema_types.specs.Qualified.{Qualified}
 use Rattle.schema_types.specs.WrittenOut.{Declarations}
 use Rattle.schema_types.specs.Mentions.{IsClosed}
@@ -12,7 +12,7 @@ use Rattle.schema_types.specs.declared.fault.SchemaFault.{SchemaFault}
 use Rattle.schema_types.specs.declared.fault.SchemaFault.TheVariants.{ActionCycle}
 use Rattle.schema_names.specs.Qualifying.{FoundSchema}
 use Rattle.schema_names.specs.Laws.{IsShapeOrContext}
-use Rattle.schema_parts.specs.Places.{environment_of}
+use Rattle.schema.specs.Places.{environment_of}
 use Rattle.schema.specs.declared.reading.Types.{Types}
 use Rattle.schema.specs.declared.reading.Hierarchies.{Hierarchies}
 use Rattle.schema.specs.Schemas.{action_parents, type_parents, SomeActionIsOnCycle, place_cmp}

@@ -5,19 +5,19 @@ use Rattle.serde_json.specs.Data.{Data}
 use Rattle.values.specs.declared.entity_uid.EntityUid.{EntityUid}
 use Rattle.values.specs.declared.request.Request.{Request}
 use Rattle.json_words.specs.ReadsAs.{◌>>=◌, demand, Fails}
-use Rattle.entity_store.specs.ancestor_closure.Decided.{is_same}
-use Rattle.entity_store.specs.evaluator.Operators.{World}
-use Rattle.entity_store.specs.authoriser.declared.answer.Answer.{Answer}
-use Rattle.entity_store.specs.authoriser.Answers.{NamedPolicy}
-use Rattle.entity_store.specs.schema.Schemas.{StatedSchema}
-use Rattle.entity_store.specs.entity_worlds.declared.entity.Entity.{Entity}
-use Rattle.entity_store.specs.entity_worlds.Entities.{with_actions, world_in}
-use Rattle.entity_store.specs.entity_worlds.Keeping.{Entries, kept_in}
-use Rattle.policy_checks.specs.decision_texts.declared.refusal.Refusal.{Refusal}
-use Rattle.entity_store.specs.entities.Entities.{entity_stated_in}
-use Rattle.policy_checks.specs.decision_texts.Refusals.{no_memory, bad_shape}
+use Rattle.entity_hierarchy.specs.ancestor_search.Decided.{is_same}
+use Rattle.entity_hierarchy.specs.evaluator.Operators.{World}
+use Rattle.entity_hierarchy.specs.authoriser.declared.answer.Answer.{Answer}
+use Rattle.entity_hierarchy.specs.authoriser.Answers.{NamedPolicy}
+use Rattle.entity_hierarchy.specs.schema.Schemas.{StatedSchema}
+use Rattle.entity_hierarchy.specs.entity_data.declared.entity.Entity.{Entity}
+use Rattle.entity_hierarchy.specs.entity_data.Entities.{with_actions, world_in}
+use Rattle.entity_hierarchy.specs.entity_data.Keeping.{Entries, kept_in}
+use Rattle.decision_texts.specs.declared.refusal.Refusal.{Refusal}
+use Rattle.entity_hierarchy.specs.entities.Entities.{entity_stated_in}
+use Rattle.decision_texts.specs.Refusals.{no_memory, bad_shape}
 use Rattle.schema_decisions.specs.EntityArrays.{placed}
-use Rattle.policy_checks.specs.decision_texts.Lines.{answer_line}
+use Rattle.decision_texts.specs.Lines.{answer_line}
 use Rattle.schema_decisions.specs.Decisions.{stated, IsAnswerTo}
 use Rattle.schema_decisions.specs.Requests.{IsRequestText}
 

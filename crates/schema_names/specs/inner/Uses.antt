@@ -2,7 +2,7 @@
 -- Source: Cedar reference guide, "Schema JSON format": a common type may be a reference to another.
 use Rattle.std.specs.Prelude.{ℕ, ◌+◌, List, [], ◌∷◌, map, Option, Some, None, if◌then◌else◌}
 use Rattle.std.specs.Str.{bytes_eq}
-use Rattle.place_orders.specs.Orders.{Graph}
+use Rattle.schema_written_types.specs.Orders.{Graph}
 use Rattle.schema_types.specs.Names.{Scope}
 use Rattle.schema_file.specs.StatedViews.{common_view}
 use Rattle.schema_names.specs.Qualifying.{CommonOf, common_in}

@@ -1,12 +1,12 @@
 -- Expressions joined by `&&`, to the right, of which the first have been looked at.
 use Rattle.std.specs.Prelude.{[], Option, Some, None}
-use Rattle.expressions.specs.declared.expr.Expr.{Expr}
-use Rattle.static_types.specs.typing.Types.{StaticType, IsBoolean}
-use Rattle.static_types.specs.typing.Environment.{Environment, TypeFault, unexpected}
-use Rattle.static_types.specs.typing.Learned.{Pairs}
-use Rattle.static_types.specs.typing.Rows.{and_type}
-use Rattle.static_types.specs.typing.Typing.{Types}
-use Rattle.static_types.specs.typing.Faults.{Faults}
+use Rattle.grammar_core.specs.declared.expr.Expr.{Expr}
+use Rattle.typing.specs.Types.{StaticType, IsBoolean}
+use Rattle.typing.specs.Environment.{Environment, ExpressionFault, unexpected}
+use Rattle.typing.specs.Learned.{Pairs}
+use Rattle.typing.specs.Rows.{and_type}
+use Rattle.typing.specs.Typing.{Types}
+use Rattle.typing.specs.Faults.{Faults}
 
 -- the type of those so far, none or of type s, with one of type t behind them
 abbrev pub and_so_far : Option StaticType → StaticType → StaticType
@@ -24,4 +24,4 @@ pub record Leads (env : Environment) (s : Option StaticType) (K : Pairs) (x whol
   pub types : (t : StaticType) (L : Pairs) → Types env K x t L → IsSide s t
       → (M : Pairs) × Types env [] whole (and_so_far s t) M
   pub no_side : (t : StaticType) (L : Pairs) → Types env K x t L → ¬ IsSide s t → Faults env [] whole unexpected
-  pub faults : (n : TypeFault) → Faults env K x n → Faults env [] whole n
+  pub faults : (n : ExpressionFault) → Faults env K x n → Faults env [] whole n

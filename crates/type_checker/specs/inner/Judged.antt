@@ -1,37 +1,37 @@
 -- What answers say of expressions, where memory was not refused: types with what is learned, or faults. `after` are the
 -- pairs that are known then: those that were known before, wherever there is a type.
 use Rattle.std.specs.Prelude.{◌≡◌, ◌≢◌, ◌⊎◌, List, [], ◌∷◌, ◌++◌, map, Vec, Result, Ok, Err, MatchResult}
-use Rattle.expressions.specs.declared.operator.UnaryCall.{UnaryCall}
-use Rattle.expressions.specs.declared.expr.Expr.{Expr}
-use Rattle.expressions.specs.declared.expr.Expr.TheVariants as form
-use Rattle.static_types.specs.typing.Types.{StaticType, true_type, false_type, boolean_type}
-use Rattle.static_types.specs.evaluator.Operators.{TakesAddress}
-use Rattle.static_types.specs.typing.Environment.{Environment, bad_extension_literal}
-use Rattle.static_types.specs.typing.Learned as learned
-use Rattle.static_types.specs.typing.Learned.{Pairs, has_learns}
-use Rattle.static_types.specs.typing.Literals.{ReadsLiteral, TakesText}
-use Rattle.static_types.specs.typing.Rows.{address_test_type, set_literal_type}
-use Rattle.static_types.specs.typing.Typing.{Types, TypesEach}
-use Rattle.static_types.specs.typing.Faults.{Faults, FaultsEach}
-use Rattle.static_types.specs.Views.{static_view, fault_view}
-use Rattle.static_types.specs.declared.static_type.StaticType as built
-use Rattle.static_types.specs.declared.fault.TypeFault.{TypeFault}
-use Rattle.static_types.specs.declared.fault.TypeFault.TheVariants.{NoMemory}
-use Rattle.known_pairs.specs.declared.pair.Pair.{Pair}
+use Rattle.grammar_core.specs.declared.operator.UnaryCall.{UnaryCall}
+use Rattle.grammar_core.specs.declared.expr.Expr.{Expr}
+use Rattle.grammar_core.specs.declared.expr.Expr.TheVariants as form
+use Rattle.typing.specs.Types.{StaticType, true_type, false_type, boolean_type}
+use Rattle.typing.specs.evaluator.Operators.{TakesAddress}
+use Rattle.typing.specs.Environment.{Environment, bad_extension_literal}
+use Rattle.typing.specs.Learned as learned
+use Rattle.typing.specs.Learned.{Pairs, has_learns}
+use Rattle.typing.specs.Literals.{ReadsLiteral, TakesText}
+use Rattle.typing.specs.Rows.{address_test_type, set_literal_type}
+use Rattle.typing.specs.Typing.{Types, TypesEach}
+use Rattle.typing.specs.Faults.{Faults, FaultsEach}
+use Rattle.type_checker.specs.Views.{static_view, fault_view}
+use Rattle.type_checker.specs.declared.static_type.StaticType as built
+use Rattle.type_checker.specs.declared.fault.ExpressionFault.{ExpressionFault}
+use Rattle.type_checker.specs.declared.fault.ExpressionFault.TheVariants.{NoMemory}
+use Rattle.type_capabilities.specs.declared.pair.Pair.{Pair}
 use Rattle.type_checker.specs.declared.typed.Typed.{Typed}
 use Rattle.type_checker.specs.declared.typed.Then.{Then}
 use Rattle.type_checker.specs.declared.typed.Then.TheVariants as then
-use Rattle.known_pairs.specs.Pairs.{pairs}
+use Rattle.type_capabilities.specs.Pairs.{pairs}
 use Rattle.std.specs.declared.alloc.Global.{Global}
 
 -- the pairs of K are known, and the expression is judged
-abbrev pub Judged : Environment → Pairs → Expr → Result Typed TypeFault → Pairs → Type 0
+abbrev pub Judged : Environment → Pairs → Expr → Result Typed ExpressionFault → Pairs → Type 0
 Judged env K x r after =
     MatchResult r (λ t. (after ≡ K) × Types env K x (static_view t.kind) (pairs t.learns.items))
     (λ f. f ≢ NoMemory → Faults env K x (fault_view f))
 
 -- The same where those of L are known too; what is learned has them in front.
-abbrev pub JudgedBehind : Environment → Pairs → Pairs → Expr → Result Typed TypeFault → Pairs → Type 0
+abbrev pub JudgedBehind : Environment → Pairs → Pairs → Expr → Result Typed ExpressionFault → Pairs → Type 0
 JudgedBehind env K L x r after =
     MatchResult r (λ t. (after ≡ K) × ((M : Pairs) × Types env (K ++ L) x (static_view t.kind) M
     × (pairs t.learns.items ≡ L ++ M)))
@@ -39,7 +39,7 @@ JudgedBehind env K L x r after =
 
 -- each of several, in order
 abbrev pub JudgedEach : Environment → Pairs → List Expr
-    → Result (Vec built.StaticType Global) TypeFault → Pairs → Type 0
+    → Result (Vec built.StaticType Global) ExpressionFault → Pairs → Type 0
 JudgedEach env K xs r after =
     MatchResult r (λ ts. (after ≡ K) × TypesEach env K xs (map static_view ts.items))
     (λ f. f ≢ NoMemory → FaultsEach env K xs (fault_view f))
@@ -55,7 +55,7 @@ MembersHave env K xs ts =
     (us : List StaticType) × TypesEach env K xs us × (set_literal_type us ≡ set_literal_type ts)
 
 abbrev pub JudgedMembers : Environment → Pairs → List Expr
-    → Result (Vec built.StaticType Global) TypeFault → Pairs → Type 0
+    → Result (Vec built.StaticType Global) ExpressionFault → Pairs → Type 0
 JudgedMembers env K xs r after =
     MatchResult r (λ ts. (after ≡ K) × MembersHave env K xs (map static_view ts.items))
     (λ f. f ≢ NoMemory → FaultsEach env K xs (fault_view f))
@@ -72,27 +72,27 @@ ThenIs env K a b then.Skipped = (L : Pairs) × Types env K a false_type L
 ThenIs env K a b (then.Only t) = ThenTyped env K a b true_type t
 ThenIs env K a b (then.Both t) = ThenTyped env K a b boolean_type t
 
-abbrev pub ThenJudged : Environment → Pairs → Expr → Expr → Result Then TypeFault → Pairs → Type 0
+abbrev pub ThenJudged : Environment → Pairs → Expr → Expr → Result Then ExpressionFault → Pairs → Type 0
 ThenJudged env K a b r after =
     MatchResult r (λ t. (after ≡ K) × ThenIs env K a b t)
     (λ f. f ≢ NoMemory → (c : Expr) → Faults env K (form.If a b c) (fault_view f))
 
 -- a row's type, which learns nothing
-abbrev pub IsRow : Result built.StaticType TypeFault → Result Typed TypeFault → Type 0
+abbrev pub IsRow : Result built.StaticType ExpressionFault → Result Typed ExpressionFault → Type 0
 IsRow row r = MatchResult r (λ t. (row ≡ Ok t.kind) × (t.learns.items ≡ [])) (λ f. row ≡ Err f)
 
 -- the type of the first, which learns those of L before its own
-abbrev pub AddsLearned : List Pair → Result Typed TypeFault → Result Typed TypeFault → Type 0
+abbrev pub AddsLearned : List Pair → Result Typed ExpressionFault → Result Typed ExpressionFault → Type 0
 AddsLearned L typed r =
     MatchResult r (λ t. (u : Typed) × (typed ≡ Ok u) × (t.kind ≡ u.kind) × (t.learns.items ≡ L ++ u.learns.items))
     (λ f. f ≢ NoMemory → typed ≡ Err f)
 
-abbrev pub IsBranch : (Typed → Then) → Result Typed TypeFault → Result Then TypeFault → Type 0
+abbrev pub IsBranch : (Typed → Then) → Result Typed ExpressionFault → Result Then ExpressionFault → Type 0
 IsBranch branch typed r = MatchResult r (λ b. (u : Typed) × (typed ≡ Ok u) × (b ≡ branch u)) (λ f. typed ≡ Err f)
 
 -- The type of a call with one operand, which is of type s: a literal of the extension that it reads, or a test of an
 -- address.
-abbrev pub CallTyped : UnaryCall → Expr → StaticType → Result built.StaticType TypeFault → Type 0
+abbrev pub CallTyped : UnaryCall → Expr → StaticType → Result built.StaticType ExpressionFault → Type 0
 CallTyped called x s r =
     MatchResult r
     (λ t. ReadsLiteral called x (static_view t) ⊎ (TakesAddress called × (address_test_type s ≡ Ok (static_view t))))
@@ -101,7 +101,7 @@ CallTyped called x s r =
     ⊎ (TakesAddress called × (address_test_type s ≡ Err (fault_view f))))
 
 -- the type of `has`, with what it learns
-abbrev pub IsHasRow : learned.Pair → Result built.StaticType TypeFault → Result Typed TypeFault → Type 0
+abbrev pub IsHasRow : learned.Pair → Result built.StaticType ExpressionFault → Result Typed ExpressionFault → Type 0
 IsHasRow p row r =
     MatchResult r (λ t. (row ≡ Ok t.kind) × (pairs t.learns.items ≡ has_learns (static_view t.kind) p))
     (λ f. f ≢ NoMemory → row ≡ Err f)

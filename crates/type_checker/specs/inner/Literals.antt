@@ -1,6 +1,6 @@
 -- The literal that a borrowed one is.
-use Rattle.expressions.specs.declared.leaf.Literal.{Literal}
-use Rattle.expressions.specs.declared.leaf.Literal.TheVariants as literal
+use Rattle.grammar_core.specs.declared.leaf.Literal.{Literal}
+use Rattle.grammar_core.specs.declared.leaf.Literal.TheVariants as literal
 use Rattle.type_checker.specs.declared.literals.LiteralRef.{LiteralRef}
 use Rattle.type_checker.specs.declared.literals.LiteralRef.TheVariants.{Boolean, Long, Text, Entity}
 

@@ -1,6 +1,6 @@
 -- What `has` learns of its pair.
 use Rattle.std.specs.Prelude.{[], ◌∷◌, Bool, true, false}
-use Rattle.static_types.specs.typing.Learned as learned
+use Rattle.typing.specs.Learned as learned
 
 -- a pair that is learned or not
 abbrev pub if_learned : Bool → learned.Pair → learned.Pairs

@@ -1,22 +1,22 @@
 -- A policy's expression in parts, and what its environments come to in turn.
 use Rattle.std.specs.Prelude.{◌≡◌, ◌≢◌, List, [], ◌∷◌, map, All, Bool, true, Result, Ok, Err}
 use Rattle.std.specs.Bool.{Decides}
-use Rattle.expressions.specs.declared.leaf.Variable.TheVariants.{Principal, Resource}
-use Rattle.expressions.specs.declared.expr.Expr.{Expr}
-use Rattle.static_types.specs.policy_grammar.declared.policy.Scope.{Scope}
-use Rattle.static_types.specs.policy_grammar.Whole.{entity_part, action_part}
-use Rattle.static_types.specs.schema_parts.declared.parts.Environment as given
-use Rattle.static_types.specs.schema.Schemas.{StatedSchema}
-use Rattle.static_types.specs.schema.Views.{environment_view}
-use Rattle.static_types.specs.typing.Types.{false_type}
-use Rattle.static_types.specs.typing.Environment.{Environment, TypeFault}
-use Rattle.static_types.specs.typing.Faults.{Faults}
-use Rattle.static_types.specs.FromSchemas.{typing_environment_of}
-use Rattle.static_types.specs.declared.fault.TypeFault.{TypeFault as FoundFault}
-use Rattle.static_types.specs.declared.static_type.StaticType.{StaticType}
-use Rattle.static_types.specs.Views.{static_view}
-use Rattle.validator.specs.declared.fault.CheckFault.{CheckFault}
-use Rattle.validator.specs.declared.fault.CheckFault.TheVariants.{NoMemory}
+use Rattle.grammar_core.specs.declared.leaf.Variable.TheVariants.{Principal, Resource}
+use Rattle.grammar_core.specs.declared.expr.Expr.{Expr}
+use Rattle.type_checker.specs.policy_grammar.declared.policy.Scope.{Scope}
+use Rattle.type_checker.specs.policy_grammar.Whole.{entity_part, action_part}
+use Rattle.type_checker.specs.schema.declared.parts.Environment as given
+use Rattle.type_checker.specs.schema.Schemas.{StatedSchema}
+use Rattle.type_checker.specs.schema.Views.{environment_view}
+use Rattle.type_checker.specs.typing.Types.{false_type}
+use Rattle.type_checker.specs.typing.Environment.{Environment, ExpressionFault}
+use Rattle.type_checker.specs.typing.Faults.{Faults}
+use Rattle.type_checker.specs.FromSchemas.{typing_environment_of}
+use Rattle.type_checker.specs.declared.fault.ExpressionFault.{ExpressionFault as FoundFault}
+use Rattle.type_checker.specs.declared.static_type.StaticType.{StaticType}
+use Rattle.type_checker.specs.Views.{static_view}
+use Rattle.validator.specs.declared.fault.TypeFault.{TypeFault}
+use Rattle.validator.specs.declared.fault.TypeFault.TheVariants.{NoMemory}
 use Rattle.validator.specs.Faults.{of_typing, of_types}
 use Rattle.validator.specs.Passing.{HasType, HasBooleanType, FirstFaulty}
 
@@ -30,20 +30,20 @@ abbrev pub typed_in : StatedSchema → List given.Environment → List Environme
 typed_in s ps = map (λ p. typing_environment_of s (environment_view p)) ps
 
 -- whether a type that was found is False, or why none was
-abbrev pub ReportsFalse : Result StaticType FoundFault → Result Bool CheckFault → Type 0
+abbrev pub ReportsFalse : Result StaticType FoundFault → Result Bool TypeFault → Type 0
 ReportsFalse (Ok t) (Ok b) = Decides b (static_view t ≡ false_type)
 ReportsFalse (Ok t) (Err f) = ⊥
 ReportsFalse (Err f) (Ok b) = ⊥
 ReportsFalse (Err f) (Err g) = g ≡ of_types f
 
 -- whether the expression is False in the environment, or why it has no type there
-abbrev pub IsJudged : Environment → Expr → Result Bool CheckFault → Type 0
+abbrev pub IsJudged : Environment → Expr → Result Bool TypeFault → Type 0
 IsJudged env x (Ok b) = HasBooleanType x env × Decides b (HasType x false_type env)
-IsJudged env x (Err f) = f ≢ NoMemory → (n : TypeFault) × (f ≡ of_typing n) × Faults env [] x n
+IsJudged env x (Err f) = f ≢ NoMemory → (n : ExpressionFault) × (f ≡ of_typing n) × Faults env [] x n
 
 -- Whether it is False in each of these environments, where `before` says whether it was so in those before them; or
 -- the first fault.
-abbrev pub AreJudged : Expr → Bool → List Environment → Result Bool CheckFault → Type 0
+abbrev pub AreJudged : Expr → Bool → List Environment → Result Bool TypeFault → Type 0
 AreJudged x before envs (Ok b) =
     All (HasBooleanType x) envs × Decides b ((before ≡ true) × All (HasType x false_type) envs)
-AreJudged x before envs (Err f) = f ≢ NoMemory → (n : TypeFault) × (f ≡ of_typing n) × FirstFaulty x envs n
+AreJudged x before envs (Err f) = f ≢ NoMemory → (n : ExpressionFault) × (f ≡ of_typing n) × FirstFaulty x envs n

@@ -4,25 +4,25 @@ use Rattle.std.specs.Prelude.{⊤, Result, Ok, Err}
 use Rattle.std.specs.List.{list_any}
 use Rattle.std.specs.Str.{bytes_eq}
 use Rattle.values.specs.declared.entity_uid.EntityUid.{EntityUid}
-use Rattle.static_types.specs.ancestor_closure.Decided.{is_same}
-use Rattle.expressions.specs.Size.{values_of}
-use Rattle.expressions.specs.declared.leaf.Literal.{Literal}
-use Rattle.expressions.specs.declared.leaf.Literal.TheVariants as literal
-use Rattle.expressions.specs.declared.operator.Unary.{Unary}
-use Rattle.expressions.specs.declared.operator.Unary.TheVariants.{Is}
-use Rattle.expressions.specs.declared.expr.Named.{Named}
-use Rattle.expressions.specs.declared.expr.Expr.{Expr}
-use Rattle.expressions.specs.declared.expr.Expr.TheOpen.{Expr-F}
-use Rattle.expressions.specs.declared.expr.Expr.TheFolds.{fold-Expr}
-use Rattle.static_types.specs.schema.Schemas.{StatedSchema}
-use Rattle.static_types.specs.entities.Entities.{is_action_type}
-use Rattle.validator.specs.declared.fault.CheckFault.{CheckFault}
-use Rattle.validator.specs.declared.fault.CheckFault.TheVariants.{UnknownType, UnknownAction}
+use Rattle.type_checker.specs.ancestor_search.Decided.{is_same}
+use Rattle.grammar_core.specs.Size.{values_of}
+use Rattle.grammar_core.specs.declared.leaf.Literal.{Literal}
+use Rattle.grammar_core.specs.declared.leaf.Literal.TheVariants as literal
+use Rattle.grammar_core.specs.declared.operator.Unary.{Unary}
+use Rattle.grammar_core.specs.declared.operator.Unary.TheVariants.{Is}
+use Rattle.grammar_core.specs.declared.expr.Named.{Named}
+use Rattle.grammar_core.specs.declared.expr.Expr.{Expr}
+use Rattle.grammar_core.specs.declared.expr.Expr.TheOpen.{Expr-F}
+use Rattle.grammar_core.specs.declared.expr.Expr.TheFolds.{fold-Expr}
+use Rattle.type_checker.specs.schema.Schemas.{StatedSchema}
+use Rattle.type_checker.specs.entities.Entities.{is_action_type}
+use Rattle.validator.specs.declared.fault.TypeFault.{TypeFault}
+use Rattle.validator.specs.declared.fault.TypeFault.TheVariants.{UnknownType, UnknownAction}
 use Rattle.validator.specs.Names.{Name, tested_type, entity}
 
 -- nothing, or the first fault
 abbrev pub WalkResult : Type 0
-WalkResult = Result ⊤ CheckFault
+WalkResult = Result ⊤ TypeFault
 
 abbrev pub and_then : WalkResult → WalkResult → WalkResult
 and_then (Ok u) r = r
@@ -32,7 +32,7 @@ abbrev pub in_turn : List WalkResult → WalkResult
 in_turn [] = Ok tt
 in_turn (r ∷ rs) = and_then r (in_turn rs)
 
-abbrev pub or_fault : CheckFault → Bool → WalkResult
+abbrev pub or_fault : TypeFault → Bool → WalkResult
 or_fault f b = if b then Ok tt else Err f
 
 -- whether what may be an action has a type

@@ -4,8 +4,8 @@ use Rattle.std.specs.declared.alloc.Global.{Global}
 use Rattle.std.specs.Borrow.{Bor}
 use Rattle.std.proofs.lemmas.Result.{IfOk-weaker}
 use Rattle.values.specs.declared.entity_uid.EntityUid.{EntityUid}
-use Rattle.evaluator.specs.ancestor_closure.Hierarchy.{names}
-use Rattle.evaluator.specs.ancestor_closure.LeastCycle.{HasNoCycle, IsLeastCycle}
+use Rattle.evaluator.specs.ancestor_search.Hierarchy.{names}
+use Rattle.evaluator.specs.ancestor_search.LeastCycle.{HasNoCycle, IsLeastCycle}
 use Rattle.evaluator.specs.Operators.{world_of}
 use Rattle.authoriser.specs.Answers.{IsAnswer}
 use Rattle.authoriser.specs.Views.{named}

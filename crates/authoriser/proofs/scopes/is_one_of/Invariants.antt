@@ -1,6 +1,6 @@
 use Rattle.std.proofs.Common.{take}
 use Rattle.std.specs.Prelude.{Contains}
-use Rattle.evaluator.specs.ancestor_closure.Hierarchy.{names}
+use Rattle.evaluator.specs.ancestor_search.Hierarchy.{names}
 use Rattle.authoriser.proofs.scopes.is_one_of.Given as goal
 
 -- the entity is none of those so far

@@ -3,7 +3,7 @@ use Rattle.std.proofs.lemmas.Result.{err_from_is_err_and}
 use Rattle.std.specs.Prelude.{is_some}
 use Rattle.serde_json.specs.View.{view}
 use Rattle.values.specs.declared.entity_uid.EntityUid.{EntityUid}
-use Rattle.entity_worlds.specs.Keeping.{kept_in}
+use Rattle.entity_data.specs.Keeping.{kept_in}
 use Rattle.decision_texts.specs.Refusals.{no_memory}
 use Rattle.decision_texts.specs.inner.Stores.{is_among}
 use Rattle.decision_texts.proofs.EntitiesLemmas.{after_new, after_again, after_fault, had}

@@ -1,5 +1,5 @@
 use Rattle.std.proofs.Common.{◌∙◌}
-use Rattle.uid_json.proofs.Adding.{text_is}
+use Rattle.entity_uids.proofs.Adding.{text_is}
 use Rattle.decision_texts.specs.Lines.{answer_json, answer_line}
 use Rattle.decision_texts.proofs.lines.answer_line.Goals as goal
 

@@ -2,9 +2,9 @@ use Rattle.std.proofs.Common.{ap, List, ℕ}
 use Rattle.serde_json.specs.Data.{string}
 use Rattle.values.specs.declared.entity_uid.EntityUid.{EntityUid}
 use Rattle.authoriser.specs.declared.answer.ErringPolicy.{ErringPolicy}
-use Rattle.uid_json.specs.Tokens.{tokens_of}
-use Rattle.uid_json.specs.Uids.{uid_json}
-use Rattle.uid_json.proofs.Adding.{one, then, alike, joined}
+use Rattle.entity_uids.specs.Tokens.{tokens_of}
+use Rattle.entity_uids.specs.Uids.{uid_json}
+use Rattle.entity_uids.proofs.Adding.{one, then, alike, joined}
 use Rattle.decision_texts.specs.Lines.{erring_json, each_json}
 use Rattle.decision_texts.proofs.lines.write_answer.Goals as goal
 

@@ -1,6 +1,6 @@
-use Rattle.uid_json.specs.Uids.{uid_json}
-use Rattle.uid_json.specs.Tokens.{Adds, tokens_of}
-use Rattle.uid_json.proofs.Adding.{one, alike, opened, one_more, whole}
+use Rattle.entity_uids.specs.Uids.{uid_json}
+use Rattle.entity_uids.specs.Tokens.{Adds, tokens_of}
+use Rattle.entity_uids.proofs.Adding.{one, alike, opened, one_more, whole}
 use Rattle.decision_texts.proofs.lines.write_cycle.Goals as goal
 
 pub loop-uid-init : goal.loop-uid-init

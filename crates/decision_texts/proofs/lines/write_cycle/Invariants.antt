@@ -1,6 +1,6 @@
-use Rattle.uid_json.specs.Uids.{uid_json}
-use Rattle.uid_json.specs.Tokens.{Adds}
-use Rattle.uid_json.proofs.Adding.{first_tokens}
+use Rattle.entity_uids.specs.Uids.{uid_json}
+use Rattle.entity_uids.specs.Tokens.{Adds}
+use Rattle.entity_uids.proofs.Adding.{first_tokens}
 use Rattle.decision_texts.proofs.lines.write_cycle.Given as goal
 
 abbrev pub invariant-loop-uid : goal.invariant-loop-uid

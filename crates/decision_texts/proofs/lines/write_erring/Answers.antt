@@ -1,8 +1,8 @@
 use Rattle.std.proofs.Common.{ap, ap₂, List, ℕ}
 use Rattle.serde_json.specs.Data.{string, object, no_members, member}
 use Rattle.std.specs.Prelude.{codes}
-use Rattle.uid_json.specs.Tokens.{tokens_of}
-use Rattle.uid_json.proofs.Adding.{start, then, alike}
+use Rattle.entity_uids.specs.Tokens.{tokens_of}
+use Rattle.entity_uids.proofs.Adding.{start, then, alike}
 use Rattle.decision_texts.proofs.lines.write_erring.Goals as goal
 
 pub returns : goal.returns

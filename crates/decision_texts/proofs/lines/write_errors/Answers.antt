@@ -1,6 +1,6 @@
 use Rattle.decision_texts.specs.Lines.{erring_json}
-use Rattle.uid_json.specs.Tokens.{Adds, tokens_of}
-use Rattle.uid_json.proofs.Adding.{one, alike, opened, one_more, whole}
+use Rattle.entity_uids.specs.Tokens.{Adds, tokens_of}
+use Rattle.entity_uids.proofs.Adding.{one, alike, opened, one_more, whole}
 use Rattle.decision_texts.proofs.lines.write_errors.Goals as goal
 
 pub loop-erring-init : goal.loop-erring-init

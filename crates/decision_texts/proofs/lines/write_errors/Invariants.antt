@@ -1,6 +1,6 @@
 use Rattle.decision_texts.specs.Lines.{erring_json}
-use Rattle.uid_json.specs.Tokens.{Adds}
-use Rattle.uid_json.proofs.Adding.{first_tokens}
+use Rattle.entity_uids.specs.Tokens.{Adds}
+use Rattle.entity_uids.proofs.Adding.{first_tokens}
 use Rattle.decision_texts.proofs.lines.write_errors.Given as goal
 
 abbrev pub invariant-loop-erring : goal.invariant-loop-erring

@@ -1,7 +1,7 @@
 use Rattle.std.proofs.Common.{ap, List, ℕ}
 use Rattle.serde_json.specs.Data.{string}
-use Rattle.uid_json.specs.Tokens.{Adds, tokens_of}
-use Rattle.uid_json.proofs.Adding.{one, alike, opened, one_more, whole}
+use Rattle.entity_uids.specs.Tokens.{Adds, tokens_of}
+use Rattle.entity_uids.proofs.Adding.{one, alike, opened, one_more, whole}
 use Rattle.decision_texts.proofs.lines.write_reason.Goals as goal
 
 pub loop-id-init : goal.loop-id-init

@@ -1,7 +1,7 @@
 use Rattle.std.proofs.Common.{ap, List, ℕ}
 use Rattle.serde_json.specs.Data.{string}
-use Rattle.uid_json.specs.Tokens.{Adds}
-use Rattle.uid_json.proofs.Adding.{first_tokens}
+use Rattle.entity_uids.specs.Tokens.{Adds}
+use Rattle.entity_uids.proofs.Adding.{first_tokens}
 use Rattle.decision_texts.proofs.lines.write_reason.Given as goal
 
 abbrev pub invariant-loop-id : goal.invariant-loop-id

@@ -1,6 +1,6 @@
-use Rattle.typed_values.specs.uid_json.Uids.{uid_json}
-use Rattle.typed_values.proofs.of_uid_json.Appending.{wrote, ends}
-use Rattle.typed_values.proofs.of_uid_json.Nested.{list_begun, list_next, list_ended}
+use Rattle.entity_values.specs.entity_uids.Uids.{uid_json}
+use Rattle.entity_values.proofs.of_entity_uids.Appending.{wrote, ends}
+use Rattle.entity_values.proofs.of_entity_uids.Nested.{list_begun, list_next, list_ended}
 use Rattle.entities.proofs.CanonicalLemmas.{uid_written}
 use Rattle.entities.proofs.canonical.write_parents.Goals as goal
 

@@ -1,5 +1,5 @@
-use Rattle.typed_values.specs.uid_json.Uids.{uid_json}
-use Rattle.typed_values.proofs.of_uid_json.Nested.{IsInList}
+use Rattle.entity_values.specs.entity_uids.Uids.{uid_json}
+use Rattle.entity_values.proofs.of_entity_uids.Nested.{IsInList}
 use Rattle.entities.proofs.canonical.write_parents.Given as goal
 
 -- the parents from here on are left

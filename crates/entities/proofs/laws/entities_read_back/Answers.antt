@@ -1,5 +1,5 @@
 use Rattle.entities.proofs.EntityLemmas.{canonical_is_read, canonical_nests, canonical_is_one, parents_ascend}
-use Rattle.entity_worlds.proofs.UidLemmas.{sorted_set}
+use Rattle.entity_data.proofs.UidLemmas.{sorted_set}
 use Rattle.entities.proofs.UidSetLemmas.{same_members}
 use Rattle.entities.proofs.laws.entities_read_back.Goals as goal
 

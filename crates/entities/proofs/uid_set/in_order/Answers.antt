@@ -3,8 +3,8 @@ use Rattle.std.proofs.lemmas.List.Kept.{Contains-dedup, Contains-from_dedup, IsS
 use Rattle.std.proofs.lemmas.List.Sorted.{Contains-permutation, IsPermutation-sym}
 use Rattle.std.proofs.Common.{◌∙◌}
 use Rattle.values.specs.Names.{uid_cmp-IsTotalOrder}
-use Rattle.entity_worlds.specs.UidSets.{uid_set}
-use Rattle.entity_worlds.proofs.UidLemmas.{sorted_set, ties, is_equivalence}
+use Rattle.entity_data.specs.UidSets.{uid_set}
+use Rattle.entity_data.proofs.UidLemmas.{sorted_set, ties, is_equivalence}
 use Rattle.entities.proofs.UidSetLemmas.{same_members}
 use Rattle.entities.proofs.uid_set.in_order.Goals as goal
 

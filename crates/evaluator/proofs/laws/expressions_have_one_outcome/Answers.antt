@@ -1,4 +1,4 @@
-use Rattle.ancestor_closure.specs.Decided.{reaches}
+use Rattle.ancestor_search.specs.Decided.{reaches}
 use Rattle.evaluator.specs.inner.Computing.{decided_world, meaning}
 use Rattle.evaluator.proofs.Agreeing.{one_outcome}
 use Rattle.evaluator.proofs.Wanting.{nothing_wants_memory}

@@ -1,4 +1,4 @@
-use Rattle.expressions.specs.declared.operator.Binary.TheVariants.{Less}
+use Rattle.grammar_core.specs.declared.operator.Binary.TheVariants.{Less}
 use Rattle.evaluator.proofs.TestsTold.{compare_fails}
 use Rattle.evaluator.proofs.numbers.is_less.Goals as goal
 

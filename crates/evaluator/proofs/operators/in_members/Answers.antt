@@ -2,7 +2,7 @@ use Rattle.std.proofs.Common.{◌≡◌, ◌∙◌, subst, List}
 use Rattle.std.specs.Prelude.{◌⊎◌, ◌↔◌, IsTrue, Contains}
 use Rattle.std.specs.Borrow.{Bor}
 use Rattle.values.specs.declared.entity_uid.EntityUid.{EntityUid}
-use Rattle.ancestor_closure.specs.Hierarchy.{names}
+use Rattle.ancestor_search.specs.Hierarchy.{names}
 use Rattle.evaluator.specs.Operators.{world_of}
 use Rattle.evaluator.specs.inner.Computing.{decided_world, is_in}
 use Rattle.evaluator.proofs.Membership.{within_is, newly_found, found_before, member_judged}

@@ -1,4 +1,4 @@
-use Rattle.service_routes.specs.Routes.{route_stated}
+use Rattle.http_routes.specs.Routes.{route_stated}
 use Rattle.http_service.proofs.Dealt.{unrouted}
 use Rattle.http_service.proofs.handlers.answer.Goals as goal
 

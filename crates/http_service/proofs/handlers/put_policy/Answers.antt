@@ -3,9 +3,8 @@ use Rattle.http_service.proofs.handlers.put_policy.Goals as goal
 
 pub returns-in-Some-clause-reply : goal.returns-in-Some-clause-reply
 returns-in-Some-clause-reply c =
-    put_text c.args.site.now c.put_policy-outcome.new.self c.args.body.now c.args.id.now c.in-Some.policy.now
-    c.put_policy-outcome.result _ _ _ c.in-Some.ensures.0 c.in-Some.ensures.1 c.put_policy-outcome.ensures.puts
-    c.put_policy-outcome.ensures.same c.report_put.ensures.status c.report_put.ensures.body
+    put_text c.args.site.now c.reply_to.new.site c.args.body.now c.args.id.now c.in-Some.policy.now _ _ _ c.in-Some.ensures.0
+    c.in-Some.ensures.1 c.reply_to.ensures.reply
 
 pub returns-in-None-clause-reply : goal.returns-in-None-clause-reply
 returns-in-None-clause-reply c =

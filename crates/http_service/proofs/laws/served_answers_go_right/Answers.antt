@@ -1,5 +1,5 @@
 use Rattle.std.proofs.Common.{[], ◌∷◌, refl}
-use Rattle.site_runs.specs.site.Seen.{schema_of, store_in}
+use Rattle.http_replies.specs.site_steps.Seen.{schema_of, store_in}
 use Rattle.http_service.proofs.laws.served_answers_go_right.Goals as goal
 
 pub returns : goal.returns

@@ -4,7 +4,7 @@ use Rattle.std.specs.Io.KnownBytes.{Consumes}
 use Rattle.std.proofs.KnownBytes.{Consumes-trans, Consumes-kept}
 use Rattle.http_framing.specs.Reply.{IsBadReply, IsReplyAt, IsUnfinishedReply, StaysUnfinishedReply}
 use Rattle.http_framing.proofs.OneReply.{nothing_unfinished, stays_on, unfinished_short, unfinished_yet}
-use Rattle.counted_devices.proofs.LastCall.{FailsAtLast-now}
+use Rattle.http_devices.proofs.LastCall.{FailsAtLast-now}
 use Rattle.http_streams.proofs.fetch.read_whole.Goals as goal
 
 pub turns-init : goal.turns-init

@@ -4,7 +4,7 @@ use Rattle.http_framing.specs.Request.{IsRefused}
 use Rattle.http_streams.specs.Stream.{Exchanges}
 use Rattle.std.proofs.KnownBytes.{Appends-nil, Appends-trans}
 use Rattle.http_streams.proofs.StreamLemmas.{Serves-none, Serves-push, Ends-after, Ends-now, Stops-after, Stops-now, Exchanges-at, Halts-at}
-use Rattle.counted_devices.proofs.LastCall.{FailsAtLast-from}
+use Rattle.http_devices.proofs.LastCall.{FailsAtLast-from}
 use Rattle.http_streams.proofs.serve.answer_all.Goals as goal
 
 pub requests-init : goal.requests-init

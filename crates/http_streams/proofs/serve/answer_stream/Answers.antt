@@ -5,7 +5,7 @@ use Rattle.http_framing.specs.Request.{IsUnfinished, StaysUnfinished}
 use Rattle.http_streams.specs.Stream.{Rests, Serves}
 use Rattle.std.proofs.KnownBytes.{Appends-trans, Consumes-trans, Consumes-kept}
 use Rattle.http_streams.proofs.StreamLemmas.{Serves-read, Serves-then, Ends-after, Rests-from, Stops-after}
-use Rattle.counted_devices.proofs.LastCall.{FailsAtLast-from, FailsAtLast-now}
+use Rattle.http_devices.proofs.LastCall.{FailsAtLast-from, FailsAtLast-now}
 use Rattle.http_framing.proofs.OneRequest.{nothing_unfinished, stays_on, unfinished_yet}
 use Rattle.http_streams.proofs.serve.answer_stream.Goals as goal
 

@@ -1,5 +1,5 @@
 use Rattle.std.proofs.Common.{ap, sym, ◌∙◌, ◌-◌, length, arith}
-use Rattle.expressions.specs.declared.expr.Expr.TheVariants as core
+use Rattle.grammar_core.specs.declared.expr.Expr.TheVariants as core
 use Rattle.policy_grammar.specs.Conditions.{condition_of}
 use Rattle.policy_grammar.proofs.Joining.{asks-more, stands-at}
 use Rattle.policy_grammar.proofs.conditions.build_conditions.Goals as goal

@@ -1,6 +1,6 @@
 use Rattle.std.proofs.Common.{ap, sym, ◌∙◌}
-use Rattle.text_trees.specs.desugaring.Core.{core_of}
-use Rattle.text_trees.specs.desugaring.Faults.{faults_of}
+use Rattle.grammar_desugaring.specs.Core.{core_of}
+use Rattle.grammar_desugaring.specs.Faults.{faults_of}
 use Rattle.policy_grammar.specs.inner.Parts.{judged_by}
 use Rattle.policy_grammar.proofs.Joining.{judged-asked}
 use Rattle.policy_grammar.proofs.conditions.judge_condition.Goals as goal

@@ -1,5 +1,5 @@
 use Rattle.std.proofs.Common.{ap, sym, refl, ◌∙◌, ◌-◌, length, arith}
-use Rattle.text_trees.specs.desugaring.Sums.{paired}
+use Rattle.grammar_desugaring.specs.Sums.{paired}
 use Rattle.policy_grammar.proofs.Joining.{judged_one, judged-none, judged-last, judged-before, stands-at}
 use Rattle.policy_grammar.proofs.conditions.judge_conditions.Goals as goal
 

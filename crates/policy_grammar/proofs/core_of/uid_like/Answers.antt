@@ -1,7 +1,7 @@
 use Rattle.std.proofs.Common.{ℕ, List, ◌∙◌, ap}
-use Rattle.text_trees.specs.policy_tokens.Lexing.{spelling_of}
+use Rattle.grammar_desugaring.specs.grammar_tokens.Lexing.{spelling_of}
 use Rattle.values.specs.declared.entity_uid.EntityUid.{EntityUid}
-use Rattle.text_trees.specs.desugaring.Meaning.{path_name}
+use Rattle.grammar_desugaring.specs.Meaning.{path_name}
 use Rattle.policy_grammar.proofs.Lists.{text-kind}
 use Rattle.policy_grammar.proofs.core_of.uid_like.Goals as goal
 

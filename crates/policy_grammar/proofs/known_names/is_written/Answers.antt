@@ -2,11 +2,11 @@ use Rattle.std.proofs.Common.{◌≡◌, ◌∙◌, ℕ, List, [], map, sym, ap,
 use Rattle.std.specs.Str.{bytes_eq}
 use Rattle.std.proofs.lemmas.Slice.Eq.{bytes_eq-Decides}
 use Rattle.plain.specs.Words.{joined_path}
-use Rattle.text_trees.specs.policy_tokens.Lexing.{spelling_of}
-use Rattle.text_trees.specs.token_readers.Grammar.{identifiers}
-use Rattle.text_trees.specs.token_readers.declared.tree.PathTree.{PathTree}
-use Rattle.text_trees.specs.desugaring.Meaning.{path_name}
-use Rattle.text_trees.proofs.of_desugaring.WellFormedLemmas.{token_in}
+use Rattle.grammar_desugaring.specs.grammar_tokens.Lexing.{spelling_of}
+use Rattle.grammar_desugaring.specs.grammar_tokens.Grammar.{identifiers}
+use Rattle.grammar_desugaring.specs.grammar_tokens.declared.tree.PathTree.{PathTree}
+use Rattle.grammar_desugaring.specs.Meaning.{path_name}
+use Rattle.grammar_desugaring.proofs.WellFormedLemmas.{token_in}
 use Rattle.policy_grammar.proofs.known_names.is_written.Goals as goal
 
 pub spelling-requires : goal.spelling-requires

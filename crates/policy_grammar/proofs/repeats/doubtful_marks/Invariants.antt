@@ -1,5 +1,5 @@
 use Rattle.std.proofs.Common.{◌≡◌, ◌++◌, drop}
-use Rattle.text_trees.specs.desugaring.Repeats.{abstract_names}
+use Rattle.grammar_desugaring.specs.Repeats.{abstract_names}
 use Rattle.policy_grammar.specs.inner.Parts.{doubtful_marks}
 use Rattle.policy_grammar.proofs.repeats.doubtful_marks.Given as goal
 

@@ -1,6 +1,6 @@
 use Rattle.std.proofs.Common.{◌≡◌, IfOk, ap, arith, subst, ◌∙◌}
-use Rattle.text_trees.specs.desugaring.Refused.{least}
-use Rattle.text_trees.specs.desugaring.Repeats.{repeat_faults, abstract_names}
+use Rattle.grammar_desugaring.specs.Refused.{least}
+use Rattle.grammar_desugaring.specs.Repeats.{repeat_faults, abstract_names}
 use Rattle.policy_grammar.proofs.Doubtful.{doubtful-enough}
 use Rattle.policy_grammar.proofs.Refusing.{names-long}
 use Rattle.policy_grammar.proofs.repeats.repeated_name.Goals as goal

@@ -2,7 +2,7 @@ use Rattle.std.proofs.Common.{subst, IfErr}
 use Rattle.policy_grammar.specs.CoreOf.{AreNamesOf}
 use Rattle.plain.specs.Refused.{OrNoMemory}
 use Rattle.policy_grammar.specs.PolicyText.{HaveNoPolicies}
-use Rattle.text_trees.specs.declared.fault.ReadFault.TheVariants as fault
+use Rattle.policy_grammar.specs.declared.fault.ReadFault.TheVariants as fault
 use Rattle.policy_grammar.proofs.Refusing.{file-refused}
 use Rattle.policy_grammar.proofs.texts.parse_policies.Goals as goal
 

@@ -1,7 +1,7 @@
 use Rattle.std.proofs.Common.{IfOk, IfErr, sym, subst}
 use Rattle.plain.specs.Refused.{OrNoMemory}
 use Rattle.policy_grammar.specs.PolicyText.{IsPolicyText, IsPolicyRefused}
-use Rattle.text_trees.specs.declared.fault.ReadFault.TheVariants as fault
+use Rattle.policy_grammar.specs.declared.fault.ReadFault.TheVariants as fault
 use Rattle.policy_grammar.proofs.Refusing.{policy_read, policy_refused}
 use Rattle.policy_grammar.proofs.texts.parse_policy.Goals as goal
 

@@ -1,7 +1,7 @@
 use Rattle.std.proofs.Common.{◌≡◌, [], All, inl, inr, map, refl, sym, subst, ◌∙◌}
 use Rattle.std.specs.List.{AllByRecursion, flat_map}
-use Rattle.text_trees.specs.desugaring.Refused.{least}
-use Rattle.text_trees.specs.desugaring.Repeats.{repeat_faults}
+use Rattle.grammar_desugaring.specs.Refused.{least}
+use Rattle.grammar_desugaring.specs.Repeats.{repeat_faults}
 use Rattle.policy_grammar.specs.CoreOf.{AreNamesOf}
 use Rattle.policy_grammar.specs.Limits.{IsSmallTree, IsId}
 use Rattle.policy_grammar.specs.PolicyText.{tree_faults, file_faults}

@@ -1,5 +1,5 @@
 use Rattle.std.proofs.Common.{◌≡◌, subst}
-use Rattle.text_trees.specs.desugaring.Measured.{of}
+use Rattle.grammar_desugaring.specs.Measured.{of}
 use Rattle.policy_grammar.specs.Conditions.{conditions_of, condition_faults}
 use Rattle.policy_grammar.proofs.Telling.{told-one}
 use Rattle.policy_grammar.proofs.verdict.judge_policy.Goals as goal

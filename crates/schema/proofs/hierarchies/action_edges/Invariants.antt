@@ -1,6 +1,6 @@
 use Rattle.std.proofs.Common.{◌≡◌, map, drop}
-use Rattle.schema_parts.specs.ancestor_closure.Hierarchy.{no_parents}
-use Rattle.schema_parts.specs.ancestor_closure.contracts.searched.SearchedAncestry.TheImpl as searched
+use Rattle.ancestor_search.specs.Hierarchy.{no_parents}
+use Rattle.ancestor_search.specs.contracts.searched.SearchedAncestry.TheImpl as searched
 use Rattle.schema_names.specs.FoundViews.{found_action_view}
 use Rattle.schema.specs.Schemas.{with_actions}
 use Rattle.schema.proofs.hierarchies.action_edges.Given as goal

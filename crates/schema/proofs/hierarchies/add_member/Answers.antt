@@ -1,5 +1,5 @@
 use Rattle.std.proofs.Common.{sym, ap, ◌∙◌}
-use Rattle.schema_parts.specs.ancestor_closure.contracts.searched.SearchedAncestry.TheImpl as searched
+use Rattle.ancestor_search.specs.contracts.searched.SearchedAncestry.TheImpl as searched
 use Rattle.values.specs.Names.{uid_cmp-IsAntisymmetric}
 use Rattle.schema_names.specs.FoundViews.{found_action_view}
 use Rattle.schema.specs.inner.Making.{MemberMay, MemberMust}

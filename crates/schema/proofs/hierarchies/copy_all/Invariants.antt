@@ -1,5 +1,5 @@
 use Rattle.std.proofs.Common.{◌≡◌, take}
-use Rattle.schema_parts.specs.ancestor_closure.Hierarchy.{names}
+use Rattle.ancestor_search.specs.Hierarchy.{names}
 use Rattle.schema.proofs.hierarchies.copy_all.Given as goal
 
 abbrev pub invariant-loop-uid : goal.invariant-loop-uid

@@ -1,6 +1,6 @@
 use Rattle.std.proofs.Common.{map}
 use Rattle.std.specs.Prelude.{⊤}
-use Rattle.schema_parts.specs.ancestor_closure.contracts.searched.SearchedAncestry.TheImpl as searched
+use Rattle.ancestor_search.specs.contracts.searched.SearchedAncestry.TheImpl as searched
 use Rattle.std.specs.BTreeMap.{get}
 use Rattle.values.specs.Names.{uid_cmp}
 use Rattle.schema_names.specs.FoundViews.{found_action_view}

@@ -1,7 +1,7 @@
 use Rattle.std.proofs.Common.{◌∙◌, ◌+◌, List, map, drop, sym, ap}
 use Rattle.std.proofs.lemmas.List.{drop_all}
-use Rattle.schema_parts.specs.ancestor_closure.Hierarchy.{Parents}
-use Rattle.schema_parts.specs.ancestor_closure.contracts.searched.SearchedAncestry.TheImpl as searched
+use Rattle.ancestor_search.specs.Hierarchy.{Parents}
+use Rattle.ancestor_search.specs.contracts.searched.SearchedAncestry.TheImpl as searched
 use Rattle.schema_names.specs.FoundViews.{found_entity_type_view}
 use Rattle.schema_names.specs.declared.qualifying.FoundEntityType.{FoundEntityType}
 use Rattle.schema.specs.Schemas.{with_types}

@@ -4,7 +4,7 @@ use Rattle.std.specs.Borrow.{Bor}
 use Rattle.std.specs.BTreeMap.{get}
 use Rattle.values.specs.declared.entity_uid.EntityUid.{EntityUid}
 use Rattle.values.specs.Names.{uid_cmp}
-use Rattle.schema_parts.specs.ancestor_closure.Hierarchy.{names}
+use Rattle.ancestor_search.specs.Hierarchy.{names}
 use Rattle.schema.specs.inner.Numbering.{IsNumbering}
 use Rattle.schema.proofs.numbering.above_each.Goals as goal
 

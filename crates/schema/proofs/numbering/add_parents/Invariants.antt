@@ -1,6 +1,6 @@
 use Rattle.std.proofs.Common.{List, [], drop}
 use Rattle.std.specs.BTreeMap.{get}
-use Rattle.schema_parts.specs.number_spans.declared.spans.Span.{Span}
+use Rattle.schema.specs.declared.spans.Span.{Span}
 use Rattle.values.specs.Names.{uid_cmp}
 use Rattle.schema.specs.inner.Numbering.{AddsParents}
 use Rattle.schema.proofs.numbering.add_parents.Given as goal

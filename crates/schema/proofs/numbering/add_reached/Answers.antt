@@ -1,7 +1,7 @@
 use Rattle.std.proofs.Common.{List, Option, ◌∙◌, refl, sym, ap}
 use Rattle.std.specs.Prelude.{option_map}
 use Rattle.std.specs.Borrow.{Bor}
-use Rattle.schema_parts.specs.number_spans.declared.spans.Span.{Span}
+use Rattle.schema.specs.declared.spans.Span.{Span}
 use Rattle.schema.proofs.NumberLemmas.{has_spans}
 use Rattle.schema.proofs.numbering.add_reached.Goals as goal
 

@@ -1,8 +1,8 @@
 use Rattle.std.proofs.Common.{List, ap, length, sym, subst}
 use Rattle.std.specs.BTreeMap.{get}
-use Rattle.schema_parts.specs.number_spans.declared.spans.Span.{Span}
-use Rattle.schema_parts.specs.ancestor_closure.Hierarchy.{names}
-use Rattle.schema_parts.specs.ancestor_closure.contracts.searched.SearchedAncestry.TheImpl as searched
+use Rattle.schema.specs.declared.spans.Span.{Span}
+use Rattle.ancestor_search.specs.Hierarchy.{names}
+use Rattle.ancestor_search.specs.contracts.searched.SearchedAncestry.TheImpl as searched
 use Rattle.values.specs.Names.{uid_cmp}
 use Rattle.schema.specs.inner.Numbering.{KeepsAbove}
 use Rattle.schema.proofs.NumberLemmas.{apart, none_reached, reaches_next, one_longer, all_reached}

@@ -1,5 +1,5 @@
 use Rattle.std.proofs.Common.{◌++◌, refl}
-use Rattle.schema_parts.specs.ancestor_closure.Hierarchy.{names}
+use Rattle.ancestor_search.specs.Hierarchy.{names}
 use Rattle.schema.proofs.NumberLemmas.{names_step, names_end}
 use Rattle.schema.proofs.numbering.append_all.Goals as goal
 

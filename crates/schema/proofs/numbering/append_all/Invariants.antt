@@ -1,5 +1,5 @@
 use Rattle.std.proofs.Common.{◌≡◌, ◌++◌, drop}
-use Rattle.schema_parts.specs.ancestor_closure.Hierarchy.{names}
+use Rattle.ancestor_search.specs.Hierarchy.{names}
 use Rattle.schema.proofs.numbering.append_all.Given as goal
 
 -- what there is, and what is left, make the whole

@@ -2,7 +2,7 @@ use Rattle.std.proofs.Common.{List, sym, subst}
 use Rattle.std.specs.Prelude.{Contains}
 use Rattle.std.proofs.lemmas.List.Elements.{Contains-append_right}
 use Rattle.values.specs.declared.entity_uid.EntityUid.{EntityUid}
-use Rattle.schema_parts.specs.ancestor_closure.Hierarchy.{names}
+use Rattle.ancestor_search.specs.Hierarchy.{names}
 use Rattle.schema.proofs.numbering.in_order.Goals as goal
 
 pub returns : goal.returns

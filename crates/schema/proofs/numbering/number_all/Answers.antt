@@ -4,7 +4,7 @@ use Rattle.std.specs.BTreeMap.{get}
 use Rattle.std.specs.Borrow.{Bor}
 use Rattle.values.specs.declared.entity_uid.EntityUid.{EntityUid}
 use Rattle.values.specs.Names.{uid_cmp}
-use Rattle.schema_parts.specs.ancestor_closure.Hierarchy.{names}
+use Rattle.ancestor_search.specs.Hierarchy.{names}
 use Rattle.schema.proofs.FillingLemmas.{adds_first, each_step, each_end}
 use Rattle.schema.proofs.NumberLemmas.{given, all_given}
 use Rattle.schema.proofs.numbering.number_all.Goals as goal

@@ -1,7 +1,7 @@
 use Rattle.std.proofs.Common.{None, drop}
 use Rattle.std.specs.BTreeMap.{get}
 use Rattle.values.specs.Names.{uid_cmp}
-use Rattle.schema_parts.specs.ancestor_closure.Hierarchy.{names}
+use Rattle.ancestor_search.specs.Hierarchy.{names}
 use Rattle.schema.specs.inner.Numbering.{Numbers, IsNumbered}
 use Rattle.schema.proofs.NumberLemmas.{Gives}
 use Rattle.schema.proofs.numbering.number_all.Given as goal

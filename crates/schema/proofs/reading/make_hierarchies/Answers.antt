@@ -2,8 +2,8 @@ use Rattle.std.proofs.Common.{List, map, subst}
 use Rattle.std.specs.BTreeMap.{get}
 use Rattle.values.specs.declared.entity_uid.EntityUid.{EntityUid}
 use Rattle.values.specs.Names.{uid_cmp}
-use Rattle.schema_parts.specs.ancestor_closure.Hierarchy.{Parents, no_parents}
-use Rattle.schema_parts.specs.ancestor_closure.contracts.searched.SearchedAncestry.TheImpl as searched
+use Rattle.ancestor_search.specs.Hierarchy.{Parents, no_parents}
+use Rattle.ancestor_search.specs.contracts.searched.SearchedAncestry.TheImpl as searched
 use Rattle.schema_names.specs.FoundViews.{found_view, found_entity_type_view, found_action_view}
 use Rattle.schema_names.specs.declared.qualifying.FoundEntityType.{FoundEntityType}
 use Rattle.schema_names.specs.declared.qualifying.FoundAction.{FoundAction}

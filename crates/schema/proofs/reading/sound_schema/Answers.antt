@@ -1,9 +1,9 @@
 use Rattle.std.proofs.Common.{List, map, subst}
 use Rattle.std.proofs.lemmas.Result.{err_from_is_err_and, MatchResult-weaker}
-use Rattle.written_types.specs.Knowledge.{AreWritten}
+use Rattle.schema_written_types.specs.Knowledge.{AreWritten}
 use Rattle.schema_types.specs.Outcome.{CommonsRefused, SizesRefused}
 use Rattle.schema_types.specs.QualifiedViews.{found_common_view}
-use Rattle.written_types.specs.TableViews.{knowledge}
+use Rattle.schema_written_types.specs.TableViews.{knowledge}
 use Rattle.schema_types.specs.declared.qualified.FoundCommon.{FoundCommon}
 use Rattle.schema_names.specs.FoundViews.{found_view}
 use Rattle.schema.proofs.SoundLemmas.{all_end, commons_refused, edges_refused, sizes_refused, types_refused}

@@ -1,10 +1,10 @@
 use Rattle.std.proofs.Common.{subst}
 use Rattle.std.specs.Prelude.{IfOk}
-use Rattle.entity_store.specs.authoriser.Answers.{IsAnswer}
-use Rattle.entity_store.specs.authoriser.Views.{named}
-use Rattle.entity_store.specs.entity_worlds.Entities.{world_in}
-use Rattle.entity_store.specs.Entities.{entities_under}
-use Rattle.entity_store.specs.entity_worlds.Keeping.{kept_in}
+use Rattle.entity_hierarchy.specs.authoriser.Answers.{IsAnswer}
+use Rattle.entity_hierarchy.specs.authoriser.Views.{named}
+use Rattle.entity_hierarchy.specs.entity_data.Entities.{world_in}
+use Rattle.entity_hierarchy.specs.Entities.{entities_under}
+use Rattle.entity_hierarchy.specs.entity_data.Keeping.{kept_in}
 use Rattle.schema_decisions.proofs.deciding.answer_over.Goals as goal
 
 pub returns : goal.returns

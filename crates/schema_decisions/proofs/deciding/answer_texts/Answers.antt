@@ -1,5 +1,5 @@
 use Rattle.std.proofs.lemmas.Result.{IfOk-weaker, IfErr-weaker}
-use Rattle.entity_store.specs.schema.Views.{schema_view}
+use Rattle.entity_hierarchy.specs.schema.Views.{schema_view}
 use Rattle.schema_decisions.proofs.DecidedLemmas.{answered, unanswered}
 use Rattle.schema_decisions.proofs.deciding.answer_texts.Goals as goal
 

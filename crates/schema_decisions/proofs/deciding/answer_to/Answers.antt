@@ -1,6 +1,6 @@
 use Rattle.std.proofs.Common.{ap}
-use Rattle.entity_store.specs.authoriser.Views.{named}
-use Rattle.entity_store.specs.schema.Views.{schema_view}
+use Rattle.entity_hierarchy.specs.authoriser.Views.{named}
+use Rattle.entity_hierarchy.specs.schema.Views.{schema_view}
 use Rattle.schema_decisions.specs.inner.Stores.{world_held}
 use Rattle.schema_decisions.proofs.DecidedLemmas.{in_order_answered}
 use Rattle.schema_decisions.proofs.deciding.answer_to.Goals as goal

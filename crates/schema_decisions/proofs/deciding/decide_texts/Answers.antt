@@ -1,5 +1,5 @@
 use Rattle.std.proofs.lemmas.Result.{err_from_is_err_and, IfErr-weaker}
-use Rattle.entity_store.specs.schema.Views.{schema_view}
+use Rattle.entity_hierarchy.specs.schema.Views.{schema_view}
 use Rattle.schema_decisions.specs.Decisions.{by_policies}
 use Rattle.schema_decisions.proofs.DecidedLemmas.{no_question}
 use Rattle.schema_decisions.proofs.deciding.decide_texts.Goals as goal

@@ -2,9 +2,9 @@ use Rattle.std.proofs.Common.{◌≡◌, ◌∙◌, sym, ap, true, false, not, E
 use Rattle.std.proofs.lemmas.Result.{err_from_is_err_and}
 use Rattle.std.specs.Prelude.{is_some}
 use Rattle.serde_json.specs.View.{view}
-use Rattle.entity_store.specs.schema.Views.{schema_view}
-use Rattle.entity_store.specs.entity_worlds.Keeping.{kept_in}
-use Rattle.policy_checks.specs.decision_texts.Refusals.{no_memory}
+use Rattle.entity_hierarchy.specs.schema.Views.{schema_view}
+use Rattle.entity_hierarchy.specs.entity_data.Keeping.{kept_in}
+use Rattle.decision_texts.specs.Refusals.{no_memory}
 use Rattle.schema_decisions.specs.inner.Stores.{is_among}
 use Rattle.schema_decisions.proofs.ArrayLemmas.{after_new, after_again, after_fault, had}
 use Rattle.schema_decisions.proofs.StoreLemmas.{holds_more, has_stated}

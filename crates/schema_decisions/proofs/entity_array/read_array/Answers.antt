@@ -1,10 +1,10 @@
 use Rattle.std.proofs.Common.{◌∙◌, ◌++◌, ◌∷◌, [], None, refl, sym, ap, Ok, Err, arith}
 use Rattle.serde_json.specs.View.{view}
-use Rattle.policy_checks.specs.json_values.Arrays.{to_come}
-use Rattle.policy_checks.proofs.of_json_values.Readings.{value_told, fewer_left, end_told, not_json_told, begins}
-use Rattle.policy_checks.proofs.of_json_values.Readings.{goes_on, ends, fails, refused}
-use Rattle.policy_checks.specs.decision_texts.Refusals.{no_memory, bad_shape}
-use Rattle.entity_store.specs.schema.Views.{schema_view}
+use Rattle.decision_texts.specs.json_values.Arrays.{to_come}
+use Rattle.decision_texts.proofs.of_json_values.Readings.{value_told, fewer_left, end_told, not_json_told, begins}
+use Rattle.decision_texts.proofs.of_json_values.Readings.{goes_on, ends, fails, refused}
+use Rattle.decision_texts.specs.Refusals.{no_memory, bad_shape}
+use Rattle.entity_hierarchy.specs.schema.Views.{schema_view}
 use Rattle.schema_decisions.specs.EntityArrays.{entity_at}
 use Rattle.schema_decisions.proofs.ArrayLemmas.{at_next}
 use Rattle.schema_decisions.proofs.entity_array.read_array.Goals as goal

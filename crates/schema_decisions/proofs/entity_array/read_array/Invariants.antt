@@ -1,8 +1,8 @@
 use Rattle.std.proofs.Common.{◌+◌, ◌≤◌, List, length}
-use Rattle.policy_checks.specs.json_values.Arrays.{to_come}
-use Rattle.policy_checks.proofs.of_json_values.Readings.{SoFar}
-use Rattle.entity_store.specs.entity_worlds.declared.entity.Entity.{Entity}
-use Rattle.entity_store.specs.schema.Views.{schema_view}
+use Rattle.decision_texts.specs.json_values.Arrays.{to_come}
+use Rattle.decision_texts.proofs.of_json_values.Readings.{SoFar}
+use Rattle.entity_hierarchy.specs.entity_data.declared.entity.Entity.{Entity}
+use Rattle.entity_hierarchy.specs.schema.Views.{schema_view}
 use Rattle.schema_decisions.specs.EntityArrays.{entity_at}
 use Rattle.schema_decisions.specs.inner.Stores.{Holds}
 use Rattle.schema_decisions.proofs.entity_array.read_array.Given as goal

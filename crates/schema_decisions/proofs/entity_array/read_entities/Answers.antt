@@ -1,8 +1,8 @@
 use Rattle.std.proofs.Common.{◌∙◌, None, Err, sym, ap, subst}
-use Rattle.policy_checks.specs.json_values.Arrays.{each_of}
-use Rattle.policy_checks.proofs.of_json_values.Readings.{array_begun, none_begun}
-use Rattle.policy_checks.specs.decision_texts.Refusals.{bad_shape}
-use Rattle.entity_store.specs.schema.Views.{schema_view}
+use Rattle.decision_texts.specs.json_values.Arrays.{each_of}
+use Rattle.decision_texts.proofs.of_json_values.Readings.{array_begun, none_begun}
+use Rattle.decision_texts.specs.Refusals.{bad_shape}
+use Rattle.entity_hierarchy.specs.schema.Views.{schema_view}
 use Rattle.schema_decisions.specs.EntityArrays.{entity_at}
 use Rattle.schema_decisions.specs.inner.Stores.{ReadsStore}
 use Rattle.schema_decisions.proofs.ArrayLemmas.{array_read}

@@ -1,4 +1,4 @@
-use Rattle.entity_store.specs.schema.Views.{schema_view}
+use Rattle.entity_hierarchy.specs.schema.Views.{schema_view}
 use Rattle.schema_decisions.proofs.DecidedLemmas.{kept_on, refused_on, passing, not_passing}
 use Rattle.schema_decisions.proofs.policies.passing_policies.Goals as goal
 

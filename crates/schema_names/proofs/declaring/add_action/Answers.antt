@@ -1,4 +1,4 @@
-use Rattle.schema_file.specs.named_types.Actions.{action_type, action_uid}
+use Rattle.schema_file.specs.schema_types.Actions.{action_type, action_uid}
 use Rattle.schema_names.proofs.AddLemmas.{uid_added}
 use Rattle.schema_names.proofs.declaring.add_action.Goals as goal
 

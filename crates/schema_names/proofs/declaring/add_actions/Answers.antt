@@ -2,7 +2,7 @@ use Rattle.std.proofs.Common.{◌+◌, List, map, drop, sym, subst, refl}
 use Rattle.std.proofs.lemmas.List.{drop_all}
 use Rattle.std.specs.Ordering.{is_eq}
 use Rattle.values.specs.Names.{uid_cmp}
-use Rattle.schema_file.specs.named_types.Actions.{action_type, action_uid}
+use Rattle.schema_file.specs.schema_types.Actions.{action_type, action_uid}
 use Rattle.schema_names.specs.inner.Adding.{has_uid, Adds, any_uid}
 use Rattle.schema_file.specs.declared.stated.StatedAction.{StatedAction}
 use Rattle.schema_file.specs.StatedViews.{action_view}

@@ -1,7 +1,7 @@
 use Rattle.std.proofs.Common.{map, drop}
 use Rattle.std.specs.BTreeSet.{BTreeSet}
 use Rattle.values.specs.declared.entity_uid.EntityUid.{EntityUid}
-use Rattle.schema_file.specs.named_types.Actions.{action_type, action_uid}
+use Rattle.schema_file.specs.schema_types.Actions.{action_type, action_uid}
 use Rattle.schema_names.specs.inner.Adding.{has_uid, Adds, any_uid}
 use Rattle.schema_file.specs.StatedViews.{action_view}
 use Rattle.schema_names.proofs.declaring.add_actions.Given as goal

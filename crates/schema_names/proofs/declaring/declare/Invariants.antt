@@ -1,5 +1,5 @@
 use Rattle.std.proofs.Common.{map, drop}
-use Rattle.schema_file.specs.named_types.declared.names.Names.{Names}
+use Rattle.schema_file.specs.schema_types.declared.names.Names.{Names}
 use Rattle.schema_file.specs.StatedViews.{namespace_view}
 use Rattle.schema_names.specs.inner.Adding.{AddsAll, Declares}
 use Rattle.schema_names.proofs.declaring.declare.Given as goal

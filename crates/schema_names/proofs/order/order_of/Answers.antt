@@ -1,7 +1,7 @@
 use Rattle.std.proofs.Common.{◌∙◌, List, Vec, Global, ℕ, IfOk, ap, map, subst}
 use Rattle.std.specs.BTreeMap.{get_by_text}
-use Rattle.place_orders.specs.Orders.{Graph, graph_of, IsEndsFirst}
-use Rattle.schema_file.specs.named_types.NamesViews.{scope_of}
+use Rattle.schema_written_types.specs.Orders.{Graph, graph_of, IsEndsFirst}
+use Rattle.schema_file.specs.schema_types.NamesViews.{scope_of}
 use Rattle.schema_names.specs.inner.Uses.{listed_view}
 use Rattle.schema_names.proofs.UsesLemmas.{are_uses}
 use Rattle.schema_names.proofs.order.order_of.Goals as goal

@@ -1,5 +1,5 @@
 use Rattle.std.specs.BTreeMap.{get_by_text}
-use Rattle.schema_file.specs.named_types.NamesViews.{scope_of}
+use Rattle.schema_file.specs.schema_types.NamesViews.{scope_of}
 use Rattle.schema_names.proofs.UsesLemmas.{uses_step, uses_done}
 use Rattle.schema_names.proofs.order.uses_of.Goals as goal
 

@@ -1,7 +1,7 @@
 use Rattle.std.proofs.Common.{◌≡◌, ◌++◌, drop}
 use Rattle.std.specs.BTreeMap.{get_by_text}
-use Rattle.place_orders.specs.Orders.{graph_of}
-use Rattle.schema_file.specs.named_types.NamesViews.{scope_of}
+use Rattle.schema_written_types.specs.Orders.{graph_of}
+use Rattle.schema_file.specs.schema_types.NamesViews.{scope_of}
 use Rattle.schema_names.proofs.UsesLemmas.{uses_by}
 use Rattle.schema_names.proofs.order.uses_of.Given as goal
 

@@ -1,7 +1,7 @@
 use Rattle.std.proofs.Common.{refl}
 use Rattle.std.proofs.lemmas.Result.{err_from_is_err_and}
 use Rattle.json_words.specs.Each.{each}
-use Rattle.schema_file.specs.named_types.NamesViews.{scope_of}
+use Rattle.schema_file.specs.schema_types.NamesViews.{scope_of}
 use Rattle.schema_names.specs.Qualifying.{entity_type_named, entity_types_named}
 use Rattle.json_words.proofs.EachSame.{same_ends}
 use Rattle.schema_names.proofs.GatheringLemmas.{one_more_same, none_more_same}

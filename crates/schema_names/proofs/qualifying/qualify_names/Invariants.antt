@@ -1,6 +1,6 @@
 use Rattle.std.proofs.Common.{◌≡◌, map, take, Ok}
 use Rattle.json_words.specs.Each.{each}
-use Rattle.schema_file.specs.named_types.NamesViews.{scope_of}
+use Rattle.schema_file.specs.schema_types.NamesViews.{scope_of}
 use Rattle.schema_names.specs.Qualifying.{entity_type_named}
 use Rattle.schema_names.proofs.qualifying.qualify_names.Given as goal
 

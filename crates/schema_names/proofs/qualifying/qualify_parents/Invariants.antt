@@ -1,6 +1,6 @@
 use Rattle.std.proofs.Common.{◌≡◌, map, take, Ok}
 use Rattle.json_words.specs.Each.{each}
-use Rattle.schema_file.specs.named_types.NamesViews.{is_action_of}
+use Rattle.schema_file.specs.schema_types.NamesViews.{is_action_of}
 use Rattle.schema_names.specs.Qualifying.{parent_named}
 use Rattle.schema_names.proofs.qualifying.qualify_parents.Given as goal
 

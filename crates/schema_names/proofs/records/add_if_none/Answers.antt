@@ -1,6 +1,6 @@
 use Rattle.std.proofs.Common.{◌≡◌, ◌∙◌, ℕ, List, true, false, sym, ap}
 use Rattle.schema_types.specs.Names.{full_name}
-use Rattle.schema_file.specs.named_types.NamesViews.{scope_of}
+use Rattle.schema_file.specs.schema_types.NamesViews.{scope_of}
 use Rattle.schema_file.specs.StatedViews.{common_view}
 use Rattle.schema_names.specs.Qualifying.{common_in}
 use Rattle.schema_names.specs.inner.Adding.{has_name}

@@ -1,6 +1,6 @@
 use Rattle.std.proofs.Common.{◌∙◌, map, sym}
 use Rattle.std.specs.List.{list_all}
-use Rattle.schema_file.specs.named_types.NamesViews.{scope_of}
+use Rattle.schema_file.specs.schema_types.NamesViews.{scope_of}
 use Rattle.schema_file.specs.StatedViews.{entity_type_view}
 use Rattle.schema_names.specs.inner.Adding.{has_name}
 use Rattle.schema_names.specs.inner.Spreading.{is_record_at}

@@ -1,6 +1,6 @@
 use Rattle.std.proofs.Common.{map, drop, String, Global}
 use Rattle.std.specs.BTreeSet.{BTreeSet}
-use Rattle.schema_file.specs.named_types.NamesViews.{scope_of}
+use Rattle.schema_file.specs.schema_types.NamesViews.{scope_of}
 use Rattle.schema_file.specs.StatedViews.{namespace_view}
 use Rattle.schema_names.specs.Qualifying.{commons_declared}
 use Rattle.schema_names.specs.inner.Spreading.{Spreads}

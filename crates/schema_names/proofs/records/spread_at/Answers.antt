@@ -1,4 +1,4 @@
-use Rattle.schema_file.specs.named_types.NamesViews.{scope_of}
+use Rattle.schema_file.specs.schema_types.NamesViews.{scope_of}
 use Rattle.schema_names.proofs.SpreadLemmas.{kept_one, tried_there, tried_nowhere}
 use Rattle.schema_names.proofs.records.spread_at.Goals as goal
 

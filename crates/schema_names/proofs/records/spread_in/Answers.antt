@@ -1,7 +1,7 @@
 use Rattle.std.proofs.Common.{◌+◌, List, [], ◌∷◌, map, drop, sym, subst}
 use Rattle.std.proofs.lemmas.List.{drop_all}
 use Rattle.schema_file.specs.declared.stated.StatedCommon.{StatedCommon}
-use Rattle.schema_file.specs.named_types.NamesViews.{scope_of}
+use Rattle.schema_file.specs.schema_types.NamesViews.{scope_of}
 use Rattle.schema_file.specs.StatedViews.{common_view}
 use Rattle.schema_names.specs.Qualifying.{common_in}
 use Rattle.schema_names.specs.inner.Spreading.{Spreads}

@@ -1,5 +1,5 @@
 use Rattle.std.proofs.Common.{map}
-use Rattle.schema_file.specs.named_types.NamesViews.{scope_of}
+use Rattle.schema_file.specs.schema_types.NamesViews.{scope_of}
 use Rattle.schema_names.specs.inner.Uses.{listed_view}
 use Rattle.schema_names.proofs.SpreadLemmas.{tried_step, tried_end}
 use Rattle.schema_names.proofs.records.spread_in_order.Goals as goal

@@ -1,6 +1,6 @@
 use Rattle.std.proofs.Common.{map, drop, String, Global}
 use Rattle.std.specs.BTreeSet.{BTreeSet}
-use Rattle.schema_file.specs.named_types.NamesViews.{scope_of}
+use Rattle.schema_file.specs.schema_types.NamesViews.{scope_of}
 use Rattle.schema_names.specs.inner.Spreading.{KeepsNames, Spreads, tried_in_order}
 use Rattle.schema_names.specs.inner.Uses.{listed_view}
 use Rattle.schema_names.proofs.records.spread_in_order.Given as goal

@@ -2,7 +2,7 @@ use Rattle.std.proofs.Common.{◌≡◌, List, Some, subst}
 use Rattle.std.specs.Prelude.{Contains}
 use Rattle.std.specs.Borrow.{Bor}
 use Rattle.values.specs.declared.entity_uid.EntityUid.{EntityUid}
-use Rattle.ancestor_closure.specs.Hierarchy.{IsIn, names}
+use Rattle.ancestor_search.specs.Hierarchy.{IsIn, names}
 use Rattle.scope_index.specs.Keys.{Offer, lent}
 use Rattle.scope_index.specs.Buckets.{held_under}
 use Rattle.scope_index.proofs.Offering.{Offers, in_turn, said_as, it_and_above}

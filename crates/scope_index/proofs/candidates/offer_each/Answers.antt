@@ -3,8 +3,8 @@ use Rattle.std.specs.Prelude.{Contains}
 use Rattle.std.specs.Borrow.{Bor}
 use Rattle.std.proofs.lemmas.List.{take_more, take_all}
 use Rattle.values.specs.declared.entity_uid.EntityUid.{EntityUid}
-use Rattle.ancestor_closure.specs.Hierarchy.{names}
-use Rattle.ancestor_closure.specs.Deciding.{Contains-none}
+use Rattle.ancestor_search.specs.Hierarchy.{names}
+use Rattle.ancestor_search.specs.Deciding.{Contains-none}
 use Rattle.scope_index.specs.Keys.{lent}
 use Rattle.scope_index.specs.Buckets.{held_under}
 use Rattle.scope_index.proofs.Offering.{Offers, in_turn, said_as, nothing_more, one_entity_more}

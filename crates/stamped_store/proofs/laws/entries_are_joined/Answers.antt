@@ -1,4 +1,4 @@
-use Rattle.stamped_entries.specs.EntryJoins.{entry_cmp_total}
+use Rattle.stamped_store.specs.EntryJoins.{entry_cmp_total}
 use Rattle.stamped_store.proofs.Greatests.{exact_entries, greater_assoc, greater_commutes, greater_itself, greater_entry_is_join}
 use Rattle.stamped_store.proofs.laws.entries_are_joined.Goals as goal
 

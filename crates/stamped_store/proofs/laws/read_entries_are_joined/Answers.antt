@@ -1,7 +1,7 @@
 use Rattle.std.proofs.Common.{ap, sym, ◌∙◌}
 use Rattle.std.specs.Ordering.{is_le}
-use Rattle.stamped_entries.specs.EntryOrder.{plain_entry, entry_cmp}
-use Rattle.stamped_entries.specs.EntryJoins.{greater_is_join}
+use Rattle.stamped_store.specs.EntryOrder.{plain_entry, entry_cmp}
+use Rattle.stamped_store.specs.EntryJoins.{greater_is_join}
 use Rattle.stamped_store.proofs.Showing.{plain_entry-greater}
 use Rattle.stamped_store.proofs.Greatests.{alike, greater_entry_is_join}
 use Rattle.stamped_store.proofs.laws.read_entries_are_joined.Goals as goal

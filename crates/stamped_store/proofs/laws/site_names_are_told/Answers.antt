@@ -1,5 +1,5 @@
-use Rattle.stamped_entries.proofs.SiteNames.{names_are_told, names_are_texts}
-use Rattle.stamped_entries.proofs.SiteNames.{five_digits_are_names, five_digits_cmp, five_digits_tell}
+use Rattle.stamped_store.proofs.SiteNames.{names_are_told, names_are_texts}
+use Rattle.stamped_store.proofs.SiteNames.{five_digits_are_names, five_digits_cmp, five_digits_tell}
 use Rattle.stamped_store.proofs.laws.site_names_are_told.Goals as goal
 
 pub returns-clause-tested : goal.returns-clause-tested

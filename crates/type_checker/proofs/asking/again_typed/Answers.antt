@@ -1,9 +1,9 @@
 use Rattle.std.proofs.Common.{sym, subst}
-use Rattle.expressions.specs.declared.expr.Expr.TheVariants as form
-use Rattle.static_types.specs.typing.Typing as typing
-use Rattle.static_types.specs.typing.Typing.{Types}
-use Rattle.static_types.specs.typing.Faults as faults
-use Rattle.static_types.specs.Views.{typing_environment}
+use Rattle.grammar_core.specs.declared.expr.Expr.TheVariants as form
+use Rattle.typing.specs.Typing as typing
+use Rattle.typing.specs.Typing.{Types}
+use Rattle.typing.specs.Faults as faults
+use Rattle.type_checker.specs.Views.{typing_environment}
 use Rattle.type_checker.proofs.Carrying.{typed_so, faulty_so, row_judged}
 use Rattle.type_checker.proofs.asking.again_typed.Goals as goal
 

@@ -1,7 +1,7 @@
 use Rattle.std.proofs.Common.{sym, ap, ◌∙◌}
-use Rattle.static_types.specs.typing.Rows as rows
-use Rattle.static_types.specs.typing.Faults as faults
-use Rattle.static_types.specs.Views.{boolean_view}
+use Rattle.typing.specs.Rows as rows
+use Rattle.typing.specs.Faults as faults
+use Rattle.type_checker.specs.Views.{boolean_view}
 use Rattle.type_checker.proofs.Carrying.{behind_so, behind_faulty, boolean_so, and_judged}
 use Rattle.type_checker.proofs.branching.and_typed.Goals as goal
 

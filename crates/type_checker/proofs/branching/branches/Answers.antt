@@ -1,4 +1,4 @@
-use Rattle.static_types.specs.typing.Faults as faults
+use Rattle.typing.specs.Faults as faults
 use Rattle.type_checker.proofs.Carrying.{typed_so, faulty_so, branches_judged}
 use Rattle.type_checker.proofs.branching.branches.Goals as goal
 

@@ -1,6 +1,6 @@
-use Rattle.static_types.specs.typing.Rows as rows
-use Rattle.static_types.specs.typing.Typing as typing
-use Rattle.static_types.specs.typing.Faults as faults
+use Rattle.typing.specs.Rows as rows
+use Rattle.typing.specs.Typing as typing
+use Rattle.typing.specs.Faults as faults
 use Rattle.type_checker.proofs.Carrying.{typed_so, faulty_so, boolean_so}
 use Rattle.type_checker.proofs.branching.or_behind_false.Goals as goal
 

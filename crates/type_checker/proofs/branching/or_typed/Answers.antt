@@ -1,9 +1,9 @@
 use Rattle.std.proofs.Common.{IfOk, subst, ◌∙◌}
-use Rattle.static_types.specs.typing.Learned.{OrLearns}
-use Rattle.static_types.specs.typing.Rows as rows
-use Rattle.static_types.specs.typing.Faults as faults
-use Rattle.static_types.specs.Views.{boolean_view}
-use Rattle.known_pairs.specs.Pairs.{pairs}
+use Rattle.typing.specs.Learned.{OrLearns}
+use Rattle.typing.specs.Rows as rows
+use Rattle.typing.specs.Faults as faults
+use Rattle.type_checker.specs.Views.{boolean_view}
+use Rattle.type_capabilities.specs.Pairs.{pairs}
 use Rattle.type_checker.proofs.Carrying.{typed_so, faulty_so, or_judged}
 use Rattle.type_checker.proofs.branching.or_typed.Goals as goal
 

@@ -1,6 +1,6 @@
 use Rattle.std.proofs.Common.{refl, sym, ap, ◌∙◌}
-use Rattle.expressions.specs.declared.leaf.Literal.TheVariants as literal
-use Rattle.expressions.specs.declared.expr.Expr.TheVariants as form
+use Rattle.grammar_core.specs.declared.leaf.Literal.TheVariants as literal
+use Rattle.grammar_core.specs.declared.expr.Expr.TheVariants as form
 use Rattle.type_checker.proofs.Settling.{reads_decimal}
 use Rattle.type_checker.proofs.calls.is_decimal.Goals as goal
 

@@ -1,7 +1,7 @@
 use Rattle.std.proofs.Common.{refl, sym, ap, ◌∙◌}
 use Rattle.std.proofs.lemmas.Bool.{false≢true}
-use Rattle.expressions.specs.declared.leaf.Literal.TheVariants as literal
-use Rattle.expressions.specs.declared.expr.Expr.TheVariants as form
+use Rattle.grammar_core.specs.declared.leaf.Literal.TheVariants as literal
+use Rattle.grammar_core.specs.declared.expr.Expr.TheVariants as form
 use Rattle.type_checker.proofs.Settling.{reads_address, address_read}
 use Rattle.type_checker.proofs.calls.is_network.Goals as goal
 

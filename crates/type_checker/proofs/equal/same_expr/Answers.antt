@@ -1,7 +1,7 @@
 use Rattle.std.proofs.Common.{sym, ap, ◌∙◌}
 use Rattle.std.specs.Ordering.{is_eq}
 use Rattle.values.specs.Uids.{equal-is}
-use Rattle.known_pairs.specs.Ordered.{expr_cmp-IsTotalOrder, expr_cmp-IsAntisymmetric}
+use Rattle.type_capabilities.specs.Ordered.{expr_cmp-IsTotalOrder, expr_cmp-IsAntisymmetric}
 use Rattle.type_checker.proofs.equal.same_expr.Goals as goal
 
 pub returns : goal.returns

@@ -1,8 +1,8 @@
 use Rattle.std.proofs.Common.{map, ap, ◌∙◌}
-use Rattle.expressions.specs.declared.expr.Expr.TheVariants as form
-use Rattle.static_types.specs.typing.Typing as typing
-use Rattle.static_types.specs.typing.Faults as faults
-use Rattle.static_types.specs.Views.{static_view}
+use Rattle.grammar_core.specs.declared.expr.Expr.TheVariants as form
+use Rattle.typing.specs.Typing as typing
+use Rattle.typing.specs.Faults as faults
+use Rattle.type_checker.specs.Views.{static_view}
 use Rattle.type_checker.proofs.Carrying.{each_so, each_faulty, plain_judged}
 use Rattle.type_checker.proofs.finishing.record_typed.Goals as goal
 

@@ -1,8 +1,8 @@
 use Rattle.std.proofs.Common.{sym, subst}
-use Rattle.expressions.specs.declared.expr.Expr.TheVariants as form
-use Rattle.static_types.specs.typing.Typing as typing
-use Rattle.static_types.specs.typing.Faults as faults
-use Rattle.static_types.specs.Views.{Answers}
+use Rattle.grammar_core.specs.declared.expr.Expr.TheVariants as form
+use Rattle.typing.specs.Typing as typing
+use Rattle.typing.specs.Faults as faults
+use Rattle.type_checker.specs.Views.{Answers}
 use Rattle.type_checker.proofs.Carrying.{members_so, members_faulty, row_judged}
 use Rattle.type_checker.proofs.finishing.set_typed.Goals as goal
 

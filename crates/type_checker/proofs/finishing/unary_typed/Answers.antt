@@ -1,6 +1,6 @@
-use Rattle.expressions.specs.declared.expr.Expr.TheVariants as form
-use Rattle.static_types.specs.typing.Typing as typing
-use Rattle.static_types.specs.typing.Faults as faults
+use Rattle.grammar_core.specs.declared.expr.Expr.TheVariants as form
+use Rattle.typing.specs.Typing as typing
+use Rattle.typing.specs.Faults as faults
 use Rattle.type_checker.proofs.Carrying.{typed_so, faulty_so, row_judged}
 use Rattle.type_checker.proofs.finishing.unary_typed.Goals as goal
 

@@ -1,4 +1,4 @@
-use Rattle.static_types.specs.Views.{static_view}
+use Rattle.type_checker.specs.Views.{static_view}
 use Rattle.type_checker.proofs.JoiningLemmas.{side_so, alone_so}
 use Rattle.type_checker.proofs.joining.and_last.Goals as goal
 

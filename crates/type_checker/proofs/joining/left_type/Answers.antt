@@ -1,5 +1,5 @@
-use Rattle.static_types.specs.typing.Faults as faults
-use Rattle.static_types.specs.Views.{typing_environment}
+use Rattle.typing.specs.Faults as faults
+use Rattle.type_checker.specs.Views.{typing_environment}
 use Rattle.type_checker.proofs.Carrying.{typed_so, faulty_so}
 use Rattle.type_checker.proofs.JoiningLemmas.{left_so}
 use Rattle.type_checker.proofs.joining.left_type.Goals as goal

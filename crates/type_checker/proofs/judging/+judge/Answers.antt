@@ -1,18 +1,18 @@
 use Rattle.std.proofs.Common.{[], List, map, take, Ok, refl, sym, subst, ap, ◌∙◌}
 use Rattle.std.proofs.lemmas.Bool.{false≢true}
-use Rattle.expressions.specs.declared.expr.Named.{Named}
-use Rattle.expressions.specs.declared.operator.Unary.TheVariants.{Is}
-use Rattle.expressions.specs.declared.expr.Expr.{Expr}
-use Rattle.expressions.specs.declared.expr.Expr.TheVariants as form
-use Rattle.static_types.specs.typing.Rows as rows
-use Rattle.static_types.specs.typing.Typing as typing
-use Rattle.static_types.specs.typing.Typing.{Types, TypesEach}
-use Rattle.static_types.specs.typing.Faults as faults
-use Rattle.static_types.specs.Views.{static_view, boolean_view, typing_environment}
-use Rattle.known_pairs.specs.Pairs.{pairs}
+use Rattle.grammar_core.specs.declared.expr.Named.{Named}
+use Rattle.grammar_core.specs.declared.operator.Unary.TheVariants.{Is}
+use Rattle.grammar_core.specs.declared.expr.Expr.{Expr}
+use Rattle.grammar_core.specs.declared.expr.Expr.TheVariants as form
+use Rattle.typing.specs.Rows as rows
+use Rattle.typing.specs.Typing as typing
+use Rattle.typing.specs.Typing.{Types, TypesEach}
+use Rattle.typing.specs.Faults as faults
+use Rattle.type_checker.specs.Views.{static_view, boolean_view, typing_environment}
+use Rattle.type_capabilities.specs.Pairs.{pairs}
 use Rattle.type_checker.proofs.Carrying.{typed_so, has_kind, faulty_so, plain_judged, moved, behind_moved, at_form}
 use Rattle.type_checker.proofs.Carrying.{false_so, then_so, then_faulty}
-use Rattle.static_types.specs.typing.Literals.{Settled, IsUnsettled}
+use Rattle.typing.specs.Literals.{Settled, IsUnsettled}
 use Rattle.type_checker.specs.inner.Judged.{Judged, JudgedBehind, JudgedEach}
 use Rattle.type_checker.proofs.AskedLemmas.{asked_so, behind_nothing}
 use Rattle.type_checker.proofs.Each.{behind_judged, stands_at, stops_at, goes_on}

@@ -1,7 +1,7 @@
 use Rattle.std.proofs.Common.{◌≡◌, ◌+◌, ◌*◌, max, map, take}
-use Rattle.expressions.specs.declared.expr.Expr.{size-Expr}
-use Rattle.static_types.specs.typing.Typing.{TypesEach}
-use Rattle.static_types.specs.Views.{static_view, typing_environment}
+use Rattle.grammar_core.specs.declared.expr.Expr.{size-Expr}
+use Rattle.typing.specs.Typing.{TypesEach}
+use Rattle.type_checker.specs.Views.{static_view, typing_environment}
 use Rattle.type_checker.proofs.Members.{SoFar}
 use Rattle.type_checker.proofs.judging.+judge.Given as goal
 

@@ -1,8 +1,8 @@
 use Rattle.std.proofs.Common.{◌∷◌, [], ◌++◌, sym, subst, ◌∙◌}
 use Rattle.std.proofs.lemmas.Bool.{false≢true}
 use Rattle.std.proofs.lemmas.List.{map-append}
-use Rattle.static_types.specs.typing.Learned.{InBoth}
-use Rattle.known_pairs.specs.Pairs.{pair_of, pairs}
+use Rattle.typing.specs.Learned.{InBoth}
+use Rattle.type_capabilities.specs.Pairs.{pair_of, pairs}
 use Rattle.type_checker.proofs.Learning.{one_more_kept, one_more_dropped}
 use Rattle.type_checker.proofs.known.keep.Goals as goal
 

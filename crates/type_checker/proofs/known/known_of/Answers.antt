@@ -1,6 +1,6 @@
 use Rattle.std.proofs.Common.{[], sym, subst}
-use Rattle.static_types.specs.typing.Learned as learned
-use Rattle.known_pairs.specs.Pairs.{pairs}
+use Rattle.typing.specs.Learned as learned
+use Rattle.type_capabilities.specs.Pairs.{pairs}
 use Rattle.type_checker.proofs.known.known_of.Goals as goal
 
 pub loop-pair-init : goal.loop-pair-init

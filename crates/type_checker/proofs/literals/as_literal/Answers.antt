@@ -1,4 +1,4 @@
-use Rattle.static_types.specs.Views.{typing_environment}
+use Rattle.type_checker.specs.Views.{typing_environment}
 use Rattle.type_checker.proofs.Settling.{stated_as, action_as}
 use Rattle.type_checker.proofs.literals.as_literal.Goals as goal
 

@@ -1,8 +1,8 @@
 use Rattle.std.proofs.Common.{[], ◌∷◌, sym, subst, ◌∙◌}
 use Rattle.std.proofs.lemmas.Bool.{false≢true}
-use Rattle.static_types.specs.typing.Literals as literals
-use Rattle.static_types.specs.typing.Literals.{AreEntityLiterals}
-use Rattle.static_types.specs.Views.{typing_environment}
+use Rattle.typing.specs.Literals as literals
+use Rattle.typing.specs.Literals.{AreEntityLiterals}
+use Rattle.type_checker.specs.Views.{typing_environment}
 use Rattle.type_checker.proofs.Settling.{in_one, lists_set}
 use Rattle.type_checker.proofs.literals.in_listed.Goals as goal
 

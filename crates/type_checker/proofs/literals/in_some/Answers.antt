@@ -1,9 +1,9 @@
 use Rattle.std.proofs.Common.{◌++◌, [], ◌∷◌, take, sym, subst, ap, ◌∙◌}
 use Rattle.std.proofs.lemmas.List.{take_more}
-use Rattle.expressions.specs.declared.leaf.Literal.TheVariants as literal
-use Rattle.static_types.specs.typing.Literals as literals
-use Rattle.static_types.specs.typing.Literals.{IsLiteral, AreEntityLiterals}
-use Rattle.static_types.specs.Views.{typing_environment}
+use Rattle.grammar_core.specs.declared.leaf.Literal.TheVariants as literal
+use Rattle.typing.specs.Literals as literals
+use Rattle.typing.specs.Literals.{IsLiteral, AreEntityLiterals}
+use Rattle.type_checker.specs.Views.{typing_environment}
 use Rattle.type_checker.proofs.Settling.{in_none, in_more, literals_more, literals_at}
 use Rattle.type_checker.proofs.literals.in_some.Goals as goal
 

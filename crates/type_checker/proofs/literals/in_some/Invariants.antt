@@ -1,8 +1,8 @@
 use Rattle.std.proofs.Common.{List, take, Contains}
 use Rattle.std.specs.Bool.{Decides}
 use Rattle.values.specs.declared.entity_uid.EntityUid.{EntityUid}
-use Rattle.static_types.specs.typing.Literals.{AreEntityLiterals, IsActionIn}
-use Rattle.static_types.specs.Views.{typing_environment}
+use Rattle.typing.specs.Literals.{AreEntityLiterals, IsActionIn}
+use Rattle.type_checker.specs.Views.{typing_environment}
 use Rattle.type_checker.proofs.literals.in_some.Given as goal
 
 abbrev pub invariant-loop-member : goal.invariant-loop-member

@@ -1,4 +1,4 @@
-use Rattle.static_types.specs.typing.Literals as literals
+use Rattle.typing.specs.Literals as literals
 use Rattle.type_checker.proofs.literals.settled_equal.Goals as goal
 
 pub returns-in-Some-as_literal : goal.returns-in-Some-as_literal

@@ -1,7 +1,7 @@
 use Rattle.std.proofs.Common.{sym, ◌∙◌}
 use Rattle.std.proofs.lemmas.Bool.{false≢true}
-use Rattle.static_types.specs.typing.Literals as literals
-use Rattle.static_types.specs.Views.{typing_environment}
+use Rattle.typing.specs.Literals as literals
+use Rattle.type_checker.specs.Views.{typing_environment}
 use Rattle.type_checker.proofs.Settling.{no_action_in}
 use Rattle.type_checker.proofs.literals.settled_in.Goals as goal
 

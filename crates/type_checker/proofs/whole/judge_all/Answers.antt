@@ -1,8 +1,8 @@
 use Rattle.std.proofs.Common.{◌+◌, [], None, Some, option_map, drop, sym, subst, ◌∙◌}
 use Rattle.std.proofs.lemmas.Bool.{false≢true}
-use Rattle.static_types.specs.typing.Rows.{MayBeTrue}
-use Rattle.static_types.specs.typing.Typing.{Types}
-use Rattle.static_types.specs.Views.{boolean_view, typing_environment}
+use Rattle.typing.specs.Rows.{MayBeTrue}
+use Rattle.typing.specs.Typing.{Types}
+use Rattle.type_checker.specs.Views.{boolean_view, typing_environment}
 use Rattle.type_checker.specs.Joined.{joined}
 use Rattle.type_checker.specs.inner.Joining.{and_so_far, Leads}
 use Rattle.type_checker.proofs.Carrying.{typed_so, false_so}

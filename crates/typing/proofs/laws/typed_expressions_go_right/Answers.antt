@@ -1,4 +1,4 @@
-use Rattle.evaluator.specs.expressions.declared.expr.Expr.{Expr}
+use Rattle.evaluator.specs.grammar_core.declared.expr.Expr.{Expr}
 use Rattle.typing.proofs.Right.{goes_right, nothing}
 use Rattle.typing.proofs.Policies.{boolean_fits, never_true}
 use Rattle.typing.proofs.laws.typed_expressions_go_right.Goals as goal

@@ -1,5 +1,5 @@
 use Rattle.std.proofs.Common.{◌∙◌}
-use Rattle.static_types.specs.schema.Views.{schema_view}
+use Rattle.type_checker.specs.schema.Views.{schema_view}
 use Rattle.validator.proofs.CheckLemmas.{passed}
 use Rattle.validator.proofs.checking.check.Goals as goal
 

@@ -4,7 +4,7 @@ use Rattle.std.specs.List.{list_any}
 use Rattle.std.specs.Str.{bytes_eq}
 use Rattle.std.proofs.lemmas.Fn.{always_returns_same}
 use Rattle.values.specs.declared.entity_uid.EntityUid.{EntityUid}
-use Rattle.static_types.specs.ancestor_closure.Hierarchy.{IsAscending}
+use Rattle.type_checker.specs.ancestor_search.Hierarchy.{IsAscending}
 use Rattle.validator.proofs.HalvesLemmas.{against, parted, by_halves}
 use Rattle.validator.proofs.known.is_type_of_action.Goals as goal
 

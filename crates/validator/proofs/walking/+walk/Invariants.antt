@@ -1,6 +1,6 @@
 use Rattle.std.proofs.Common.{◌≡◌, drop, map}
-use Rattle.expressions.specs.Size.{values_of}
-use Rattle.static_types.specs.schema.Views.{schema_view}
+use Rattle.grammar_core.specs.Size.{values_of}
+use Rattle.type_checker.specs.schema.Views.{schema_view}
 use Rattle.validator.specs.inner.Walking.{in_turn, walk, named_walk}
 use Rattle.validator.proofs.walking.+walk.Given as goal
 

@@ -3,7 +3,7 @@ use Rattle.std.specs.Prelude.{IfOk}
 use Rattle.std.specs.Borrow.{Bor}
 use Rattle.std.proofs.lemmas.Result.{IfOk-weaker}
 use Rattle.values.specs.declared.entity_uid.EntityUid.{EntityUid}
-use Rattle.evaluator.specs.ancestor_closure.Hierarchy.{IsAllAbove, IsAscending, names}
+use Rattle.evaluator.specs.ancestor_search.Hierarchy.{IsAllAbove, IsAscending, names}
 use Rattle.authoriser.proofs.Judging.{all_placed}
 use Rattle.authoriser.proofs.known.KnownAncestry.ancestors.Goals as goal
 

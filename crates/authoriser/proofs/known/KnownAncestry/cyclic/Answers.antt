@@ -1,6 +1,6 @@
 use Rattle.std.proofs.Common.{subst}
 use Rattle.std.specs.Prelude.{IfOk}
-use Rattle.evaluator.specs.ancestor_closure.Hierarchy.{AreOnCycles, names}
+use Rattle.evaluator.specs.ancestor_search.Hierarchy.{AreOnCycles, names}
 use Rattle.authoriser.proofs.known.KnownAncestry.cyclic.Goals as goal
 
 pub returns-clause-all : goal.returns-clause-all

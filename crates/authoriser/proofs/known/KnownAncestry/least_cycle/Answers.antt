@@ -1,7 +1,7 @@
 use Rattle.std.proofs.Common.{subst, MatchOption}
 use Rattle.std.specs.Prelude.{IfOk}
-use Rattle.evaluator.specs.ancestor_closure.Hierarchy.{names}
-use Rattle.evaluator.specs.ancestor_closure.LeastCycle.{HasNoCycle, IsLeastCycle}
+use Rattle.evaluator.specs.ancestor_search.Hierarchy.{names}
+use Rattle.evaluator.specs.ancestor_search.LeastCycle.{HasNoCycle, IsLeastCycle}
 use Rattle.authoriser.proofs.known.KnownAncestry.least_cycle.Goals as goal
 
 pub returns : goal.returns

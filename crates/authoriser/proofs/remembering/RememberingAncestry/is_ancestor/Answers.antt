@@ -2,7 +2,7 @@ use Rattle.std.proofs.Common.{sym, subst, List}
 use Rattle.std.specs.Prelude.{◌↔◌, IsTrue, Contains}
 use Rattle.std.specs.Borrow.{Bor}
 use Rattle.values.specs.declared.entity_uid.EntityUid.{EntityUid}
-use Rattle.evaluator.specs.ancestor_closure.Hierarchy.{IsAscending, names}
+use Rattle.evaluator.specs.ancestor_search.Hierarchy.{IsAscending, names}
 use Rattle.authoriser.proofs.Judging.{above_it}
 use Rattle.authoriser.proofs.remembering.RememberingAncestry.is_ancestor.Goals as goal
 

@@ -2,7 +2,7 @@ use Rattle.std.proofs.Common.{ap, sym, ◌∙◌}
 use Rattle.std.specs.Option.{option_map}
 use Rattle.values.specs.Names.{uid_cmp}
 use Rattle.stamped_store.specs.Stored.{value_at}
-use Rattle.stamped_entries.specs.EntryOrder.{plain_entry}
+use Rattle.stamped_store.specs.EntryOrder.{plain_entry}
 use Rattle.stamped_store.proofs.Stores.{get-entity}
 use Rattle.stamped_store.proofs.policy_store.PolicyStore.get_entity.Goals as goal
 

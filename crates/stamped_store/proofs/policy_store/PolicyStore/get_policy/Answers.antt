@@ -1,7 +1,7 @@
 use Rattle.std.proofs.Common.{ap, sym, ◌∙◌}
 use Rattle.std.specs.Option.{option_map}
 use Rattle.stamped_store.specs.Stored.{value_at_text}
-use Rattle.stamped_entries.specs.EntryOrder.{plain_entry}
+use Rattle.stamped_store.specs.EntryOrder.{plain_entry}
 use Rattle.stamped_store.proofs.Stores.{get-policy}
 use Rattle.stamped_store.proofs.policy_store.PolicyStore.get_policy.Goals as goal
 

@@ -1,6 +1,6 @@
 use Rattle.std.proofs.Common.{◌≡◌, ◌∙◌, ap, subst, refl, take, ◌+◌, []}
 use Rattle.std.specs.String.{string_cmp}
-use Rattle.stamped_entries.specs.EntryOrder.{greater}
+use Rattle.stamped_store.specs.EntryOrder.{greater}
 use Rattle.stamped_store.specs.Stored.{all_taken}
 use Rattle.stamped_store.specs.Store.{kept, all_kept, first_kept, abstract_store, abstract_updates, updates}
 use Rattle.stamped_store.proofs.Stores.{counted_all, counted_anew}

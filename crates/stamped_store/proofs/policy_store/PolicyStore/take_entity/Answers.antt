@@ -1,6 +1,6 @@
 use Rattle.std.proofs.Common.{ap, ◌∙◌}
 use Rattle.values.specs.Names.{uid_cmp}
-use Rattle.stamped_entries.specs.EntryOrder.{plain_entry, greater}
+use Rattle.stamped_store.specs.EntryOrder.{plain_entry, greater}
 use Rattle.stamped_store.specs.Stored.{taken}
 use Rattle.stamped_store.specs.Store.{kept, entity_name, abstract_store}
 use Rattle.stamped_store.proofs.Stores.{counted_entity, joined_entity}

@@ -1,6 +1,6 @@
 use Rattle.std.proofs.Common.{ap, ◌∙◌}
 use Rattle.std.specs.String.{string_cmp}
-use Rattle.stamped_entries.specs.EntryOrder.{plain_entry, greater}
+use Rattle.stamped_store.specs.EntryOrder.{plain_entry, greater}
 use Rattle.stamped_store.specs.Stored.{taken}
 use Rattle.stamped_store.specs.Store.{kept, id_name, abstract_store}
 use Rattle.stamped_store.proofs.Stores.{counted_policy, joined_policy}

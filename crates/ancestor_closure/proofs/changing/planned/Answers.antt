@@ -1,0 +1,21 @@
+use Rattle.std.proofs.Common.{◌∙◌, sym, subst}
+use Rattle.std.specs.Prelude.{Contains, ◌↔◌}
+use Rattle.ancestor_search.specs.Hierarchy.{IsAscending}
+use Rattle.ancestor_closure.specs.Lists.{ancestors_in, children_in}
+use Rattle.ancestor_closure.proofs.changing.planned.Goals as goal
+
+pub returns : goal.returns
+returns g c =
+    let anc = ancestors_in c.args.relatives.now in
+    let ch = children_in c.args.relatives.now in
+    let u = c.args.uid.now in
+    record {
+      uid_is = c.in_ok-name.ensures;
+      before = λ x. subst (λ z. Contains c.in_ok-before.before.items x ↔ (Contains (anc z) x × Contains (ch x) z)) c.in_ok-name.ensures (c.in_ok-before.ensures.all x);
+      before_ascends = subst (λ z. IsAscending (anc z) → IsAscending c.in_ok-before.before.items) c.in_ok-name.ensures c.in_ok-before.ensures.ascending;
+      after = λ x. subst (λ l. Contains l x ↔ Contains (g.G.ParentsOf.parents c.args.graph.now u) x) (sym c.in_ok-after.ensures) (c.requires.all x);
+      after_ascends = subst (λ l. IsAscending l) (sym c.in_ok-after.ensures) c.requires.ascending;
+      entities = c.in_ok-entities.ensures;
+      lists_of = c.in_ok-lists.ensures.of ∙ c.deref.ensures.value;
+      right = c.in_ok-lists.ensures.right;
+    }

@@ -1,7 +1,0 @@
-use Rattle.parent_graphs.specs.Hierarchy.{names}
-use Rattle.ancestor_closure.specs.inner.Backwards.{dist_of}
-use Rattle.ancestor_closure.proofs.Walks.{Walking}
-use Rattle.ancestor_closure.proofs.named_cycle.walk.Given as goal
-
-abbrev pub invariant-loop-far : goal.invariant-loop-far
-invariant-loop-far g l = Walking (g.G.ParentsOf.parents l.graph) l.start (dist_of l.distances) l.far (names l.found.items) l.last

@@ -1,0 +1,182 @@
+//! Who is a child of whom: the edges turned round, which lead from an entity down to all that have it above them.
+ghost use Rattle.std.specs.Prelude.{◌≡◌, ◌↔◌, ◌⊎◌, ◌^◌, ◌<◌, [], ◌∷◌, Contains, IfOk, OnOk};
+ghost use Rattle.std.specs.BTreeSet.{btree_set_len};
+ghost use Rattle.values.specs.declared.entity_uid.EntityUid.{EntityUid as PlainUid};
+ghost use Rattle.ancestor_search.specs.Hierarchy.{Above, IsAllAbove, IsAscending, names};
+ghost use Rattle.ancestor_search.specs.Search.{Adds};
+ghost use Rattle.ancestor_closure.specs.Lists.{children_in, SameLists, IsThere, StayThere, AddsChild};
+ghost use Rattle.ancestor_closure.specs.inner.OneChange.{TakesChild};
+
+use crate::lists::{is_in, shared_all};
+use crate::relatives::{Relatives, release};
+use ancestor_search::listed;
+use plain::{NoMemory, Shared};
+use std::alloc::Global;
+use std::collections::{BTreeMap, BTreeSet};
+use values::EntityUid;
+
+// Adds those that were not seen before to what is seen, and to the work.
+fn add_members<'a>(
+    found: &'a BTreeSet<Shared<EntityUid>>,
+    seen: &mut BTreeSet<&'a EntityUid>,
+    work: &mut Vec<&'a EntityUid>,
+) -> Result<(), NoMemory>
+    ensures adds { OnOk result
+        (Adds found.now.keys (names seen.old.keys) (names work.old.items)
+        (names seen.new.keys) (names work.new.items)) }
+    ensures small { OnOk result (btree_set_len seen.new < 2 ^ 63) }
+{
+    for child in found.iter() {
+        let child = child.get();
+        if seen.insert(child)? {
+            work.push(child)?;
+        }
+    }
+    let _small = seen.len();
+    Ok(())
+}
+
+// The same of the children of an entity.
+fn add_children<'a>(
+    relatives: &'a BTreeMap<EntityUid, Relatives>,
+    uid: &EntityUid,
+    seen: &mut BTreeSet<&'a EntityUid>,
+    work: &mut Vec<&'a EntityUid>,
+) -> Result<(), NoMemory>
+    ensures adds { OnOk result (Adds (children_in relatives.now uid.now)
+        (names seen.old.keys) (names work.old.items) (names seen.new.keys) (names work.new.items)) }
+    ensures small { OnOk result (btree_set_len seen.new < 2 ^ 63) }
+{
+    match relatives.get(uid) {
+        Some(known) => add_members(&known.children, seen, work),
+        None => {
+            let _small = seen.len();
+            Ok(())
+        }
+    }
+}
+
+// All that the children lead to.
+fn below<'a>(
+    alloc: Global,
+    relatives: &'a BTreeMap<EntityUid, Relatives>,
+    uid: &EntityUid,
+) -> Result<BTreeSet<&'a EntityUid>, NoMemory>
+    ensures { IfOk result (λ found. IsAllAbove (children_in relatives.now) uid.now (names found.keys)) }
+{
+    let mut seen = BTreeSet::new(alloc);
+    let mut work = Vec::new(alloc);
+    add_children(relatives, uid, &mut seen, &mut work)?;
+    while let Some(next) = work.pop() {
+        add_children(relatives, next, &mut seen, &mut work)?;
+    }
+    Ok(seen)
+}
+
+/// Returns an entity and all below it.
+pub(crate) fn entity_and_below<'a>(
+    alloc: Global,
+    relatives: &'a BTreeMap<EntityUid, Relatives>,
+    uid: &'a EntityUid,
+) -> Result<Vec<Shared<EntityUid>>, NoMemory>
+    ensures { IfOk result (λ found. (q : PlainUid) →
+        Contains found.items q ↔ ((uid.now ≡ q) ⊎ Above (children_in relatives.now) q uid.now)) }
+{
+    let mut found = below(alloc, relatives, uid)?;
+    found.insert(uid)?;
+    let found = listed(alloc, found)?;
+    shared_all(alloc, relatives, &found)
+}
+
+// Adds a child to those of a parent.
+fn add_child(
+    relatives: &mut BTreeMap<EntityUid, Relatives>,
+    parent: &EntityUid,
+    child: Shared<EntityUid>,
+) -> Result<(), NoMemory>
+    requires { IsThere relatives.old parent.now }
+    ensures lists { SameLists relatives.old relatives.new }
+    ensures stay { StayThere relatives.old relatives.new }
+    ensures adds { AddsChild (parent.now ∷ []) child (children_in relatives.old) (children_in relatives.new) }
+    ensures added { OnOk result (Contains (children_in relatives.new parent.now) child) }
+{
+    match relatives.get_mut(parent) {
+        Some(known) => {
+            known.children.insert(child)?;
+            Ok(())
+        }
+        None => Ok(()),
+    }
+}
+
+/// Adds a child to those of each of its parents.
+pub fn add_to_all(
+    relatives: &mut BTreeMap<EntityUid, Relatives>,
+    parents: &[Shared<EntityUid>],
+    child: &Shared<EntityUid>,
+) -> Result<(), NoMemory>
+    requires { (x : PlainUid) → Contains parents.now x → IsThere relatives.old x }
+    ensures lists { SameLists relatives.old relatives.new }
+    ensures stay { StayThere relatives.old relatives.new }
+    ensures adds { AddsChild parents.now child.now (children_in relatives.old) (children_in relatives.new) }
+    ensures added { OnOk result
+        ((x : PlainUid) → Contains parents.now x → Contains (children_in relatives.new x) child.now) }
+{
+    for parent in parents {
+        add_child(relatives, parent.get(), child.share()?)?;
+    }
+    Ok(())
+}
+
+// Takes a child from those of an entity.
+fn take_child(
+    relatives: &mut BTreeMap<EntityUid, Relatives>,
+    parent: &EntityUid,
+    child: &Shared<EntityUid>,
+)
+    ensures lists { SameLists relatives.old relatives.new }
+    ensures takes { TakesChild (parent.now ∷ []) [] child.now (children_in relatives.old) (children_in relatives.new) }
+{
+    match relatives.get_mut(parent) {
+        Some(known) => {
+            known.children.remove(child);
+        }
+        None => {}
+    }
+}
+
+// The same, unless the entity is one of these; what is then left without relatives is let go.
+fn take_child_unless(
+    relatives: &mut BTreeMap<EntityUid, Relatives>,
+    parents: &[Shared<EntityUid>],
+    parent: &EntityUid,
+    child: &Shared<EntityUid>,
+)
+    requires { IsAscending parents.now }
+    ensures lists { SameLists relatives.old relatives.new }
+    ensures takes { TakesChild (parent.now ∷ []) parents.now child.now
+        (children_in relatives.old) (children_in relatives.new) }
+{
+    if is_in(parents, parent) {
+        return;
+    }
+    take_child(relatives, parent, child);
+    release(relatives, parent);
+}
+
+/// Takes a child from those of each of the entities `before` that is none of `parents`.
+pub(crate) fn take_from_all(
+    relatives: &mut BTreeMap<EntityUid, Relatives>,
+    before: &[Shared<EntityUid>],
+    parents: &[Shared<EntityUid>],
+    child: &Shared<EntityUid>,
+)
+    requires { IsAscending parents.now }
+    ensures lists { SameLists relatives.old relatives.new }
+    ensures takes { TakesChild before.now parents.now child.now
+        (children_in relatives.old) (children_in relatives.new) }
+{
+    for parent in before {
+        take_child_unless(relatives, parents, parent.get(), child);
+    }
+}

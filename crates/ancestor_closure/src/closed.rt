@@ -1,0 +1,229 @@
+//! A hierarchy that keeps the ancestors of each entity at hand.
+ghost use Rattle.std.specs.Prelude.{◌≡◌, ◌↔◌, [], IsTrue, IsOk, IfOk, OnOk, OnErr, IsSome, MatchOption};
+ghost use Rattle.std.specs.BTreeMap.{get};
+ghost use Rattle.values.specs.Names.{uid_cmp};
+ghost use Rattle.ancestor_search.specs.Hierarchy.{Above, AreOnCycles, IsAscending, names, no_parents, with_parents};
+ghost use Rattle.ancestor_search.specs.LeastCycle.{HasNoCycle, IsLeastCycle};
+ghost use Rattle.ancestor_search.specs.Search.{parents_of};
+ghost use Rattle.ancestor_closure.specs.Kept.{AreKept};
+ghost use Rattle.ancestor_closure.specs.ClosedMeaning.{closed_parents, closed_above, closed_is_decided};
+
+use crate::keeping::KeptAncestors;
+use crate::room::Room;
+use ancestor_search::{Ancestry, Changed, Hierarchy, ParentsOf};
+use plain::NoMemory;
+use std::alloc::Global;
+use std::collections::BTreeMap;
+use std::marker::Model;
+use values::EntityUid;
+
+/// The parents of each stored entity, and what is kept of these edges. Contracts see the parents.
+///
+/// It is meant for changes one by one: each change writes anew the lists of all below its entity, so that to fill it
+/// from the top downwards costs one search for each entity, and from the bottom upwards one for each descendant of
+/// each. A whole graph is closed at once by [`KeptAncestors::of_graph`].
+#[derive(Drop)]
+pub struct Closed {
+    alloc: Global,
+    edges: BTreeMap<EntityUid, Vec<EntityUid>>,
+    kept: KeptAncestors,
+}
+
+impl Model for Closed {
+    ghost use Rattle.std.specs.Prelude.{List};
+    ghost use Rattle.values.specs.declared.entity_uid.EntityUid.{EntityUid};
+    ghost use Rattle.ancestor_search.specs.Search.{parents_of};
+    ghost use Rattle.ancestor_closure.specs.ClosedMeaning.{closed_entries};
+    ghost use Rattle.ancestor_closure.specs.Kept.{AreKept};
+
+    ghost Value = { List (EntityUid × List EntityUid) };
+
+    ghost view = { λ c. closed_entries c.edges.entries };
+
+    ghost invariant = { λ c. AreKept (parents_of c.edges) c.kept };
+}
+
+// Makes room for the parents of an entity.
+fn reserve_edges(
+    alloc: Global,
+    edges: &mut BTreeMap<EntityUid, Vec<EntityUid>>,
+    uid: &EntityUid,
+) -> Result<(), NoMemory>
+    ensures same { parents_of edges.new ≡ parents_of edges.old }
+    ensures there { OnOk result (IsSome (get uid_cmp edges.new uid.now)) }
+{
+    if !edges.contains_key(uid) {
+        edges.insert(uid.copy()?, Vec::new(alloc))?;
+    }
+    Ok(())
+}
+
+// Whether an entity has no parents.
+fn has_no_parents(edges: &BTreeMap<EntityUid, Vec<EntityUid>>, uid: &EntityUid) -> bool
+    ensures { IsTrue result → parents_of edges.now uid.now ≡ [] }
+{
+    edges.parents_of(uid).is_empty()
+}
+
+// Lets go of the entry of an entity that has no parents.
+fn release_edges(edges: &mut BTreeMap<EntityUid, Vec<EntityUid>>, uid: &EntityUid)
+    ensures { parents_of edges.new ≡ parents_of edges.old }
+{
+    if !has_no_parents(edges, uid) {
+        return;
+    }
+    edges.remove(uid);
+}
+
+// Writes the parents of an entity. This takes no memory.
+fn write_edges(
+    edges: &mut BTreeMap<EntityUid, Vec<EntityUid>>,
+    uid: &EntityUid,
+    parents: Vec<EntityUid>,
+)
+    requires { IsSome (get uid_cmp edges.old uid.now) }
+    ensures { parents_of edges.new ≡ with_parents (parents_of edges.old) uid.now parents.items }
+{
+    match edges.get_mut(uid) {
+        Some(known) => {
+            *known = parents;
+        }
+        None => {}
+    }
+}
+
+// Has what is kept follow a change that the edges do not have yet.
+fn follow_change(
+    edges: &BTreeMap<EntityUid, Vec<EntityUid>>,
+    kept: &mut KeptAncestors,
+    uid: &EntityUid,
+    parents: &[EntityUid],
+) -> Result<(), NoMemory>
+    requires { AreKept (parents_of edges.now) kept.old }
+    ensures ok { OnOk result (AreKept (with_parents (parents_of edges.now) uid.now parents.now) kept.new) }
+    ensures err { OnErr result (AreKept (parents_of edges.now) kept.new) }
+{
+    let changed = Changed {
+        graph: edges,
+        uid,
+        parents,
+    };
+    let mut room = Room::new(usize::MAX);
+    kept.follow(&changed, uid, &mut room)
+}
+
+// Gives an entity these parents.
+fn set(
+    alloc: Global,
+    edges: &mut BTreeMap<EntityUid, Vec<EntityUid>>,
+    kept: &mut KeptAncestors,
+    uid: &EntityUid,
+    parents: Vec<EntityUid>,
+) -> Result<(), NoMemory>
+    requires { AreKept (parents_of edges.old) kept.old }
+    ensures kept { AreKept (parents_of edges.new) kept.new }
+    ensures ok { OnOk result (parents_of edges.new ≡ with_parents (parents_of edges.old) uid.now parents.items) }
+    ensures err { OnErr result (parents_of edges.new ≡ parents_of edges.old) }
+{
+    reserve_edges(alloc, edges, uid)?;
+    match follow_change(edges, kept, uid, &parents) {
+        Ok(()) => {
+            write_edges(edges, uid, parents);
+            release_edges(edges, uid);
+            Ok(())
+        }
+        Err(refused) => {
+            release_edges(edges, uid);
+            Err(refused)
+        }
+    }
+}
+
+// Takes an entity away.
+fn unset(
+    edges: &mut BTreeMap<EntityUid, Vec<EntityUid>>,
+    kept: &mut KeptAncestors,
+    uid: &EntityUid,
+) -> Result<(), NoMemory>
+    requires { AreKept (parents_of edges.old) kept.old }
+    ensures kept { AreKept (parents_of edges.new) kept.new }
+    ensures ok { OnOk result (parents_of edges.new ≡ with_parents (parents_of edges.old) uid.now []) }
+    ensures err { OnErr result (parents_of edges.new ≡ parents_of edges.old) }
+{
+    follow_change(edges, kept, uid, &[])?;
+    edges.remove(uid);
+    Ok(())
+}
+
+impl Closed {
+    /// Returns a hierarchy with no entity.
+    pub fn new(alloc: Global) -> Self
+        ensures { ⟦<Closed as Ancestry>⟧.parents result ≡ no_parents }
+    {
+        Closed {
+            alloc,
+            edges: BTreeMap::new(alloc),
+            kept: KeptAncestors::new(alloc),
+        }
+    }
+
+    /// Returns how many lists of ancestors the last change wrote anew: that of the entity itself, also where it was
+    /// taken away, and those of all below it; none where it has the parents that it had. A change that was refused
+    /// leaves the number as it was.
+    pub fn touched(&self) -> usize {
+        self.kept.touched()
+    }
+}
+
+impl Ancestry for Closed {
+    ghost parents = { closed_parents };
+
+    ghost above = { closed_above };
+
+    ghost above_is = { closed_is_decided };
+
+    fn is_ancestor(&self, a: &EntityUid, b: &EntityUid) -> Result<bool, NoMemory>
+        ensures always { IsOk result }
+        ensures exact { IfOk result (λ yes. IsTrue yes ↔ Above (closed_parents self.now) a.now b.now) }
+    {
+        Ok(self.kept.has_ancestor(a, b))
+    }
+
+    fn ancestors(&self, uid: &EntityUid) -> Result<Vec<&EntityUid>, NoMemory> {
+        self.kept.ancestors(uid)
+    }
+
+    fn cyclic(&self) -> Result<Vec<&EntityUid>, NoMemory>
+        ensures at_once { HasNoCycle (closed_parents self.now) → IsOk result }
+        ensures all { IfOk result (λ found. AreOnCycles (closed_parents self.now) (names found.items)) }
+        ensures ascending { IfOk result (λ found. IsAscending (names found.items)) }
+    {
+        self.kept.cyclic()
+    }
+
+    fn least_cycle(&self) -> Result<Option<Vec<&EntityUid>>, NoMemory>
+        ensures at_once { HasNoCycle (closed_parents self.now) → IsOk result }
+        ensures exact { let parents = closed_parents self.now in
+            IfOk result (λ o. MatchOption o (HasNoCycle parents) (λ found. IsLeastCycle parents (names found.items))) }
+    {
+        self.kept.least_cycle(&self.edges)
+    }
+}
+
+impl Hierarchy for Closed {
+    fn set_parents(&mut self, uid: EntityUid, parents: Vec<EntityUid>) -> Result<(), NoMemory> {
+        set(self.alloc, &mut self.edges, &mut self.kept, &uid, parents)
+    }
+
+    fn remove(&mut self, uid: &EntityUid) -> Result<(), NoMemory> {
+        unset(&mut self.edges, &mut self.kept, uid)
+    }
+
+    fn would_cycle(&self, uid: &EntityUid, parents: &[EntityUid]) -> Result<bool, NoMemory>
+        ensures always { IsOk result }
+        ensures exact { let changed = with_parents (closed_parents self.now) uid.now parents.now in
+            IfOk result (λ yes. IsTrue yes ↔ Above changed uid.now uid.now) }
+    {
+        Ok(self.kept.would_cycle(uid, parents))
+    }
+}

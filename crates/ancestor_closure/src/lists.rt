@@ -1,0 +1,164 @@
+//! Lists of ancestors, made anew by a graph.
+ghost use Rattle.std.specs.Prelude.{◌≡◌, ◌↔◌, Contains, IsTrue, IfOk, Vec as PlainVec};
+ghost use Rattle.std.specs.declared.alloc.Global.{Global as PlainGlobal};
+ghost use Rattle.values.specs.declared.entity_uid.EntityUid.{EntityUid as PlainUid};
+ghost use Rattle.values.specs.Names.{uid_cmp};
+ghost use Rattle.ancestor_search.specs.Hierarchy.{IsAscending, names};
+ghost use Rattle.ancestor_closure.specs.Lists.{IsListOf, ancestors_in, SameChildren, IsThere};
+ghost use Rattle.ancestor_closure.specs.inner.OneChange.{firsts, written};
+
+use crate::relatives::{Relatives, ancestors_at, shared, write_list};
+use crate::room::Room;
+use ancestor_search::{ParentsOf, ancestors_of, is_among};
+use plain::{NoMemory, Shared};
+use std::alloc::Global;
+use std::cmp::Ordering;
+use std::collections::BTreeMap;
+use values::EntityUid;
+
+// How an entity of a list compares with another.
+fn compare(known: &Shared<EntityUid>, uid: &EntityUid) -> Ordering
+    ensures { result ≡ uid_cmp known.now uid.now }
+{
+    known.get().cmp(uid)
+}
+
+/// Returns whether an ascending list has the entity; takes logarithmic time.
+pub fn is_in(list: &[Shared<EntityUid>], uid: &EntityUid) -> bool
+    ensures { IsAscending list.now → IsTrue result ↔ Contains list.now uid.now }
+{
+    list.binary_search_by(|known| compare(known, uid)).is_ok()
+}
+
+/// Returns whether the entities are all in an ascending list.
+pub(crate) fn are_in(uids: &[&EntityUid], list: &[Shared<EntityUid>]) -> bool
+    requires { IsAscending list.now }
+    ensures { IsTrue result ↔ ((x : PlainUid) → Contains (names uids.now) x → Contains list.now x) }
+{
+    for uid in uids {
+        if !is_in(list, uid) {
+            return false;
+        }
+    }
+    true
+}
+
+/// Returns whether all of a list are among these, which ascend.
+pub(crate) fn are_among(list: &[Shared<EntityUid>], uids: &[&EntityUid]) -> bool
+    requires { IsAscending (names uids.now) }
+    ensures { IsTrue result ↔ ((x : PlainUid) → Contains list.now x → Contains (names uids.now) x) }
+{
+    for uid in list {
+        if !is_among(uids, uid.get()) {
+            return false;
+        }
+    }
+    true
+}
+
+/// References to what is shared.
+pub fn lent<'a>(
+    alloc: Global,
+    uids: &'a [Shared<EntityUid>],
+) -> Result<Vec<&'a EntityUid>, NoMemory>
+    ensures { IfOk result (λ all. names all.items ≡ uids.now) }
+{
+    let mut all = Vec::new(alloc);
+    for uid in uids {
+        all.push(uid.get())?;
+    }
+    Ok(all)
+}
+
+/// These uids, each shared with what is kept of the entity.
+pub fn shared_all(
+    alloc: Global,
+    relatives: &BTreeMap<EntityUid, Relatives>,
+    uids: &[&EntityUid],
+) -> Result<Vec<Shared<EntityUid>>, NoMemory>
+    ensures { IfOk result (λ all. all.items ≡ names uids.now) }
+{
+    let mut all = Vec::new(alloc);
+    for uid in uids {
+        all.push(shared(alloc, relatives, uid)?)?;
+    }
+    Ok(all)
+}
+
+// The ancestors of an entity, by a search.
+fn list_of<G: ParentsOf>(
+    alloc: Global,
+    graph: &G,
+    relatives: &BTreeMap<EntityUid, Relatives>,
+    uid: &EntityUid,
+) -> Result<Vec<Shared<EntityUid>>, NoMemory>
+    ensures { IfOk result (λ all. IsListOf (G.parents graph.now) uid.now all.items) }
+{
+    let found = ancestors_of(alloc, graph, uid)?;
+    shared_all(alloc, relatives, &found)
+}
+
+/// Returns the ancestors of an entity, by a search, where there is room for them in the place of those that are kept of
+/// it.
+pub fn list_within<G: ParentsOf>(
+    alloc: Global,
+    graph: &G,
+    relatives: &BTreeMap<EntityUid, Relatives>,
+    uid: &EntityUid,
+    room: &mut Room,
+) -> Result<Vec<Shared<EntityUid>>, NoMemory>
+    ensures { IfOk result (λ all. IsListOf (G.parents graph.now) uid.now all.items) }
+{
+    let list = list_of(alloc, graph, relatives, uid)?;
+    room.write(ancestors_at(relatives, uid).len(), list.len())?;
+    Ok(list)
+}
+
+// An entity with its ancestors.
+fn with_list<G: ParentsOf>(
+    alloc: Global,
+    graph: &G,
+    relatives: &BTreeMap<EntityUid, Relatives>,
+    uid: &Shared<EntityUid>,
+    room: &mut Room,
+) -> Result<(Shared<EntityUid>, Vec<Shared<EntityUid>>), NoMemory>
+    ensures { IfOk result (λ e. (e.0 ≡ uid.now) × IsListOf (G.parents graph.now) uid.now e.1.items) }
+{
+    let name = uid.share()?;
+    let list = list_within(alloc, graph, relatives, uid.get(), room)?;
+    Ok((name, list))
+}
+
+/// Returns the ancestors of each of these entities.
+pub(crate) fn lists_of<G: ParentsOf>(
+    alloc: Global,
+    graph: &G,
+    relatives: &BTreeMap<EntityUid, Relatives>,
+    entities: &[Shared<EntityUid>],
+    room: &mut Room,
+) -> Result<Vec<(Shared<EntityUid>, Vec<Shared<EntityUid>>)>, NoMemory>
+    ensures of { IfOk result (λ lists. firsts lists.items ≡ entities.now) }
+    ensures right { IfOk result (λ lists. (q : PlainUid) (list : PlainVec PlainUid PlainGlobal) →
+        Contains lists.items (q, list) → IsListOf (G.parents graph.now) q list.items) }
+{
+    let mut lists = Vec::new(alloc);
+    for entity in entities {
+        lists.push(with_list(alloc, graph, relatives, entity, room)?)?;
+    }
+    Ok(lists)
+}
+
+/// Puts new lists in the place of the old ones. This takes no memory.
+pub(crate) fn write_all(
+    relatives: &mut BTreeMap<EntityUid, Relatives>,
+    mut lists: Vec<(Shared<EntityUid>, Vec<Shared<EntityUid>>)>,
+)
+    requires { (q : PlainUid) → Contains (firsts lists.items) q → IsThere relatives.old q }
+    ensures lists { (q : PlainUid) →
+        ancestors_in relatives.new q ≡ written lists.items q (ancestors_in relatives.old q) }
+    ensures children { SameChildren relatives.old relatives.new }
+{
+    while let Some((entity, list)) = lists.pop() {
+        write_list(relatives, entity.get(), list);
+    }
+}

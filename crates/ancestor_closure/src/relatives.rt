@@ -1,0 +1,148 @@
+//! What is kept of each entity: the list of its ancestors, and its children.
+//!
+//! Something is kept of each entity that has a parent, and of each that is one. Its uid stands twice: as the key, and
+//! shared among all lists and sets that it is in.
+ghost use Rattle.std.specs.Prelude.{◌≡◌, ◌↔◌, [], false, Contains, IsTrue, IfOk, OnOk, cond};
+ghost use Rattle.values.specs.declared.entity_uid.EntityUid.{EntityUid as PlainUid};
+ghost use Rattle.ancestor_search.specs.Decided.{is_same};
+ghost use Rattle.ancestor_closure.specs.Lists.{ancestors_in, children_in, SameLists, SameChildren, IsThere, StayThere};
+
+use plain::{NoMemory, Shared};
+use std::alloc::Global;
+use std::collections::{BTreeMap, BTreeSet};
+use values::EntityUid;
+
+/// What is kept of an entity.
+#[derive(Drop)]
+pub struct Relatives {
+    pub(crate) uid: Shared<EntityUid>,
+    /// All above it, ascending.
+    pub(crate) ancestors: Vec<Shared<EntityUid>>,
+    pub(crate) children: BTreeSet<Shared<EntityUid>>,
+}
+
+/// Returns the ancestors of an entity.
+pub fn ancestors_at<'a>(
+    relatives: &'a BTreeMap<EntityUid, Relatives>,
+    uid: &EntityUid,
+) -> &'a [Shared<EntityUid>]
+    ensures { result.now ≡ ancestors_in relatives.now uid.now }
+{
+    match relatives.get(uid) {
+        Some(known) => &known.ancestors,
+        None => &[],
+    }
+}
+
+/// Returns whether the one is a child of the other.
+pub(crate) fn is_child(
+    relatives: &BTreeMap<EntityUid, Relatives>,
+    parent: &EntityUid,
+    child: &Shared<EntityUid>,
+) -> bool
+    ensures { IsTrue result ↔ Contains (children_in relatives.now parent.now) child.now }
+{
+    match relatives.get(parent) {
+        Some(known) => known.children.contains(child),
+        None => false,
+    }
+}
+
+/// Returns the uid, shared with what is kept of the entity, if anything is.
+pub fn shared(
+    alloc: Global,
+    relatives: &BTreeMap<EntityUid, Relatives>,
+    uid: &EntityUid,
+) -> Result<Shared<EntityUid>, NoMemory>
+    ensures { IfOk result (λ s. s ≡ uid.now) }
+{
+    if let Some(known) = relatives.get(uid) {
+        if known.uid.get() == uid {
+            return known.uid.share();
+        }
+    }
+    Shared::new(alloc, uid.copy()?)
+}
+
+// What is kept of an entity with no ancestors and no children.
+fn without_relatives(alloc: Global, uid: &EntityUid) -> Result<Relatives, NoMemory>
+    ensures ancestors { IfOk result (λ r. r.ancestors.items ≡ []) }
+    ensures children { IfOk result (λ r. r.children.keys ≡ []) }
+{
+    let uid = Shared::new(alloc, uid.copy()?)?;
+    Ok(Relatives {
+        uid,
+        ancestors: Vec::new(alloc),
+        children: BTreeSet::new(alloc),
+    })
+}
+
+/// Makes room for what is kept of an entity.
+pub(crate) fn reserve(
+    alloc: Global,
+    relatives: &mut BTreeMap<EntityUid, Relatives>,
+    uid: &EntityUid,
+) -> Result<(), NoMemory>
+    ensures lists { SameLists relatives.old relatives.new }
+    ensures children { SameChildren relatives.old relatives.new }
+    ensures stay { StayThere relatives.old relatives.new }
+    ensures there { OnOk result (IsThere relatives.new uid.now) }
+{
+    if !relatives.contains_key(uid) {
+        let name = uid.copy()?;
+        relatives.insert(name, without_relatives(alloc, uid)?)?;
+    }
+    Ok(())
+}
+
+// Whether an entity has ancestors or children.
+fn has_relatives(relatives: &BTreeMap<EntityUid, Relatives>, uid: &EntityUid) -> bool
+    ensures ancestors { result ≡ false → ancestors_in relatives.now uid.now ≡ [] }
+    ensures children { result ≡ false → children_in relatives.now uid.now ≡ [] }
+{
+    match relatives.get(uid) {
+        Some(known) => known.ancestors.len() + known.children.len() > 0,
+        None => false,
+    }
+}
+
+/// Lets go of what is kept of an entity that has neither ancestors nor children.
+pub(crate) fn release(relatives: &mut BTreeMap<EntityUid, Relatives>, uid: &EntityUid)
+    ensures lists { SameLists relatives.old relatives.new }
+    ensures children { SameChildren relatives.old relatives.new }
+{
+    if has_relatives(relatives, uid) {
+        return;
+    }
+    relatives.remove(uid);
+}
+
+/// Lets go of what is kept of those of the entities that have neither ancestors nor children.
+pub(crate) fn release_all(relatives: &mut BTreeMap<EntityUid, Relatives>, uids: &[&EntityUid])
+    ensures lists { SameLists relatives.old relatives.new }
+    ensures children { SameChildren relatives.old relatives.new }
+{
+    for uid in uids {
+        release(relatives, uid);
+    }
+}
+
+/// Writes the ancestors of an entity.
+pub fn write_list(
+    relatives: &mut BTreeMap<EntityUid, Relatives>,
+    uid: &EntityUid,
+    list: Vec<Shared<EntityUid>>,
+)
+    requires { IsThere relatives.old uid.now }
+    ensures lists { (q : PlainUid) →
+        ancestors_in relatives.new q ≡ cond (is_same uid.now q) list.items (ancestors_in relatives.old q) }
+    ensures children { SameChildren relatives.old relatives.new }
+    ensures stay { StayThere relatives.old relatives.new }
+{
+    match relatives.get_mut(uid) {
+        Some(known) => {
+            known.ancestors = list;
+        }
+        None => {}
+    }
+}

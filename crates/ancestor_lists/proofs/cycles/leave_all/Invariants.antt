@@ -1,7 +1,0 @@
-use Rattle.std.proofs.Common.{take}
-use Rattle.ancestor_lists.specs.Lists.{ancestors_in}
-use Rattle.ancestor_lists.specs.inner.OneChange.{Leaves}
-use Rattle.ancestor_lists.proofs.cycles.leave_all.Given as goal
-
-abbrev pub invariant-loop-entity : goal.invariant-loop-entity
-invariant-loop-entity l = Leaves (take l.entity-index l.entities) (ancestors_in l.relatives) l.fn.cyclic.keys l.cyclic.keys

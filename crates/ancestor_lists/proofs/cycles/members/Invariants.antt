@@ -1,6 +1,0 @@
-use Rattle.std.proofs.Common.{◌≡◌}
-use Rattle.ancestor_closure.specs.Hierarchy.{names}
-use Rattle.ancestor_lists.proofs.cycles.members.Given as goal
-
-abbrev pub invariant-loop-uid : goal.invariant-loop-uid
-invariant-loop-uid l = names l.all.items ≡ names l.yielded

@@ -1,6 +1,0 @@
-use Rattle.std.proofs.Common.{◌≡◌, take}
-use Rattle.ancestor_closure.specs.Hierarchy.{names}
-use Rattle.ancestor_lists.proofs.lists.lent.Given as goal
-
-abbrev pub invariant-loop-uid : goal.invariant-loop-uid
-invariant-loop-uid l = names l.all.items ≡ take l.uid-index l.uids

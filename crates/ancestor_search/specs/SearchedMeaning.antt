@@ -1,0 +1,22 @@
+-- What a hierarchy that is searched means, for those who hold one: its edges, and a test that decides who is above
+-- whom.
+use Rattle.std.specs.Prelude.{Bool}
+use Rattle.std.specs.BTreeMap.{keys}
+use Rattle.values.specs.declared.entity_uid.EntityUid.{EntityUid}
+use Rattle.ancestor_search.specs.Hierarchy.{Parents}
+use Rattle.ancestor_search.specs.Search.{parents_of}
+use Rattle.ancestor_search.specs.Decided.{Decides, reaches}
+use Rattle.ancestor_search.specs.Deciding.{edges_are_decided}
+use Rattle.ancestor_search.specs.declared.searched.Searched.{Searched}
+
+-- the parents of each entity
+abbrev pub searched_parents : Searched → Parents
+searched_parents s = parents_of s.edges
+
+-- whether a path leads from one entity to another
+abbrev pub searched_above : Searched → EntityUid → EntityUid → Bool
+searched_above s = reaches (parents_of s.edges) (keys s.edges)
+
+-- the test decides
+pub searched_is_decided : (s : Searched) → Decides (searched_parents s) (searched_above s)
+searched_is_decided s = edges_are_decided s.edges

@@ -1,0 +1,4 @@
+pub mod Walking
+pub mod Numbering
+pub mod UnderWay
+pub mod Backwards

@@ -1,0 +1,41 @@
+//! Lists of entities that ascend.
+ghost use Rattle.std.specs.Prelude.{◌≡◌, ◌↔◌, IsTrue, IfOk, MatchOption, Contains};
+ghost use Rattle.ancestor_search.specs.Hierarchy.{IsAscending, names};
+ghost use Rattle.ancestor_search.specs.inner.Numbering.{IsNumber, IsNoNumber};
+
+use plain::NoMemory;
+use std::alloc::Global;
+use std::collections::BTreeSet;
+use values::EntityUid;
+
+/// Returns the members of a set, ascending.
+pub fn listed<'a>(
+    alloc: Global,
+    found: BTreeSet<&'a EntityUid>,
+) -> Result<Vec<&'a EntityUid>, NoMemory>
+    ensures same { IfOk result (λ all. names all.items ≡ names found.entry.keys) }
+    ensures ascending { IsAscending (names found.entry.keys) }
+{
+    let _ascending = found.len();
+    found.into_iter().collect(alloc)
+}
+
+/// Returns the number of an entity, which is its place, where it is in the list.
+pub(crate) fn number_of(uids: &[&EntityUid], uid: &EntityUid) -> Option<usize>
+    requires { IsAscending (names uids.now) }
+    ensures { MatchOption result (IsNoNumber (names uids.now) uid.now) (λ i. IsNumber (names uids.now) i uid.now) }
+{
+    match uids.binary_search(&uid) {
+        Ok(number) => Some(number),
+        Err(_) => None,
+    }
+}
+
+/// Returns whether an entity is in an ascending list, as [`crate::ancestors_of`] gives one; takes logarithmic time, and
+/// no memory.
+pub fn is_among(uids: &[&EntityUid], uid: &EntityUid) -> bool
+    requires { IsAscending (names uids.now) }
+    ensures { IsTrue result ↔ Contains (names uids.now) uid.now }
+{
+    number_of(uids, uid).is_some()
+}

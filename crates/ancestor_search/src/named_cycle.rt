@@ -1,0 +1,282 @@
+//! The least, compared item by item, of the shortest cycles through the least entity that is on a cycle.
+//!
+//! A breadth-first search goes backwards, from that entity to its children, to theirs and so on, until it comes back:
+//! then of each entity on a shortest cycle it is known how many edges lead on to the end. From the beginning the walk
+//! goes each time to the least parent that is one edge nearer. Each edge is looked at three times at most.
+ghost use Rattle.std.specs.Prelude.{◌≡◌, ◌+◌, ◌<◌, ◌^◌, ◌↔◌, ◌++◌, [], ◌∷◌, IsTrue, Some, MatchOption, IfOk, OnOk};
+ghost use Rattle.std.specs.Prelude.{Contains, cond};
+ghost use Rattle.std.specs.BTreeMap.{btree_map_len};
+ghost use Rattle.std.specs.Option.{option_copied};
+ghost use Rattle.std.specs.Ordering.{is_eq, is_lt};
+ghost use Rattle.values.specs.declared.entity_uid.EntityUid.{EntityUid as PlainUid};
+ghost use Rattle.values.specs.Names.{uid_cmp};
+ghost use Rattle.ancestor_search.specs.Hierarchy.{names, Above, AreOnCycles, IsAscending};
+ghost use Rattle.ancestor_search.specs.LeastCycle.{HasNoCycle, IsLeastCycle};
+ghost use Rattle.ancestor_search.specs.inner.Backwards.{children_of, AreChildrenAmong, AreChildren, AddsChild};
+ghost use Rattle.ancestor_search.specs.inner.Backwards.{dist_of, AreDistances, AreKnownUpTo, ReachesBack, Reaches};
+ghost use Rattle.ancestor_search.specs.inner.Backwards.{is_one_of, is_child_of, IsLeastOf, IsWalkBack};
+
+use crate::graph::{Graph, ParentsOf};
+use crate::numbers::on_cycles;
+use plain::NoMemory;
+use std::alloc::Global;
+use std::collections::BTreeMap;
+use values::EntityUid;
+
+// Of each entity those that it is a parent of.
+type Children<'a> = BTreeMap<&'a EntityUid, Vec<&'a EntityUid>>;
+
+// How many edges lead from an entity to the end.
+type Distances<'a> = BTreeMap<&'a EntityUid, usize>;
+
+// Takes what is known of a parent.
+fn take<'a>(alloc: Global, children: &mut Children<'a>, parent: &'a EntityUid) -> Vec<&'a EntityUid>
+    ensures was { names result.items ≡ children_of children.old parent.now }
+    ensures out { (x : PlainUid) → children_of children.new x ≡
+        cond (is_eq (uid_cmp parent.now x)) [] (children_of children.old x) }
+{
+    match children.remove(&parent) {
+        Some(known) => known,
+        None => Vec::new(alloc),
+    }
+}
+
+// Adds a child to what is known of a parent.
+fn add_to<'a>(
+    alloc: Global,
+    children: &mut Children<'a>,
+    parent: &'a EntityUid,
+    child: &'a EntityUid,
+) -> Result<(), NoMemory>
+    ensures { OnOk result ((x : PlainUid) → children_of children.new x ≡
+        cond (is_eq (uid_cmp parent.now x))
+        (children_of children.old x ++ child.now ∷ []) (children_of children.old x)) }
+{
+    let mut known = take(alloc, children, parent);
+    known.push(child)?;
+    children.insert(parent, known)?;
+    Ok(())
+}
+
+// Adds a child to what is known of each of these parents.
+fn add_child<'a>(
+    alloc: Global,
+    children: &mut Children<'a>,
+    parents: &'a [EntityUid],
+    child: &'a EntityUid,
+) -> Result<(), NoMemory>
+    ensures { OnOk result (AddsChild parents.now child.now (children_of children.old) (children_of children.new)) }
+{
+    for parent in parents {
+        add_to(alloc, children, parent, child)?;
+    }
+    Ok(())
+}
+
+// The edges from these entities, turned round.
+fn children_among<'a, G: ParentsOf>(
+    alloc: Global,
+    graph: &'a G,
+    uids: &[&'a EntityUid],
+) -> Result<Children<'a>, NoMemory>
+    ensures { IfOk result (λ children. AreChildrenAmong (names uids.now) (G.parents graph.now) (children_of children)) }
+{
+    let mut children = BTreeMap::new(alloc);
+    for uid in uids {
+        add_child(alloc, &mut children, graph.parents_of(uid), uid)?;
+    }
+    Ok(children)
+}
+
+// All edges, turned round.
+fn children_in<'a, G: Graph>(alloc: Global, graph: &'a G) -> Result<Children<'a>, NoMemory>
+    ensures { IfOk result (λ children. AreChildren (G.parents graph.now) (children_of children)) }
+{
+    let uids = graph.stored_uids(alloc)?;
+    let children = children_among(alloc, graph, &uids)?;
+    Ok(children)
+}
+
+// Those of these that were not reached are `far` edges from the end, and belong to the level.
+fn reach<'a>(
+    uids: &[&'a EntityUid],
+    far: usize,
+    reached: &mut Distances<'a>,
+    level: &mut Vec<&'a EntityUid>,
+) -> Result<(), NoMemory>
+    ensures { OnOk result (Reaches (is_one_of (names uids.now)) far (dist_of reached.old) (dist_of reached.new)
+        (names level.old.items) (names level.new.items) (btree_map_len reached.old) (btree_map_len reached.new)) }
+{
+    for uid in uids {
+        if !reached.contains_key(uid) {
+            reached.insert(*uid, far)?;
+            level.push(*uid)?;
+        }
+    }
+    Ok(())
+}
+
+// The same of what is known of an entity's children.
+fn reach_children<'a>(
+    children: &Children<'a>,
+    uid: &'a EntityUid,
+    far: usize,
+    reached: &mut Distances<'a>,
+    level: &mut Vec<&'a EntityUid>,
+) -> Result<(), NoMemory>
+    ensures { OnOk result (Reaches (is_one_of (children_of children.now uid.now)) far
+        (dist_of reached.old) (dist_of reached.new) (names level.old.items) (names level.new.items)
+        (btree_map_len reached.old) (btree_map_len reached.new)) }
+{
+    match children.get(&uid) {
+        Some(found) => reach(found, far, reached, level),
+        None => Ok(()),
+    }
+}
+
+// The children of a level that were not reached, which are `far` edges from the end.
+fn next_level<'a>(
+    alloc: Global,
+    children: &Children<'a>,
+    level: &[&'a EntityUid],
+    far: usize,
+    reached: &mut Distances<'a>,
+) -> Result<Vec<&'a EntityUid>, NoMemory>
+    ensures reaches { IfOk result (λ next. Reaches (is_child_of (children_of children.now) (names level.now)) far
+        (dist_of reached.old) (dist_of reached.new) [] (names next.items)
+        (btree_map_len reached.old) (btree_map_len reached.new)) }
+    ensures small { OnOk result (btree_map_len reached.new < 2 ^ 63) }
+{
+    let mut next = Vec::new(alloc);
+    for uid in level {
+        reach_children(children, uid, far, reached, &mut next)?;
+    }
+    let _small = reached.len();
+    Ok(next)
+}
+
+// The distances from each entity to the end, as far as they are needed to come back to it.
+fn distances<'a, G: Graph>(
+    alloc: Global,
+    graph: &'a G,
+    end: &'a EntityUid,
+) -> Result<Option<Distances<'a>>, NoMemory>
+    ensures { IfOk result (λ o. MatchOption o (Above (G.parents graph.now) end.now end.now → ⊥)
+        (λ known. ReachesBack (G.parents graph.now) end.now (dist_of known))) }
+{
+    let children = children_in(alloc, graph)?;
+    let mut reached = BTreeMap::new(alloc);
+    let mut level = Vec::new(alloc);
+    level.push(end)?;
+    let mut far = 0;
+    while !reached.contains_key(&end) {
+        far += 1;
+        level = next_level(alloc, &children, &level, far, &mut reached)?;
+        if level.is_empty() {
+            return Ok(None);
+        }
+    }
+    Ok(Some(reached))
+}
+
+// Whether the entity is known to be `far` edges from the end.
+fn is_at<'a>(distances: &Distances<'a>, uid: &'a EntityUid, far: usize) -> bool
+    ensures { IsTrue result ↔ (dist_of distances.now uid.now ≡ Some far) }
+{
+    match distances.get(&uid) {
+        Some(known) => *known == far,
+        None => false,
+    }
+}
+
+// Whether the entity is less than the other, if there is another.
+fn is_below(uid: &EntityUid, other: Option<&EntityUid>) -> bool
+    ensures { MatchOption other.entry (IsTrue result) (λ y. result ≡ is_lt (uid_cmp uid.now y.now)) }
+{
+    match other {
+        Some(other) => uid < other,
+        None => true,
+    }
+}
+
+// The least of the parents that are `far` edges from the end.
+fn least_at<'a>(
+    parents: &'a [EntityUid],
+    distances: &Distances<'a>,
+    far: usize,
+) -> Option<&'a EntityUid>
+    ensures { IsLeastOf parents.now (dist_of distances.now) far (option_copied result) }
+{
+    let mut least = None;
+    for parent in parents {
+        if is_at(distances, parent, far) && is_below(parent, least) {
+            least = Some(parent);
+        }
+    }
+    least
+}
+
+// The least, compared item by item, of the shortest walks from an entity on a cycle back to it.
+fn walk<'a, G: ParentsOf>(
+    alloc: Global,
+    graph: &'a G,
+    start: &'a EntityUid,
+    distances: &Distances<'a>,
+    long: usize,
+) -> Result<Vec<&'a EntityUid>, NoMemory>
+    requires known { AreDistances (G.parents graph.now) start.now (dist_of distances.now) }
+    requires all { AreKnownUpTo (G.parents graph.now) start.now (dist_of distances.now) long }
+    requires long { dist_of distances.now start.now ≡ Some long }
+    ensures { IfOk result (λ found. IsWalkBack (G.parents graph.now) start.now (names found.items)) }
+{
+    let mut found = Vec::new(alloc);
+    found.push(start)?;
+    let mut last = start;
+    for far in (1..long).rev() {
+        if let Some(next) = least_at(graph.parents_of(last), distances, far) {
+            found.push(next)?;
+            last = next;
+        }
+    }
+    Ok(found)
+}
+
+/// Returns what [`least_cycle`] gives, where `cyclic` are all entities on cycles, ascending: for those who know them.
+/// None, at once, where there are none.
+pub fn least_cycle_among<'a, G: Graph>(
+    alloc: Global,
+    graph: &'a G,
+    cyclic: &[&'a EntityUid],
+) -> Result<Option<Vec<&'a EntityUid>>, NoMemory>
+    requires all { AreOnCycles (G.parents graph.now) (names cyclic.now) }
+    requires ascending { IsAscending (names cyclic.now) }
+    ensures { let parents = G.parents graph.now in
+        IfOk result (λ o. MatchOption o (HasNoCycle parents) (λ found. IsLeastCycle parents (names found.items))) }
+{
+    let Some(start) = cyclic.first() else {
+        return Ok(None);
+    };
+    let start: &'a EntityUid = *start;
+    let Some(known) = distances(alloc, graph, start)? else {
+        return Ok(None);
+    };
+    let Some(long) = known.get(&start) else {
+        return Ok(None);
+    };
+    let found = walk(alloc, graph, start, &known, *long)?;
+    Ok(Some(found))
+}
+
+/// Returns the least, compared item by item, of the shortest cycles through the least entity that is on a cycle. It
+/// begins with that entity; an edge leads from each entity to the next, and from the last to the first. Entities count
+/// as less by type, and then by id. None where there is no cycle, and then at the cost of [`on_cycles`].
+pub fn least_cycle<'a, G: Graph>(
+    alloc: Global,
+    graph: &'a G,
+) -> Result<Option<Vec<&'a EntityUid>>, NoMemory>
+    ensures { let parents = G.parents graph.now in
+        IfOk result (λ o. MatchOption o (HasNoCycle parents) (λ found. IsLeastCycle parents (names found.items))) }
+{
+    let cyclic = on_cycles(alloc, graph)?;
+    least_cycle_among(alloc, graph, &cyclic)
+}

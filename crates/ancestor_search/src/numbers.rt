@@ -1,0 +1,101 @@
+//! Entities by number: an entity's number is its place in an ascending list.
+ghost use Rattle.std.specs.Prelude.{◌≡◌, IfOk, false, length, slice_index_or};
+ghost use Rattle.ancestor_search.specs.Hierarchy.{AreOnCycles, IsAscending, names};
+ghost use Rattle.ancestor_search.specs.inner.Numbering.{NumbersAmong, AreNumbered, MarkedBefore};
+
+use crate::graph::{Graph, ParentsOf};
+use crate::lists::{listed, number_of};
+use crate::walk::cyclic;
+use plain::NoMemory;
+use std::alloc::Global;
+use std::collections::BTreeSet;
+use values::EntityUid;
+
+// The numbers of those parents that are in the list.
+fn numbers_of<'a>(
+    alloc: Global,
+    uids: &[&'a EntityUid],
+    parents: &'a [EntityUid],
+) -> Result<Vec<usize>, NoMemory>
+    requires { IsAscending (names uids.now) }
+    ensures { IfOk result (λ numbers. NumbersAmong (names uids.now) parents.now numbers.items) }
+{
+    let mut numbers = Vec::new(alloc);
+    for parent in parents {
+        if let Some(number) = number_of(uids, parent) {
+            numbers.push(number)?;
+        }
+    }
+    Ok(numbers)
+}
+
+// Of each entity the numbers of its parents.
+fn numbered<'a, G: ParentsOf>(
+    alloc: Global,
+    graph: &'a G,
+    uids: &[&'a EntityUid],
+) -> Result<Vec<Vec<usize>>, NoMemory>
+    requires { IsAscending (names uids.now) }
+    ensures { let us = names uids.now in
+        IfOk result (λ edges. AreNumbered (G.parents graph.now) us (length us) edges.items) }
+{
+    let mut edges = Vec::new(alloc);
+    for uid in uids {
+        let numbers = numbers_of(alloc, uids, graph.parents_of(uid))?;
+        edges.push(numbers)?;
+    }
+    Ok(edges)
+}
+
+// Whether a number is marked; none is past the end.
+fn is_marked(marks: &[bool], number: usize) -> bool
+    ensures { result ≡ slice_index_or marks.now number false }
+{
+    if number < marks.len() {
+        marks[number]
+    } else {
+        false
+    }
+}
+
+// Those of the list that are marked.
+fn marked<'a>(
+    alloc: Global,
+    uids: &[&'a EntityUid],
+    marks: &[bool],
+) -> Result<BTreeSet<&'a EntityUid>, NoMemory>
+    ensures { let us = names uids.now in
+        IfOk result (λ found. MarkedBefore us marks.now (length us) (names found.keys)) }
+{
+    let mut found = BTreeSet::new(alloc);
+    for number in 0..uids.len() {
+        let uid = uids[number];
+        if is_marked(marks, number) {
+            found.insert(uid)?;
+        }
+    }
+    Ok(found)
+}
+
+// All entities on cycles.
+fn found_by_number<'a, G: Graph>(
+    alloc: Global,
+    graph: &'a G,
+) -> Result<BTreeSet<&'a EntityUid>, NoMemory>
+    ensures { IfOk result (λ found. AreOnCycles (G.parents graph.now) (names found.keys)) }
+{
+    let uids = graph.stored_uids(alloc)?;
+    let edges = numbered(alloc, graph, &uids)?;
+    let marks = cyclic(alloc, &edges)?;
+    let found = marked(alloc, &uids, &marks)?;
+    Ok(found)
+}
+
+/// Returns all entities on cycles, ascending; `NoMemory` where an allocation was refused. Each entity is numbered once,
+/// and each edge is looked at twice, as a number.
+pub fn on_cycles<'a, G: Graph>(alloc: Global, graph: &'a G) -> Result<Vec<&'a EntityUid>, NoMemory>
+    ensures all { IfOk result (λ found. AreOnCycles (G.parents graph.now) (names found.items)) }
+    ensures ascending { IfOk result (λ found. IsAscending (names found.items)) }
+{
+    listed(alloc, found_by_number(alloc, graph)?)
+}

@@ -1,0 +1,113 @@
+//! The search for what lies above an entity, in any graph.
+ghost use Rattle.std.specs.Prelude.{◌^◌, ◌<◌, Contains, IsTrue, ◌↔◌, IfOk, OnOk};
+ghost use Rattle.std.specs.BTreeSet.{btree_set_len};
+ghost use Rattle.ancestor_search.specs.Hierarchy.{Above, IsAllAbove, IsAscending, names, with_parents};
+ghost use Rattle.ancestor_search.specs.Search.{Adds};
+
+use crate::graph::{Changed, ParentsOf};
+use crate::lists::listed;
+use plain::NoMemory;
+use std::alloc::Global;
+use std::collections::BTreeSet;
+use values::EntityUid;
+
+// Whether the list has an entity.
+fn has(entities: &[EntityUid], uid: &EntityUid) -> bool
+    ensures { IsTrue result ↔ Contains entities.now uid.now }
+{
+    entities.contains(uid)
+}
+
+// Adds those that were not seen before to what is seen, and to the work.
+fn add_parents<'a>(
+    parents: &'a [EntityUid],
+    seen: &mut BTreeSet<&'a EntityUid>,
+    work: &mut Vec<&'a EntityUid>,
+) -> Result<(), NoMemory>
+    ensures adds { OnOk result
+        (Adds parents.now (names seen.old.keys) (names work.old.items) (names seen.new.keys) (names work.new.items)) }
+    ensures small { OnOk result (btree_set_len seen.new < 2 ^ 63) }
+{
+    for parent in parents {
+        if seen.insert(parent)? {
+            work.push(parent)?;
+        }
+    }
+    let _small = seen.len();
+    Ok(())
+}
+
+// All that lies above an entity.
+fn above<'a, G: ParentsOf>(
+    alloc: Global,
+    graph: &'a G,
+    uid: &EntityUid,
+) -> Result<BTreeSet<&'a EntityUid>, NoMemory>
+    ensures { IfOk result (λ found. IsAllAbove (G.parents graph.now) uid.now (names found.keys)) }
+{
+    let mut seen = BTreeSet::new(alloc);
+    let mut work = Vec::new(alloc);
+    add_parents(graph.parents_of(uid), &mut seen, &mut work)?;
+    while let Some(next) = work.pop() {
+        add_parents(graph.parents_of(next), &mut seen, &mut work)?;
+    }
+    Ok(seen)
+}
+
+/// Returns whether `a` lies above `b`. The search ends at the first path found.
+/// `NoMemory` where an allocation was refused.
+pub fn is_above<'a, G: ParentsOf>(
+    alloc: Global,
+    graph: &'a G,
+    a: &'a EntityUid,
+    b: &EntityUid,
+) -> Result<bool, NoMemory>
+    ensures { IfOk result (λ yes. IsTrue yes ↔ Above (G.parents graph.now) a.now b.now) }
+{
+    let parents = graph.parents_of(b);
+    if has(parents, a) {
+        return Ok(true);
+    }
+    let mut seen = BTreeSet::new(alloc);
+    let mut work = Vec::new(alloc);
+    add_parents(parents, &mut seen, &mut work)?;
+    while let Some(next) = work.pop() {
+        let further = graph.parents_of(next);
+        if has(further, a) {
+            return Ok(true);
+        }
+        add_parents(further, &mut seen, &mut work)?;
+    }
+    Ok(seen.contains(&a))
+}
+
+/// Returns all that lies above an entity, stored or not, ascending; `NoMemory` where an allocation was refused.
+pub fn ancestors_of<'a, G: ParentsOf>(
+    alloc: Global,
+    graph: &'a G,
+    uid: &EntityUid,
+) -> Result<Vec<&'a EntityUid>, NoMemory>
+    ensures all { IfOk result (λ found. IsAllAbove (G.parents graph.now) uid.now (names found.items)) }
+    ensures ascending { IfOk result (λ found. IsAscending (names found.items)) }
+{
+    listed(alloc, above(alloc, graph, uid)?)
+}
+
+/// Returns whether the entity would be above itself if it had these parents; `NoMemory` where an allocation was
+/// refused.
+pub fn would_cycle<G: ParentsOf>(
+    alloc: Global,
+    graph: &G,
+    uid: &EntityUid,
+    parents: &[EntityUid],
+) -> Result<bool, NoMemory>
+    ensures { let changed = with_parents (G.parents graph.now) uid.now parents.now in
+        IfOk result (λ yes. IsTrue yes ↔ Above changed uid.now uid.now) }
+{
+    let changed = Changed {
+        graph,
+        uid,
+        parents,
+    };
+    is_above(alloc, &changed, uid, uid)
+}

@@ -1,0 +1,236 @@
+//! Which numbers are on cycles, where each number has edges to others (strongly connected components, without
+//! recursion).
+//!
+//! The search goes along one path of edges. Numbers that were found to lead to one another stand in one group; the
+//! groups of the path stand one behind the other in one list of members and one list of edges not looked at yet,
+//! and a row of bounds says where each group begins. An edge back to an earlier group makes one group of it and
+//! all later ones: their bounds are dropped, nothing is moved. A last group with no edge left to look at is done.
+//! (Gabow, "Path-based depth-first search for strong and biconnected components", 2000.)
+ghost use Rattle.std.specs.Prelude.{◌≡◌, ◌+◌, ◌<◌, ◌≤◌, [], ◌∷◌, ◌++◌, true, length, IsTrue, ◌↔◌, ◌⊎◌, IfOk, OnOk};
+ghost use Rattle.std.specs.Prelude.{MatchOption, slice_set};
+ghost use Rattle.ancestor_search.specs.inner.Walking.{bound_at, edges_of, mark_of, MarksCycles, JoinsDownTo, IsSeen};
+ghost use Rattle.ancestor_search.specs.inner.Walking.{KeepsSeen, HasOpen, FindsOpen, Ends};
+ghost use Rattle.ancestor_search.specs.inner.UnderWay.{IsUnderWay, IsWaiting, effort_of};
+
+use plain::NoMemory;
+use std::alloc::Global;
+
+// Where a group begins among the members and among the edges not looked at.
+#[derive(Clone, Copy, Drop)]
+struct Bound {
+    members: usize,
+    pending: usize,
+}
+
+// A search under way. Of each number: 0 where it was not seen, its place among the members, counted from 1, or
+// the greatest number where it is done.
+#[derive(Drop)]
+struct Walk {
+    place: Vec<usize>,
+    found: Vec<bool>,
+    members: Vec<usize>,
+    pending: Vec<usize>,
+    bounds: Vec<Bound>,
+}
+
+// The edges from a number; none past the end.
+fn edges_at(edges: &[Vec<usize>], number: usize) -> &[usize]
+    ensures { result.now ≡ edges_of edges.now number }
+{
+    if number < edges.len() {
+        &edges[number]
+    } else {
+        &[]
+    }
+}
+
+// What is noted of a number; past the end it is done.
+fn noted(place: &[usize], number: usize) -> usize
+    ensures { result ≡ mark_of place.now number }
+{
+    if number < place.len() {
+        place[number]
+    } else {
+        usize::MAX
+    }
+}
+
+// Notes this of a number; nothing past the end.
+fn note(place: &mut Vec<usize>, number: usize, mark: usize)
+    ensures { place.new.items ≡ slice_set place.old.items number mark }
+{
+    if number < place.len() {
+        place[number] = mark;
+    }
+}
+
+// Marks a number as found; nothing past the end.
+fn tick(found: &mut Vec<bool>, number: usize)
+    ensures { found.new.items ≡ slice_set found.old.items number true }
+{
+    if number < found.len() {
+        found[number] = true;
+    }
+}
+
+// Takes an edge of the last group, whose edges begin there.
+fn next_edge(pending: &mut Vec<usize>, start: usize) -> Option<usize>
+    ensures { MatchOption result
+        ((pending.new.items ≡ pending.old.items) × (length pending.old.items ≤ start))
+        (λ y. (pending.old.items ≡ pending.new.items ++ y ∷ []) × (start ≤ length pending.new.items)) }
+{
+    if pending.len() <= start {
+        return None;
+    }
+    pending.pop()
+}
+
+// Begins a group of one number.
+fn enter(edges: &[Vec<usize>], walk: &mut Walk, number: usize) -> Result<(), NoMemory>
+    ensures place { OnOk result
+        (walk.new.place.items ≡ slice_set walk.old.place.items number (length walk.old.members.items + 1)) }
+    ensures members { OnOk result (walk.new.members.items ≡ walk.old.members.items ++ number ∷ []) }
+    ensures pending { OnOk result (walk.new.pending.items ≡ walk.old.pending.items ++ edges_of edges.now number) }
+    ensures bounds { OnOk result
+        (walk.new.bounds.items ≡ walk.old.bounds.items ++ bound_at walk.old.members.items walk.old.pending.items ∷ []) }
+    ensures found { OnOk result (walk.new.found.items ≡ walk.old.found.items) }
+{
+    let bound = Bound {
+        members: walk.members.len(),
+        pending: walk.pending.len(),
+    };
+    walk.bounds.push(bound)?;
+    walk.members.push(number)?;
+    walk.pending.extend_from_slice(edges_at(edges, number))?;
+    note(&mut walk.place, number, walk.members.len());
+    Ok(())
+}
+
+// Makes one group of the last and those before it, down to the one that has this place.
+fn joined(bounds: &mut Vec<Bound>, last: Bound, place: usize) -> Bound
+    requires { 0 < place }
+    ensures joins { JoinsDownTo place bounds.old.items last bounds.new.items result }
+    ensures down { bounds.new.items ≡ [] ⊎ (result.members < place) }
+    ensures fewer { length bounds.new.items ≤ length bounds.old.items }
+{
+    let mut last = last;
+    while place <= last.members {
+        match bounds.pop() {
+            Some(lower) => last = lower,
+            None => return last,
+        }
+    }
+    last
+}
+
+// Looks at an edge of the last group, whose bound was taken.
+fn look_at(
+    edges: &[Vec<usize>],
+    walk: &mut Walk,
+    last: Bound,
+    number: usize,
+) -> Result<(), NoMemory>
+    requires { IsWaiting (edges_of edges.now) walk.old last number }
+    ensures walks { OnOk result (IsUnderWay (edges_of edges.now) walk.new) }
+    ensures kept { OnOk result (KeepsSeen walk.old.place.items walk.new.place.items) }
+    ensures less { OnOk result (effort_of walk.new ≤ effort_of walk.old + 1) }
+{
+    let place = noted(&walk.place, number);
+    if place == 0 {
+        walk.bounds.push(last)?;
+        enter(edges, walk, number)?;
+        return Ok(());
+    }
+    if place == usize::MAX {
+        walk.bounds.push(last)?;
+        return Ok(());
+    }
+    let last = joined(&mut walk.bounds, last, place);
+    walk.bounds.push(last)?;
+    Ok(())
+}
+
+// Whether one of the numbers is not done.
+fn leads_in(numbers: &[usize], place: &[usize]) -> bool
+    ensures { IsTrue result ↔ HasOpen numbers.now place.now }
+{
+    for number in numbers {
+        if noted(place, *number) != usize::MAX {
+            return true;
+        }
+    }
+    false
+}
+
+// Finds the members of a group from which an edge leads into it.
+fn find(edges: &[Vec<usize>], members: &[usize], place: &[usize], found: &mut Vec<bool>)
+    ensures { FindsOpen (edges_of edges.now) place.now members.now found.old.items found.new.items }
+{
+    for number in members {
+        if leads_in(edges_at(edges, *number), place) {
+            tick(found, *number);
+        }
+    }
+}
+
+// Notes that these are done.
+fn end(members: &[usize], place: &mut Vec<usize>)
+    ensures { Ends members.now place.old.items place.new.items }
+{
+    for number in members {
+        note(place, *number, usize::MAX);
+    }
+}
+
+// A last group, with these members, is done.
+fn leave(edges: &[Vec<usize>], members: &[usize], place: &mut Vec<usize>, found: &mut Vec<bool>)
+    ensures finds { FindsOpen (edges_of edges.now) place.old.items members.now found.old.items found.new.items }
+    ensures ends { Ends members.now place.old.items place.new.items }
+{
+    find(edges, members, place, found);
+    end(members, place);
+}
+
+// Searches all that is met from a number.
+fn explore(edges: &[Vec<usize>], walk: &mut Walk, root: usize) -> Result<(), NoMemory>
+    requires walks { IsUnderWay (edges_of edges.now) walk.old }
+    requires none { walk.old.bounds.items ≡ [] }
+    ensures walks { OnOk result (IsUnderWay (edges_of edges.now) walk.new) }
+    ensures none { OnOk result (walk.new.bounds.items ≡ []) }
+    ensures kept { OnOk result (KeepsSeen walk.old.place.items walk.new.place.items) }
+    ensures reached { OnOk result (IsSeen walk.new.place.items root) }
+{
+    if noted(&walk.place, root) != 0 {
+        return Ok(());
+    }
+    enter(edges, walk, root)?;
+    while let Some(last) = walk.bounds.pop() {
+        match next_edge(&mut walk.pending, last.pending) {
+            Some(number) => look_at(edges, walk, last, number)?,
+            None => {
+                let (_, members) = walk.members.split_at(last.members);
+                leave(edges, members, &mut walk.place, &mut walk.found);
+                walk.members.truncate(last.members);
+            }
+        }
+    }
+    Ok(())
+}
+
+/// Of each number whether it is on a cycle; each edge is looked at twice.
+pub(crate) fn cyclic(alloc: Global, edges: &[Vec<usize>]) -> Result<Vec<bool>, NoMemory>
+    ensures { IfOk result (λ found. MarksCycles (edges_of edges.now) found.items) }
+{
+    let count = edges.len();
+    let mut walk = Walk {
+        place: Vec::from_elem(alloc, 0, count)?,
+        found: Vec::from_elem(alloc, false, count)?,
+        members: Vec::new(alloc),
+        pending: Vec::new(alloc),
+        bounds: Vec::new(alloc),
+    };
+    for root in 0..count {
+        explore(edges, &mut walk, root)?;
+    }
+    Ok(walk.found)
+}

@@ -1,5 +1,0 @@
-use Rattle.canonical_texts.proofs.Utf8Texts.{json_texts_are_utf8}
-use Rattle.canonical_texts.proofs.laws.json_texts_are_utf8.Goals as goal
-
-pub returns : goal.returns
-returns c = json_texts_are_utf8

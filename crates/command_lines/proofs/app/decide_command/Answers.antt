@@ -1,4 +1,0 @@
-use Rattle.command_lines.proofs.app.decide_command.Goals as goal
-
-pub returns : goal.returns
-returns c = c.with_needed.ensures _ (c.with_needed-command-2.ensures _ (c.with_needed-command.ensures _ (c.with-command.ensures _ _ c.value_option-schema.ensures.rule c.bare-command.ensures)))

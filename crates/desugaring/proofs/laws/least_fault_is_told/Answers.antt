@@ -1,6 +1,0 @@
-use Rattle.desugaring.proofs.Least.{least-append}
-use Rattle.desugaring.proofs.Telling.{least_is_least, none_of_none}
-use Rattle.desugaring.proofs.laws.least_fault_is_told.Goals as goal
-
-pub returns : goal.returns
-returns c = record { least = least_is_least; none = none_of_none; both = least-append }

@@ -1,5 +1,0 @@
-use Rattle.desugaring.proofs.Sizing.{of-Literal, of-Unary, of-And}
-use Rattle.desugaring.proofs.laws.measures_add_up.Goals as goal
-
-pub returns : goal.returns
-returns c = record { literal = of-Literal; unary = of-Unary; and = of-And }

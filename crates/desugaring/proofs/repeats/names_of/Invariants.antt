@@ -1,8 +1,0 @@
-use Rattle.std.proofs.Common.{◌≡◌, map, take}
-use Rattle.desugaring.specs.Repeats.{abstract_names}
-use Rattle.desugaring.specs.inner.Searching.{held}
-use Rattle.desugaring.proofs.repeats.names_of.Given as goal
-
--- the marks up to here
-abbrev pub invariant-loop-key : goal.invariant-loop-key
-invariant-loop-key l = abstract_names l.marks.items ≡ map held (take l.key-index l.keys)

@@ -1,5 +1,0 @@
-use Rattle.desugaring.proofs.WellFormedLemmas.{stands_in}
-use Rattle.desugaring.proofs.whole.build_expr.Goals as goal
-
-pub build_tree-requires : goal.build_tree-requires
-build_tree-requires c = stands_in c.args.text.now c.requires.stands.tokens c.args.tree.now c.requires.stands.spelled c.requires.stands.stands

@@ -1,5 +1,0 @@
-use Rattle.desugaring.proofs.WellFormedLemmas.{path_in}
-use Rattle.desugaring.proofs.whole.type_name.Goals as goal
-
-pub path_type-requires : goal.path_type-requires
-path_type-requires c = path_in c.args.text.now c.requires.tokens c.requires.spelled c.args.path.now c.requires.stands

@@ -1,7 +1,0 @@
-use Rattle.std.proofs.Common.{◌∙◌}
-use Rattle.expression_trees.specs.policy_tokens.Lexing.{spelling_of}
-use Rattle.desugaring.specs.inner.StringReading.{string_meaning}
-use Rattle.desugaring.proofs.words.pattern.Goals as goal
-
-pub returns : goal.returns
-returns c = c.from_literals.ensures ∙ string_meaning.pattern_is _ (spelling_of c.args.text.now c.args.token) c.in_ok-literals.ensures

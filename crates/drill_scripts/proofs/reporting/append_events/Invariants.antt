@@ -1,7 +1,0 @@
-use Rattle.std.proofs.Common.{take}
-use Rattle.drill_scripts.specs.inner.Ended.{AreTold}
-use Rattle.drill_scripts.proofs.reporting.append_events.Given as goal
-
--- what was told so far
-abbrev pub invariant-loop-answer : goal.invariant-loop-answer
-invariant-loop-answer l = AreTold (take l.answer-index l.answers) l.fn.text.items l.text.items

@@ -1,8 +1,0 @@
-use Rattle.std.proofs.Common.{◌≡◌, ◌++◌, map, take}
-use Rattle.drill_scripts.specs.Told.{state_told}
-use Rattle.drill_scripts.specs.inner.Ended.{ended}
-use Rattle.drill_scripts.proofs.reporting.append_states.Given as goal
-
--- the states so far
-abbrev pub invariant-loop-site : goal.invariant-loop-site
-invariant-loop-site l = l.text.items ≡ l.fn.text.items ++ ended (map state_told (take l.site-index l.sites))

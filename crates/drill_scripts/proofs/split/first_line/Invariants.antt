@@ -1,7 +1,0 @@
-use Rattle.std.proofs.Common.{◌≡◌, ℕ, ◌<◌, ◌==◌, get_or, false}
-use Rattle.drill_scripts.specs.Lines.{line_end}
-use Rattle.drill_scripts.proofs.split.first_line.Given as goal
-
--- no line feed stands before
-abbrev pub invariant-loop-at : goal.invariant-loop-at
-invariant-loop-at l = (k : ℕ) → k < l.at → (get_or l.bytes k 0 == line_end) ≡ false

@@ -1,8 +1,0 @@
-pub mod Drills
-pub mod Lines
-pub mod Said
-pub mod Scripts
-pub mod Told
-pub mod inner
--- crates below, passed on to those above
-pub use Rattle.policy_checks.specs as policy_checks

@@ -1,0 +1,36 @@
+-- Laws of the canonical texts of entities.
+-- A rule of this product.
+use Rattle.std.specs.Prelude.{◌≡◌, ℕ, List, Some, Ok}
+use Rattle.serde_json.specs.Data.{Data}
+use Rattle.json_words.specs.Json.{json_of}
+use Rattle.schema.specs.Schemas.{StatedSchema}
+use Rattle.schema.specs.WellFormed.{IsWellFormed}
+use Rattle.entity_data.specs.declared.entity.Entity.{Entity}
+use Rattle.entities.specs.Entities.{entity_stated_in}
+use Rattle.entities.specs.Canonical.{canonical_json, canonical_text}
+use Rattle.entities.specs.Texts.{HasUtf8}
+
+-- whatever JSON bytes are, its texts are UTF-8
+abbrev pub JsonTextsAreUtf8 : Type 0
+JsonTextsAreUtf8 = (bytes : List ℕ) (d : Data) → json_of bytes ≡ Some d → HasUtf8 d
+
+-- bytes are JSON that states an entity under a schema
+pub record IsReadFrom (s : StatedSchema) (bytes : List ℕ) (e : Entity) : Type 0 where
+  pub json : Data
+  pub stands : json_of bytes ≡ Some json
+  pub states : entity_stated_in s json ≡ Ok e
+
+-- Whatever bytes an entity was read from, its canonical text is its canonical JSON,
+abbrev pub CanonicalTextsAreJson : Type 0
+CanonicalTextsAreJson = (s : StatedSchema) (bytes : List ℕ) (e : Entity) → IsWellFormed s → IsReadFrom s bytes e
+    → json_of (canonical_text e) ≡ Some (canonical_json e)
+
+-- so it is read from its canonical text,
+abbrev pub CanonicalTextsReadBack : Type 0
+CanonicalTextsReadBack = (s : StatedSchema) (bytes : List ℕ) (e : Entity) → IsWellFormed s → IsReadFrom s bytes e
+    → IsReadFrom s (canonical_text e) e
+
+-- and no two entities have one canonical text.
+abbrev pub CanonicalTextsAreOne : Type 0
+CanonicalTextsAreOne = (s : StatedSchema) (bytes other : List ℕ) (e f : Entity) → IsWellFormed s
+    → IsReadFrom s bytes e → IsReadFrom s other f → canonical_text e ≡ canonical_text f → e ≡ f

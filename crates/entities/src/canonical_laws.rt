@@ -1,0 +1,24 @@
+//! Laws of the definitions; the functions do nothing.
+ghost use Rattle.entities.specs.CanonicalLaws.{JsonTextsAreUtf8, CanonicalTextsAreJson};
+ghost use Rattle.entities.specs.CanonicalLaws.{CanonicalTextsReadBack, CanonicalTextsAreOne};
+
+use crate::laws::entities_read_back;
+use json_words::{compact_texts_read_back, json_keys_ascend};
+
+/// Proves that whatever JSON some bytes are, each text and each key in it is UTF-8.
+pub fn json_texts_are_utf8()
+    ensures { JsonTextsAreUtf8 }
+{}
+
+/// Proves that the canonical text of an entity that was read from bytes is its canonical JSON, is read as that entity
+/// under the same schema, and is that of no other entity.
+pub fn canonical_texts_are_read()
+    ensures json { CanonicalTextsAreJson }
+    ensures back { CanonicalTextsReadBack }
+    ensures one { CanonicalTextsAreOne }
+{
+    json_texts_are_utf8();
+    entities_read_back();
+    json_keys_ascend();
+    compact_texts_read_back();
+}

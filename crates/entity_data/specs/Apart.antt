@@ -1,0 +1,21 @@
+-- What is declared as actions is a hierarchy of its own.
+-- Source: Cedar reference guide 4.0, "Schema JSON format", `actions` and `memberOf`: the groups that an action is a
+-- member of are actions, and none is above itself: bytes that declare such an action state no schema.
+use Rattle.std.specs.Prelude.{List, [], Contains, Option, Some, None, IsSome}
+use Rattle.values.specs.declared.entity_uid.EntityUid.{EntityUid}
+use Rattle.evaluator.specs.ancestor_search.Hierarchy.{Parents}
+use Rattle.evaluator.specs.ancestor_search.LeastCycle.{HasNoCycle}
+use Rattle.entity_data.specs.Entities.{Actions}
+
+-- the parents of an action; what is no action has none
+abbrev pub stated_parents : Option (List EntityUid) → List EntityUid
+stated_parents None = []
+stated_parents (Some parents) = parents
+
+abbrev pub edges_of : Actions → Parents
+edges_of actions u = stated_parents (actions u)
+
+-- the parents of actions are actions, and no action is above itself
+pub record AreApart (actions : Actions) : Type 0 where
+  pub among : (u parent : EntityUid) → Contains (edges_of actions u) parent → IsSome (actions parent)
+  pub acyclic : HasNoCycle (edges_of actions)

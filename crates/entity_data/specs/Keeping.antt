@@ -1,0 +1,32 @@
+-- What a store of entities keeps: entries of uids and what is kept under them.
+use Rattle.std.specs.Prelude.{◌≡◌, List, map, Some, if◌then◌else◌}
+use Rattle.std.specs.Map.{lookup}
+use Rattle.std.specs.BTreeMap.{is_at}
+use Rattle.values.specs.declared.entity_uid.EntityUid.{EntityUid}
+use Rattle.values.specs.Names.{uid_cmp}
+use Rattle.evaluator.specs.ancestor_search.Decided.{is_same}
+use Rattle.entity_data.specs.declared.entity.Entity.{Entity}
+use Rattle.entity_data.specs.declared.data.EntityData.{EntityData}
+use Rattle.entity_data.specs.Entities.{EntityMap, AreListed}
+use Rattle.entity_data.specs.Listing.{keys_are_found}
+
+-- what a store keeps: entries, ascending by their uids
+abbrev pub Entries : Type 0
+Entries = List (EntityUid × EntityData)
+
+abbrev pub kept_in : Entries → EntityMap
+kept_in es u = lookup (is_at (uid_cmp u)) es
+
+abbrev pub uids_in : Entries → List EntityUid
+uids_in es = map (λ e. e.0) es
+
+abbrev pub data_of : Entity → EntityData
+data_of e = record { attrs = e.attrs; parents = e.parents }
+
+-- one more entity is kept: it under its uid, and under each other what was before
+abbrev pub Puts : EntityMap → EntityMap → Entity → Type 0
+Puts old new e = (q : EntityUid) → new q ≡ (if is_same e.uid q then Some (data_of e) else old q)
+
+-- the uids are those under which something is kept
+pub entries_are_listed : (es : Entries) → AreListed (kept_in es) (uids_in es)
+entries_are_listed es = keys_are_found es

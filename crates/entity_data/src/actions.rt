@@ -1,0 +1,57 @@
+//! Actions, as whoever declares them lends them.
+ghost use Rattle.std.specs.Prelude.{◌≡◌, [], List, None, option_map};
+ghost use Rattle.values.specs.declared.entity_uid.EntityUid.{EntityUid};
+ghost use Rattle.evaluator.specs.ancestor_search.Hierarchy.{IsAscending};
+ghost use Rattle.entity_data.specs.Apart.{AreApart};
+ghost use Rattle.entity_data.specs.Entities.{Actions, AreActions, no_actions};
+ghost use Rattle.entity_data.specs.Listing.{none_is_an_action};
+
+use values::EntityUid;
+
+/// Whoever declares actions, each with those above it.
+pub trait ActionSource {
+    /// The parents of each action.
+    ghost declared: { Self → Actions };
+
+    /// The uids of the actions.
+    ghost uids: { Self → List EntityUid };
+
+    /// Lends the uids of the actions, ascending. Takes no memory.
+    fn actions(&self) -> &[EntityUid]
+        ensures all { AreActions (declared self.now) result.now }
+        ensures ascending { IsAscending result.now };
+
+    /// Lends the parents of an action, or None exactly where it is not declared. Takes no memory.
+    fn ancestors_of(&self, uid: &EntityUid) -> Option<&[EntityUid]>
+        ensures { option_map (λ us. us.now) result ≡ declared self.now uid.now };
+
+    /// Proves that the parents of actions are actions and that none is above itself, so that no cycle goes through an
+    /// action. It does nothing.
+    fn are_apart(&self)
+        ensures { AreApart (declared self.now) };
+
+    /// The listed uids are those of the actions.
+    ghost listed: { (s : Self) → AreActions (declared s) (uids s) };
+}
+
+/// Nothing is declared, so that no entity is an action.
+#[derive(Clone, Copy)]
+pub struct NoActions;
+
+impl ActionSource for NoActions {
+    ghost declared = { λ _. no_actions };
+
+    ghost uids = { λ _. [] };
+
+    ghost listed = { λ _. none_is_an_action };
+
+    fn actions(&self) -> &[EntityUid] {
+        &[]
+    }
+
+    fn ancestors_of(&self, _uid: &EntityUid) -> Option<&[EntityUid]> {
+        None
+    }
+
+    fn are_apart(&self) {}
+}

@@ -1,0 +1,91 @@
+//! Entities in a map by their uids.
+ghost use Rattle.std.specs.Prelude.{◌≡◌, [], IfOk, OnErr, IsTrue, not, false, is_some};
+ghost use Rattle.entity_data.specs.Keeping.{kept_in, uids_in, Puts, entries_are_listed};
+
+use crate::data::EntityData;
+use crate::entity::Entity;
+use crate::source::EntitySource;
+use plain::NoMemory;
+use std::alloc::Global;
+use std::collections::BTreeMap;
+use std::collections::btree_map::Entry;
+use std::marker::Model;
+use values::{EntityUid, Record};
+
+/// Entities, each kept once under its uid. Contracts see the entries, ascending by uid, and speak of what is kept under
+/// each uid: `kept_in`.
+#[derive(Drop)]
+pub struct EntityStore {
+    entries: BTreeMap<EntityUid, EntityData>,
+}
+
+impl Model for EntityStore {
+    ghost use Rattle.std.specs.Coded.{codes};
+    ghost use Rattle.values.specs.ValueCode.{value_code};
+    ghost use Rattle.entity_data.specs.Keeping.{Entries};
+
+    ghost Value = { Entries };
+
+    ghost coded = { Prim.hlevel (codes, value_code) };
+
+    ghost view = { λ s. s.entries.entries };
+}
+
+impl EntityStore {
+    /// Returns a store without entities. Takes no memory.
+    pub fn new(alloc: Global) -> Self
+        ensures { result ≡ [] }
+    {
+        EntityStore {
+            entries: BTreeMap::new(alloc),
+        }
+    }
+
+    /// Keeps one more entity, in logarithmic time, and tells whether it is the first of its uid: where one is kept
+    /// under that uid, or memory is refused, nothing changes.
+    pub fn put(&mut self, entity: Entity) -> Result<bool, NoMemory>
+        ensures first { IfOk result (λ first. is_some (kept_in self.old entity.uid) ≡ not first) }
+        ensures puts { IfOk result (λ first. IsTrue first → Puts (kept_in self.old) (kept_in self.new) entity) }
+        ensures same { IfOk result (λ first. first ≡ false → self.new ≡ self.old) }
+        ensures err { OnErr result (self.new ≡ self.old) }
+    {
+        let Entity {
+            uid,
+            attrs,
+            parents,
+        } = entity;
+        let place = match self.entries.entry(uid)? {
+            Entry::Occupied(_) => return Ok(false),
+            Entry::Vacant(place) => place,
+        };
+        place.insert(EntityData { attrs, parents });
+        Ok(true)
+    }
+}
+
+impl EntitySource for EntityStore {
+    ghost kept = { kept_in };
+
+    ghost uids = { uids_in };
+
+    ghost listed = { entries_are_listed };
+
+    fn attrs_at(&self, uid: &EntityUid) -> Option<&Record> {
+        match self.entries.get(uid) {
+            Some(kept) => Some(&kept.attrs),
+            None => None,
+        }
+    }
+
+    fn parents_at(&self, uid: &EntityUid) -> &[EntityUid] {
+        match self.entries.get(uid) {
+            Some(kept) => kept.parents.as_slice(),
+            None => &[],
+        }
+    }
+
+    fn kept_uids(&self, alloc: Global) -> Result<Vec<&EntityUid>, NoMemory> {
+        let _ordered = self.entries.len();
+        self.entries.keys().collect(alloc)
+    }
+}

@@ -1,0 +1,42 @@
+//! The uids of entities and of actions.
+ghost use Rattle.std.specs.Prelude.{◌≡◌, ◌↔◌, ◌⊎◌, Contains, IfOk};
+ghost use Rattle.values.specs.declared.entity_uid.EntityUid.{EntityUid as PlainUid};
+ghost use Rattle.evaluator.specs.ancestor_search.Hierarchy.{IsAscending, names};
+ghost use Rattle.entity_data.specs.Entities.{uids_with};
+
+use crate::actions::ActionSource;
+use evaluator::ascending_lists_are_one;
+use plain::NoMemory;
+use values::{EntityUid, entity_uids_are_ordered};
+
+/// These uids and those, ascending, each once.
+fn together<'a>(
+    some: Vec<&'a EntityUid>,
+    others: &'a [EntityUid],
+) -> Result<Vec<&'a EntityUid>, NoMemory>
+    ensures ascending { IfOk result (λ all. IsAscending (names all.items)) }
+    ensures members { IfOk result (λ all. (u : PlainUid)
+        → Contains (names all.items) u ↔ Contains (names some.entry.items) u ⊎ Contains others.now u) }
+{
+    entity_uids_are_ordered();
+    let mut all = some;
+    for uid in others {
+        all.push(uid)?;
+    }
+    all.sort()?;
+    all.dedup();
+    Ok(all)
+}
+
+/// Returns the uids of entities, ascending, with those of actions.
+pub(crate) fn with_actions<'a, A: ActionSource>(
+    kept: Vec<&'a EntityUid>,
+    actions: &'a A,
+) -> Result<Vec<&'a EntityUid>, NoMemory>
+    ensures all { IfOk result
+        (λ all. names all.items ≡ uids_with (A.uids actions.now) (names kept.entry.items)) }
+    ensures ascending { IfOk result (λ all. IsAscending (names all.items)) }
+{
+    ascending_lists_are_one();
+    together(kept, actions.actions())
+}

@@ -1,0 +1,120 @@
+//! The entities that requests are decided over.
+ghost use Rattle.std.specs.Prelude.{◌≡◌, Option, Some, None, option_map};
+ghost use Rattle.evaluator.specs.ancestor_search.Decided.{reaches};
+ghost use Rattle.entity_data.specs.Entities.{with_actions, uids_with, attributes_of, kept_parents};
+ghost use Rattle.entity_data.specs.Listing.{all_listed, all_decided};
+
+use crate::actions::ActionSource;
+use crate::alone::Alone;
+use crate::source::EntitySource;
+use crate::uids::with_actions;
+use evaluator::{
+    Ancestry, Graph, Lookup, ParentsOf, ancestors_of, is_above, least_cycle, on_cycles,
+};
+use plain::NoMemory;
+use std::alloc::Global;
+use std::marker::Model;
+use values::{EntityUid, Record};
+
+/// The entities of a source and the actions that are declared, which have no attributes.
+///
+/// Contracts see the source and the actions, and speak of the entities that these say: `with_actions`.
+#[derive(Drop)]
+pub struct World<'a, S: EntitySource, A: ActionSource + Drop> {
+    alloc: Global,
+    /// The source and the actions, as the search for cycles looks at them.
+    alone: Alone<'a, S, A>,
+    /// The attributes of an action: none.
+    nothing: Record,
+}
+
+impl<'a, S: EntitySource, A: ActionSource + Drop> Model for World<'a, S, A> {
+    ghost use Rattle.std.specs.Prelude.{◌≡◌, []};
+
+    ghost Value = { S × A };
+
+    ghost view = { λ w. (w.alone.source.now, w.alone.actions) };
+
+    ghost invariant = { λ w. w.nothing ≡ [] };
+}
+
+impl<'a, S: EntitySource, A: ActionSource + Drop> World<'a, S, A> {
+    /// Returns the entities of a source, and these actions. Takes no memory.
+    pub fn new(alloc: Global, source: &'a S, actions: A) -> Self
+        ensures { result ≡ (source.now, actions) }
+    {
+        World {
+            alloc,
+            alone: Alone { source, actions },
+            nothing: Record::new(alloc),
+        }
+    }
+
+    /// The parents of an action; None where it is not declared.
+    fn action(&self, uid: &EntityUid) -> Option<&[EntityUid]>
+        ensures { option_map (λ us. us.now) result ≡ A.declared self.now.1 uid.now }
+    {
+        self.alone.actions.ancestors_of(uid)
+    }
+}
+
+impl<S: EntitySource, A: ActionSource + Drop> ParentsOf for World<'_, S, A> {
+    ghost parents = { λ w u. kept_parents (with_actions (A.declared w.1) (S.kept w.0) u) };
+
+    fn parents_of(&self, uid: &EntityUid) -> &[EntityUid] {
+        match self.action(uid) {
+            Some(above) => above,
+            None => self.alone.source.parents_at(uid),
+        }
+    }
+}
+
+impl<S: EntitySource, A: ActionSource + Drop> Graph for World<'_, S, A> {
+    ghost stored = { λ w. uids_with (A.uids w.1) (S.uids w.0) };
+
+    ghost has_all = { λ w.
+        all_listed (A.declared w.1) (A.uids w.1) (A.listed w.1) (S.kept w.0) (S.uids w.0) (S.listed w.0) };
+
+    fn stored_uids(&self, alloc: Global) -> Result<Vec<&EntityUid>, NoMemory> {
+        with_actions(self.alone.source.kept_uids(alloc)?, &self.alone.actions)
+    }
+}
+
+impl<S: EntitySource, A: ActionSource + Drop> Ancestry for World<'_, S, A> {
+    ghost parents = { λ w u. kept_parents (with_actions (A.declared w.1) (S.kept w.0) u) };
+
+    ghost above = { λ w. reaches (λ u. kept_parents (with_actions (A.declared w.1) (S.kept w.0) u))
+        (uids_with (A.uids w.1) (S.uids w.0)) };
+
+    ghost above_is = { λ w.
+        all_decided (A.declared w.1) (A.uids w.1) (A.listed w.1) (S.kept w.0) (S.uids w.0) (S.listed w.0) };
+
+    fn is_ancestor(&self, a: &EntityUid, b: &EntityUid) -> Result<bool, NoMemory> {
+        is_above(self.alloc, self, a, b)
+    }
+
+    fn ancestors(&self, uid: &EntityUid) -> Result<Vec<&EntityUid>, NoMemory> {
+        ancestors_of(self.alloc, self, uid)
+    }
+
+    fn cyclic(&self) -> Result<Vec<&EntityUid>, NoMemory> {
+        self.alone.actions.are_apart();
+        on_cycles(self.alloc, &self.alone)
+    }
+
+    fn least_cycle(&self) -> Result<Option<Vec<&EntityUid>>, NoMemory> {
+        self.alone.actions.are_apart();
+        least_cycle(self.alloc, &self.alone)
+    }
+}
+
+impl<S: EntitySource, A: ActionSource + Drop> Lookup for World<'_, S, A> {
+    ghost stored = { λ w u. attributes_of (with_actions (A.declared w.1) (S.kept w.0) u) };
+
+    fn attrs_of(&self, uid: &EntityUid) -> Option<&Record> {
+        match self.action(uid) {
+            Some(_) => Some(&self.nothing),
+            None => self.alone.source.attrs_at(uid),
+        }
+    }
+}

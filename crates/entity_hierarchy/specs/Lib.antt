@@ -1,0 +1,15 @@
+pub mod Alike
+pub mod Entities
+pub mod Laws
+-- crates below, passed on to those above
+pub use Rattle.authoriser.specs as authoriser
+pub use Rattle.authoriser.specs.ancestor_search
+pub use Rattle.authoriser.specs.evaluator
+pub use Rattle.authoriser.specs.policy_grammar
+pub use Rattle.entities.specs as entities
+pub use Rattle.entities.specs.entity_data
+pub use Rattle.entities.specs.schema
+pub use Rattle.entities.specs.schema_file
+pub use Rattle.entities.specs.schema_names
+pub use Rattle.entities.specs.schema_types
+pub use Rattle.entities.specs.entity_values

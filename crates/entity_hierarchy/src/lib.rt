@@ -1,0 +1,22 @@
+//! Entities under a schema: its actions stand beside those that are kept.
+//!
+//! Whoever keeps entities lends them by one small trait (`entity_data`); here a schema lends its actions.
+#![tactic(auto)]
+
+mod actions;
+mod laws;
+mod world;
+
+pub use actions::SchemaActions;
+pub use authoriser::{
+    Answer, Known, Lookup, Policy, answers_are_lawful, decide, decide_known,
+    expressions_have_one_outcome, file_names_differ, paths_are_decided, scopes_do_not_err,
+    texts_have_one_reading,
+};
+pub use entities::{
+    Entity, EntityFault, EntitySource, EntityStore, Schema, bytes_have_one_outcome, canonical_text,
+    entities_read_back, read_entity, read_request, requests_have_one_outcome,
+    stated_schemas_are_well_formed,
+};
+pub use laws::{actions_may_be_closed, entities_are_no_actions, reach_decides};
+pub use world::{World, world_under};

@@ -1,0 +1,34 @@
+//! Names of entities written as JSON, token by token.
+ghost use Rattle.std.specs.Prelude.{OnOk};
+ghost use Rattle.entity_uids.specs.Tokens.{Adds, tokens_of};
+ghost use Rattle.entity_uids.specs.Uids.{uid_json, entity_json};
+
+use json::Writer;
+use plain::NoMemory;
+use values::EntityUid;
+
+/// Writes the name of an entity, `{"id":"alice","type":"User"}`, behind what was written. Fails for memory alone; what
+/// was written by then is for nobody to read.
+pub fn write_uid(out: &mut Writer, uid: &EntityUid) -> Result<(), NoMemory>
+    ensures { OnOk result (Adds out.old out.new (tokens_of (uid_json uid.now))) }
+{
+    out.begin_object()?;
+    out.key("id")?;
+    out.string(uid.id.as_str())?;
+    out.key("type")?;
+    out.string(uid.type_name.as_str())?;
+    out.end_object()?;
+    Ok(())
+}
+
+/// Writes the name of an entity where it stands as a value, `{"__entity":{"id":"alice","type":"User"}}`, behind what
+/// was written. Fails for memory alone; what was written by then is for nobody to read.
+pub fn write_entity(out: &mut Writer, uid: &EntityUid) -> Result<(), NoMemory>
+    ensures { OnOk result (Adds out.old out.new (tokens_of (entity_json uid.now))) }
+{
+    out.begin_object()?;
+    out.key("__entity")?;
+    write_uid(out, uid)?;
+    out.end_object()?;
+    Ok(())
+}

@@ -1,6 +1,0 @@
-use Rattle.std.specs.List.Sorted.{IsStrictlySortedBy}
-use Rattle.entity_worlds.proofs.actions.NoActionsActionSource.actions.Goals as goal
-
-pub returns-clause-ascending : goal.returns-clause-ascending
-unfolding IsStrictlySortedBy
-returns-clause-ascending c = tt

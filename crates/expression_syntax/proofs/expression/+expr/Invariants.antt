@@ -1,4 +1,0 @@
-use Rattle.expression_syntax.proofs.expression.+expr.Given as goal
-
-abbrev pub decreases-expr : goal.decreases-expr
-decreases-expr l = l.levels

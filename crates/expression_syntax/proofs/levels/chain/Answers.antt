@@ -1,8 +1,0 @@
-use Rattle.std.proofs.Common.{sym}
-use Rattle.expression_syntax.proofs.Unfollowed.{unfollowed}
-use Rattle.expression_syntax.proofs.levels.chain.Goals as goal
-
-pub returns-then-not-sees_one_of : goal.returns-then-not-sees_one_of
-returns-then-not-sees_one_of g c =
-    unfollowed (g.L.Level.operands c.args.level.now) (g.S.KindSet.included c.args.set) (g.L.Level.pieces c.args.level.now) g.L.Level.joins
-    c.args.tokens.now.rest.now c.operand-read.new.tokens.rest.now c.operand-read.result c.operand-read.ensures (sym c.if-not-sees_one_of.ensures)

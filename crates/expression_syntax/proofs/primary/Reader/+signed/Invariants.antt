@@ -1,4 +1,0 @@
-use Rattle.expression_syntax.proofs.primary.Reader.+signed.Given as goal
-
-abbrev pub decreases-signed : goal.decreases-signed
-decreases-signed g l = l.most

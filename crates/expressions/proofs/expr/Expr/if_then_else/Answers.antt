@@ -1,5 +1,0 @@
-use Rattle.std.proofs.Common.{rules}
-use Rattle.expressions.proofs.expr.Expr.if_then_else.Goals as goal
-
-pub returns : goal.returns
-returns c = search rules

@@ -1,0 +1,5 @@
+use Rattle.std.proofs.Common.{rules}
+use Rattle.grammar_core.proofs.expr.Expr.binary.Goals as goal
+
+pub returns : goal.returns
+returns c = search rules

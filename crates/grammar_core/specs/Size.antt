@@ -1,0 +1,74 @@
+-- How high a core expression is, and how many forms it has.
+use Rattle.std.specs.Prelude.{ℕ, ◌+◌, ◌≤◌, max, min, List, [], ◌∷◌, map}
+use Rattle.grammar_core.specs.declared.expr.Expr.{Expr}
+use Rattle.grammar_core.specs.declared.expr.Expr.TheOpen.{Expr-F}
+use Rattle.grammar_core.specs.declared.expr.Expr.TheFolds.{fold-Expr}
+use Rattle.grammar_core.specs.declared.expr.Named.{Named}
+
+-- the greatest of these, 0 of none
+abbrev pub greatest : List ℕ → ℕ
+greatest [] = 0
+greatest (n ∷ ns) = max n (greatest ns)
+
+-- all of these together
+abbrev pub total : List ℕ → ℕ
+total [] = 0
+total (n ∷ ns) = n + total ns
+
+abbrev pub values_of : {X : Type 0} → List (Named X) → List X
+values_of fields = map (λ f. f.value) fields
+
+-- the height of a form over parts of these heights
+abbrev pub height_step : Expr-F ℕ → ℕ
+height_step (Expr-F.Literal literal) = 1
+height_step (Expr-F.Variable variable) = 1
+height_step (Expr-F.If test consequent alternative) = max test (max consequent alternative) + 1
+height_step (Expr-F.And left right) = max left right + 1
+height_step (Expr-F.Or left right) = max left right + 1
+height_step (Expr-F.Unary operator operand) = operand + 1
+height_step (Expr-F.Binary operator left right) = max left right + 1
+height_step (Expr-F.Field owner name) = owner + 1
+height_step (Expr-F.Has owner name) = owner + 1
+height_step (Expr-F.Set members) = greatest members + 1
+height_step (Expr-F.Record fields) = greatest (values_of fields) + 1
+height_step (Expr-F.UnaryCall called operand) = operand + 1
+height_step (Expr-F.BinaryCall called left right) = max left right + 1
+
+-- the longest way down: 1 of a leaf
+abbrev pub height : Expr → ℕ
+height = fold-Expr ℕ height_step
+
+-- the forms of a form over parts of so many
+abbrev pub forms_step : Expr-F ℕ → ℕ
+forms_step (Expr-F.Literal literal) = 1
+forms_step (Expr-F.Variable variable) = 1
+forms_step (Expr-F.If test consequent alternative) = test + consequent + alternative + 1
+forms_step (Expr-F.And left right) = left + right + 1
+forms_step (Expr-F.Or left right) = left + right + 1
+forms_step (Expr-F.Unary operator operand) = operand + 1
+forms_step (Expr-F.Binary operator left right) = left + right + 1
+forms_step (Expr-F.Field owner name) = owner + 1
+forms_step (Expr-F.Has owner name) = owner + 1
+forms_step (Expr-F.Set members) = total members + 1
+forms_step (Expr-F.Record fields) = total (values_of fields) + 1
+forms_step (Expr-F.UnaryCall called operand) = operand + 1
+forms_step (Expr-F.BinaryCall called left right) = left + right + 1
+
+-- the number of its forms, itself among them
+abbrev pub forms : Expr → ℕ
+forms = fold-Expr ℕ forms_step
+
+-- a number as a `u32` has it: the greatest `u32` stands for all greater ones
+abbrev pub capped : ℕ → ℕ
+capped n = min n 4294967295
+
+-- What a policy's expression may be at most: a rule of this product. `1 == 2` has height 2 and three forms, and each
+-- further `!` before it adds one to both: a thousand high at most, and a million forms in all.
+abbrev pub most_height : ℕ
+most_height = 1_000
+
+abbrev pub most_forms : ℕ
+most_forms = 1_000_000
+
+abbrev pub IsSmall : Expr → Type 0
+IsSmall expr = (height expr ≤ most_height) × (forms expr ≤ most_forms)

@@ -1,0 +1,114 @@
+//! Patterns of `like`.
+ghost use Rattle.std.specs.Prelude.{◌≡◌, ◌↔◌, ◌<◌, ◌++◌, [], ◌∷◌, IsTrue, length};
+ghost use Rattle.grammar_core.specs.Like.{Matches, literal, behind_stars};
+ghost use Rattle.grammar_core.specs.LikeTest.{Joins, is_match};
+
+use plain::{Items, Text};
+use std::marker::Model;
+
+/// A pattern of `like`: literal texts with a wildcard between each two. Contracts see the list of the literal texts,
+/// one more than there are wildcards; so each pattern has one form.
+///
+/// Source: Cedar reference guide, "Operators: like".
+#[derive(Drop)]
+pub struct Pattern {
+    /// The texts that a wildcard follows.
+    before: Items<Text>,
+    /// The text behind the last wildcard, or the only one.
+    last: Text,
+}
+
+impl Model for Pattern {
+    ghost use Rattle.std.specs.Prelude.{List, ℕ, ◌++◌, [], ◌∷◌};
+
+    ghost Value = { List (List ℕ) };
+
+    ghost view = { λ p. p.before ++ p.last ∷ [] };
+}
+
+impl Pattern {
+    /// Returns the pattern with these literal texts, a wildcard between each two; takes no memory.
+    pub fn from_literals(literals: Vec<Text>) -> Pattern
+        requires { 0 < length literals.items }
+        ensures { result ≡ literals.items }
+    {
+        let mut before = literals;
+        let last = before.pop().unwrap();
+        Pattern {
+            before: Items::from_vec(before),
+            last,
+        }
+    }
+
+    /// Returns the literal texts that a wildcard follows, in order, and the one behind the last wildcard, or the only
+    /// one; takes no memory.
+    pub fn literals(&self) -> (&[Text], &Text)
+        ensures { result.0.now ++ result.1.now ∷ [] ≡ self.now }
+    {
+        (self.before.as_slice(), &self.last)
+    }
+
+    /// Returns whether two patterns are equal, literal text by literal text; takes no memory.
+    pub fn same(&self, other: &Pattern) -> bool
+        ensures { IsTrue result ↔ (self.now ≡ other.now) }
+    {
+        same_texts(&self.before, &other.before) && self.last.same(&other.last)
+    }
+
+    /// Returns whether the text is a joining of pieces, one for each element of the pattern in order: a literal text's
+    /// piece equals it, a wildcard's is any text. Takes no memory, and time of at most the length of the pattern by
+    /// that of the text.
+    pub fn matches(&self, text: &str) -> bool
+        ensures like { IsTrue result ↔ Matches self.now text.now }
+        ensures test { result ≡ is_match self.now text.now }
+    {
+        match self.before.as_slice().split_first() {
+            Some((first, middle)) => first_matches(first, middle, &self.last, text),
+            None => text == self.last.as_str(),
+        }
+    }
+}
+
+/// Returns whether the text begins with the first literal, and what is behind it matches a wildcard before each of the
+/// others.
+fn first_matches(first: &Text, middle: &[Text], last: &Text, text: &str) -> bool
+    ensures { IsTrue result ↔ Joins (literal first.now ∷ behind_stars (middle.now ++ last.now ∷ [])) text.now }
+{
+    match text.strip_prefix(first.as_str()) {
+        Some(rest) => others_match(middle, last.as_str(), rest),
+        None => false,
+    }
+}
+
+/// Returns whether the text matches a wildcard before each of the literals, the last of which ends it.
+///
+/// Each literal but the last is taken where it stands first: what is left is then longest, and the next wildcard may
+/// take what an earlier place would have left over. So no choice is ever taken back.
+fn others_match(middle: &[Text], last: &str, text: &str) -> bool
+    ensures { IsTrue result ↔ Joins (behind_stars (middle.now ++ last.now ∷ [])) text.now }
+{
+    let mut rest = text;
+    for literal in middle {
+        let Some((_, after)) = rest.split_once(literal.as_str()) else {
+            return false;
+        };
+        rest = after;
+    }
+    rest.ends_with(last)
+}
+
+/// Returns whether two lists have equal texts, place by place.
+fn same_texts(ones: &Items<Text>, twos: &Items<Text>) -> bool
+    ensures { IsTrue result ↔ (ones.now ≡ twos.now) }
+{
+    if ones.len() != twos.len() {
+        return false;
+    }
+    let others = twos.as_slice();
+    for (at, one) in ones.as_slice().iter().enumerate() {
+        if !one.same(&others[at]) {
+            return false;
+        }
+    }
+    true
+}

@@ -1,0 +1,165 @@
+-- The core expression that a syntax tree stands for, with the text in which its tokens stand. One line for each form
+-- of tree.
+-- Of a tree that has faults it says nothing of use: such a tree is refused.
+-- Source: Cedar reference guide 4.0, "Grammar specification for Cedar policy syntax" and "Operators and functions".
+-- Operators of one level group to the left.
+use Rattle.std.specs.Prelude.{ℕ, ℤ, false, List, [], ◌∷◌, map, Option, Some, None}
+use Rattle.std.specs.List.{fold}
+use Rattle.grammar_trees.specs.grammar_tokens.declared.token.Token.{Token}
+use Rattle.grammar_trees.specs.grammar_tokens.Lexing.{spelling_of}
+use Rattle.grammar_core.specs.declared.leaf.Literal.TheVariants as literal
+use Rattle.grammar_core.specs.declared.operator.Unary.TheVariants.{Not, Negate, Like, Is}
+use Rattle.grammar_core.specs.declared.operator.Binary.TheVariants.{Equal, In, Less, LessOrEqual, Multiply}
+use Rattle.grammar_core.specs.declared.operator.UnaryCall.{UnaryCall}
+use Rattle.grammar_core.specs.declared.expr.Named.{Named}
+use Rattle.grammar_core.specs.declared.expr.Expr.{Expr}
+use Rattle.grammar_core.specs.declared.expr.Expr.TheVariants as core
+use Rattle.grammar_trees.specs.grammar_tokens.declared.tree.PathTree.{PathTree}
+use Rattle.grammar_trees.specs.declared.tree.Access.{Access}
+use Rattle.grammar_trees.specs.declared.tree.Access.TheVariants as access
+use Rattle.grammar_trees.specs.declared.tree.Comparison.{Comparison}
+use Rattle.grammar_trees.specs.declared.tree.Comparison.TheVariants as is
+use Rattle.grammar_trees.specs.declared.tree.Entry.{Entry}
+use Rattle.grammar_trees.specs.declared.tree.Term.{Term}
+use Rattle.grammar_trees.specs.declared.tree.ExprTree.{ExprTree}
+use Rattle.grammar_trees.specs.declared.tree.ExprTree.TheOpen.{ExprTree-F as tree}
+use Rattle.grammar_trees.specs.declared.tree.ExprTree.TheFolds.{fold-ExprTree}
+use Rattle.grammar_desugaring.specs.declared.forms.Chain.{Chain}
+use Rattle.grammar_desugaring.specs.declared.forms.Chain.TheVariants as chain
+use Rattle.grammar_desugaring.specs.declared.names.Method.{Method}
+use Rattle.grammar_desugaring.specs.declared.names.Method.TheVariants as method
+use Rattle.grammar_desugaring.specs.Names.{function_of, method_of}
+use Rattle.grammar_desugaring.specs.Numbers.{positive, negative}
+use Rattle.grammar_desugaring.specs.Strings.{value_of, pattern_of}
+use Rattle.grammar_desugaring.specs.Meaning.{variable_of, sign_of, path_name, uid_of, name_of}
+
+-- what a tree stands for, and what it stands for behind a minus
+pub record Meaning : Type 0 where
+  pub alone : Expr
+  pub negated : Expr
+
+abbrev pub long : ℤ → Expr
+long n = core.Literal (literal.Long n)
+
+-- a minus before a number joins it
+abbrev pub number : List ℕ → Meaning
+number digits = record { alone = long (positive digits); negated = long (negative digits) }
+
+-- before anything else it is an operator
+abbrev pub plain : Expr → Meaning
+plain e = record { alone = e; negated = core.Unary Negate e }
+
+-- `!=`, `>` and `>=` are the negations of `==`, `<=` and `<`
+abbrev pub compared : Comparison → Expr → Expr → Expr
+compared is.Less a b = core.Binary Less a b
+compared is.LessOrEqual a b = core.Binary LessOrEqual a b
+compared is.Greater a b = core.Unary Not (core.Binary LessOrEqual a b)
+compared is.GreaterOrEqual a b = core.Unary Not (core.Binary Less a b)
+compared is.Equal a b = core.Binary Equal a b
+compared is.NotEqual a b = core.Unary Not (core.Binary Equal a b)
+compared is.In a b = core.Binary In a b
+
+-- in place of a call that is refused
+abbrev pub no_call : Expr
+no_call = core.Literal (literal.Boolean false)
+
+-- a function is known by a single word
+abbrev pub function_at : List ℕ → Token → List Token → Option UnaryCall
+function_at text first [] = function_of (spelling_of text first)
+function_at text first (word ∷ more) = None
+
+abbrev pub function : List ℕ → PathTree → Option UnaryCall
+function text path = function_at text path.first path.more
+
+-- a call of a function
+abbrev pub called : Option UnaryCall → List Expr → Expr
+called (Some call) (a ∷ []) = core.UnaryCall call a
+called _ _ = no_call
+
+-- a call of a method
+abbrev pub method_called : Option Method → Expr → List Expr → Expr
+method_called (Some (method.Alone call)) receiver [] = core.UnaryCall call receiver
+method_called (Some (method.Operator operator)) receiver (a ∷ []) = core.Binary operator receiver a
+method_called (Some (method.WithArgument call)) receiver (a ∷ []) = core.BinaryCall call receiver a
+method_called _ _ _ = no_call
+
+-- an access to what stands before it; `e["f"]` is `e.f`
+abbrev pub accessed : List ℕ → Expr → Access (List Expr) → Expr
+accessed text e (access.Field key) = core.Field e (name_of text key)
+accessed text e (access.Method name arguments) = method_called (method_of (spelling_of text name)) e arguments
+
+-- one more term
+abbrev pub added : Expr → Term Expr → Expr
+added left term = core.Binary (sign_of term.sign) left term.operand
+
+abbrev pub field : List ℕ → Entry Expr → Named Expr
+field text entry = record { name = name_of text entry.key; value = entry.value }
+
+-- the parts of a list, each with what is inside replaced
+module _ {A B : Type 0} (f : A → B) where
+  abbrev pub in_term : Term A → Term B
+  in_term term = record { sign = term.sign; operand = f term.operand }
+
+  abbrev pub in_entry : Entry A → Entry B
+  in_entry entry = record { key = entry.key; value = f entry.value }
+
+  abbrev pub in_access : Access (List A) → Access (List B)
+  in_access (access.Field key) = access.Field key
+  in_access (access.Method name arguments) = access.Method name (map f arguments)
+
+abbrev by_itself : Meaning → Expr
+by_itself m = m.alone
+
+abbrev pub core_step : List ℕ → tree Meaning → Meaning
+core_step text (tree.Boolean value) = plain (core.Literal (literal.Boolean value))
+core_step text (tree.Number t) = number (spelling_of text t)
+core_step text (tree.Text t) = plain (core.Literal (literal.Text (value_of (spelling_of text t))))
+core_step text (tree.Variable word) = plain (core.Variable (variable_of word))
+core_step text (tree.Uid uid) = plain (core.Literal (literal.Entity (uid_of text uid)))
+core_step text (tree.Call path arguments) = plain (called (function text path) (map by_itself arguments))
+core_step text (tree.Parentheses a) = plain a.alone
+core_step text (tree.Set members) = plain (core.Set (map by_itself members))
+core_step text (tree.Record entries) = plain (core.Record (map (field text) (map (in_entry by_itself) entries)))
+core_step text (tree.Member a accesses) = plain (fold (accessed text) a.alone (map (in_access by_itself) accesses))
+core_step text (tree.Not a) = plain (core.Unary Not a.alone)
+core_step text (tree.Minus a) = plain a.negated
+core_step text (tree.Product a more) = plain (fold (core.Binary Multiply) a.alone (map by_itself more))
+core_step text (tree.Sum a terms) = plain (fold added a.alone (map (in_term by_itself) terms))
+core_step text (tree.Compare a operator b) = plain (compared operator a.alone b.alone)
+core_step text (tree.Has a key) = plain (core.Has a.alone (name_of text key))
+core_step text (tree.Like a t) = plain (core.Unary (Like (pattern_of (spelling_of text t))) a.alone)
+core_step text (tree.Is a path) = plain (core.Unary (Is (path_name text path)) a.alone)
+core_step text (tree.IsIn a path b) =
+    plain (core.And (core.Unary (Is (path_name text path)) a.alone) (core.Binary In a.alone b.alone))
+core_step text (tree.And a more) = plain (fold core.And a.alone (map by_itself more))
+core_step text (tree.Or a more) = plain (fold core.Or a.alone (map by_itself more))
+core_step text (tree.If a b c) = plain (core.If a.alone b.alone c.alone)
+
+abbrev pub meaning : List ℕ → ExprTree → Meaning
+meaning text = fold-ExprTree Meaning (core_step text)
+
+-- the core expression that a tree stands for
+abbrev pub core_of : List ℕ → ExprTree → Expr
+core_of text x = (meaning text x).alone
+
+-- and behind a minus
+abbrev pub negated : List ℕ → ExprTree → Expr
+negated text x = (meaning text x).negated
+
+-- ## The same for what the code goes over
+
+-- how the operands of a chain are joined
+abbrev pub joined_by : Chain → Expr → Expr → Expr
+joined_by chain.Product = core.Binary Multiply
+joined_by (chain.Sum sign) = core.Binary (sign_of sign)
+joined_by chain.And = core.And
+joined_by chain.Or = core.Or
+
+abbrev pub single_of : List Expr → Option Expr
+single_of (a ∷ []) = Some a
+single_of _ = None
+
+abbrev pub called_with : Method → Expr → Expr → Expr
+called_with (method.Alone call) receiver a = no_call
+called_with (method.Operator operator) receiver a = core.Binary operator receiver a
+called_with (method.WithArgument call) receiver a = core.BinaryCall call receiver a

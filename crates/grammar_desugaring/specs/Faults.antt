@@ -1,0 +1,98 @@
+-- The faults of a syntax tree, with the text in which its tokens stand: its own and those of its parts.
+-- Source: Cedar reference guide 4.0, "Data types: Long", "Data types: Record", "Operators and functions". The places
+-- are a rule of this product.
+use Rattle.std.specs.Prelude.{ℕ, Bool, List, [], ◌∷◌, ◌++◌, map, length, Option, Some, None, nat_eq, if◌then◌else◌}
+use Rattle.std.specs.List.{flat_map}
+use Rattle.grammar_trees.specs.grammar_tokens.declared.token.Token.{Token}
+use Rattle.grammar_trees.specs.grammar_tokens.Lexing.{spelling_of}
+use Rattle.grammar_trees.specs.grammar_tokens.declared.tree.PathTree.{PathTree}
+use Rattle.grammar_trees.specs.declared.tree.Access.{Access}
+use Rattle.grammar_trees.specs.declared.tree.Access.TheVariants as access
+use Rattle.grammar_trees.specs.declared.tree.Entry.{Entry}
+use Rattle.grammar_trees.specs.declared.tree.ExprTree.{ExprTree}
+use Rattle.grammar_trees.specs.declared.tree.ExprTree.TheOpen.{ExprTree-F as tree}
+use Rattle.grammar_trees.specs.declared.tree.ExprTree.TheFolds.{fold-ExprTree}
+use Rattle.grammar_desugaring.specs.declared.fault.DesugarFault.{DesugarFault}
+use Rattle.grammar_desugaring.specs.declared.fault.DesugarFault.TheVariants.{NumberRange, UnknownCall, Arity}
+use Rattle.grammar_desugaring.specs.Names.{method_of, function_takes, method_takes}
+use Rattle.grammar_desugaring.specs.Numbers.{fits, fits_negated}
+use Rattle.grammar_desugaring.specs.Meaning.{name_of, place_of}
+use Rattle.grammar_desugaring.specs.Core.{function, in_access}
+use Rattle.grammar_desugaring.specs.Repeats.{NameAt, repeat_faults}
+
+-- the faults of a tree by itself, and behind a minus
+pub record Faulty : Type 0 where
+  pub alone : List DesugarFault
+  pub negated : List DesugarFault
+
+abbrev pub either_way : List DesugarFault → Faulty
+either_way faults = record { alone = faults; negated = faults }
+
+-- A number is out of range at its token, whether a minus joins it or not.
+abbrev pub range : Bool → Token → List DesugarFault
+range within t = if within then [] else NumberRange t.start ∷ []
+
+-- A call of a name that takes so many arguments, if it is known.
+abbrev pub call_faults : ℕ → Option ℕ → ℕ → List DesugarFault
+call_faults at None count = UnknownCall at ∷ []
+call_faults at (Some takes) count = if nat_eq count takes then [] else Arity at ∷ []
+
+-- of a function at the first byte of its name
+abbrev pub function_faults : List ℕ → PathTree → ℕ → List DesugarFault
+function_faults text path count = call_faults path.first.start (function_takes (function text path)) count
+
+-- of a method at its name; the accesses' arguments have the faults that they are given
+abbrev pub access_faults : List ℕ → Access (List (List DesugarFault)) → List DesugarFault
+access_faults text (access.Field key) = []
+access_faults text (access.Method name arguments) =
+    call_faults name.start (method_takes (method_of (spelling_of text name))) (length arguments)
+    ++ flat_map (λ faults. faults) arguments
+
+-- a key of a record where it stands
+abbrev pub key_of : List ℕ → {A : Type 0} → Entry A → NameAt
+key_of text entry = record { name = name_of text entry.key; at = place_of entry.key }
+
+abbrev by_itself : Faulty → List DesugarFault
+by_itself f = f.alone
+
+abbrev in_all : List Faulty → List DesugarFault
+in_all = flat_map by_itself
+
+abbrev pub fault_step : List ℕ → tree Faulty → Faulty
+fault_step text (tree.Boolean value) = either_way []
+fault_step text (tree.Number t) =
+    record { alone = range (fits (spelling_of text t)) t; negated = range (fits_negated (spelling_of text t)) t }
+fault_step text (tree.Text t) = either_way []
+fault_step text (tree.Variable word) = either_way []
+fault_step text (tree.Uid uid) = either_way []
+fault_step text (tree.Call path arguments) =
+    either_way (function_faults text path (length arguments) ++ in_all arguments)
+fault_step text (tree.Parentheses a) = either_way a.alone
+fault_step text (tree.Set members) = either_way (in_all members)
+fault_step text (tree.Record entries) =
+    either_way (repeat_faults (map (key_of text) entries) ++ flat_map (λ entry. entry.value.alone) entries)
+fault_step text (tree.Member a accesses) =
+    either_way (a.alone ++ flat_map (access_faults text) (map (in_access by_itself) accesses))
+fault_step text (tree.Not a) = either_way a.alone
+fault_step text (tree.Minus a) = either_way a.negated
+fault_step text (tree.Product a more) = either_way (a.alone ++ in_all more)
+fault_step text (tree.Sum a terms) = either_way (a.alone ++ flat_map (λ term. term.operand.alone) terms)
+fault_step text (tree.Compare a operator b) = either_way (a.alone ++ b.alone)
+fault_step text (tree.Has a key) = either_way a.alone
+fault_step text (tree.Like a t) = either_way a.alone
+fault_step text (tree.Is a path) = either_way a.alone
+fault_step text (tree.IsIn a path b) = either_way (a.alone ++ b.alone)
+fault_step text (tree.And a more) = either_way (a.alone ++ in_all more)
+fault_step text (tree.Or a more) = either_way (a.alone ++ in_all more)
+fault_step text (tree.If a b c) = either_way (a.alone ++ (b.alone ++ c.alone))
+
+abbrev pub fault_meaning : List ℕ → ExprTree → Faulty
+fault_meaning text = fold-ExprTree Faulty (fault_step text)
+
+-- the faults of a tree
+abbrev pub faults_of : List ℕ → ExprTree → List DesugarFault
+faults_of text x = (fault_meaning text x).alone
+
+-- and behind a minus
+abbrev pub negated_faults : List ℕ → ExprTree → List DesugarFault
+negated_faults text x = (fault_meaning text x).negated

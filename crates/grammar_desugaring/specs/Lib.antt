@@ -1,0 +1,16 @@
+pub mod Core
+pub mod Faults
+pub mod Measured
+pub mod Meaning
+pub mod Names
+pub mod Numbers
+pub mod Repeats
+pub mod BuiltFrom
+pub mod StringMeaning
+pub mod Strings
+pub mod Sums
+pub mod Refused
+pub mod inner
+-- crates below, passed on to those above
+pub use Rattle.grammar_trees.specs as grammar_trees
+pub use Rattle.grammar_trees.specs.grammar_tokens

@@ -1,0 +1,103 @@
+-- Measures put together.
+use Rattle.std.specs.Prelude.{◌≡◌, ℕ, ◌+◌, ◌++◌, max, List, length, Option, Some, None}
+use Rattle.std.specs.List.{fold}
+use Rattle.grammar_trees.specs.grammar_tokens.Lexing.{spelling_of}
+use Rattle.grammar_core.specs.declared.leaf.Literal.{Literal}
+use Rattle.grammar_core.specs.declared.operator.Unary.{Unary}
+use Rattle.grammar_core.specs.declared.expr.Expr.{Expr}
+use Rattle.grammar_core.specs.declared.expr.Expr.TheVariants as core
+use Rattle.grammar_trees.specs.grammar_tokens.declared.tree.PathTree.{PathTree}
+use Rattle.grammar_trees.specs.declared.tree.Access.{Access}
+use Rattle.grammar_trees.specs.declared.tree.Access.TheVariants as access
+use Rattle.grammar_trees.specs.declared.tree.Comparison.{Comparison}
+use Rattle.grammar_trees.specs.declared.tree.Comparison.TheVariants as is
+use Rattle.grammar_trees.specs.declared.tree.Entry.{Entry}
+use Rattle.grammar_trees.specs.declared.tree.Term.{Term}
+use Rattle.grammar_trees.specs.declared.tree.ExprTree.{ExprTree}
+use Rattle.grammar_desugaring.specs.declared.fault.DesugarFault.{DesugarFault}
+use Rattle.grammar_desugaring.specs.declared.measure.Measure.{Measure}
+use Rattle.grammar_desugaring.specs.Refused.{earlier_of, least}
+use Rattle.grammar_desugaring.specs.Names.{method_of, method_takes}
+use Rattle.grammar_desugaring.specs.Faults.{call_faults, function_faults}
+use Rattle.grammar_desugaring.specs.Measured.{measure, of, measured}
+
+-- of nothing, and of a form without operands
+abbrev pub nothing : Measure
+nothing = measure 0 0 None
+
+abbrev pub leaf : Option DesugarFault → Measure
+leaf fault = measure 1 1 fault
+
+-- of a form over these
+abbrev pub above : Measure → Measure
+above j = measure (j.height + 1) (j.forms + 1) j.fault
+
+-- of two side by side
+abbrev pub beside : Measure → Measure → Measure
+beside i j = measure (max i.height j.height) (i.forms + j.forms) (earlier_of i.fault j.fault)
+
+abbrev pub paired : Measure → Measure → Measure
+paired i j = above (beside i j)
+
+-- of a call with these operands that may have a fault of its own
+abbrev pub called : Option DesugarFault → Measure → Measure
+called None operands = above operands
+called (Some fault) operands = leaf operands.fault
+
+abbrev pub with_fault : Option DesugarFault → Measure → Measure
+with_fault fault j = record { height = j.height; forms = j.forms; fault = earlier_of fault j.fault }
+
+-- ## Laws
+
+-- What is told of a literal, of a form over one and of `&&`, by what is told of the parts.
+abbrev pub LiteralIsLeaf : Type 0
+LiteralIsLeaf = (value : Literal) (faults : List DesugarFault) → of (core.Literal value) faults ≡ leaf (least faults)
+
+abbrev pub UnaryIsAbove : Type 0
+UnaryIsAbove = (operator : Unary) (a : Expr) (faults : List DesugarFault) →
+    of (core.Unary operator a) faults ≡ above (of a faults)
+
+abbrev pub AndIsPaired : Type 0
+AndIsPaired = (a b : Expr) (faults more : List DesugarFault) →
+    of (core.And a b) (faults ++ more) ≡ paired (of a faults) (of b more)
+
+-- ## Of lists of trees
+
+-- of trees side by side
+abbrev pub measured_all : List ℕ → List ExprTree → Measure
+measured_all text xs = fold (λ j x. beside j (measured text x)) nothing xs
+
+-- of a chain of operands, the first of which is measured
+abbrev pub measured_chain : List ℕ → Measure → List ExprTree → Measure
+measured_chain text = fold (λ j x. paired j (measured text x))
+
+-- of one term more
+abbrev pub measured_term : List ℕ → Measure → Term ExprTree → Measure
+measured_term text j term = paired j (measured text term.operand)
+
+-- of one entry more
+abbrev pub measured_entry : List ℕ → Measure → Entry ExprTree → Measure
+measured_entry text j entry = beside j (measured text entry.value)
+
+-- of a comparison
+abbrev pub measured_compared : Comparison → Measure → Measure → Measure
+measured_compared is.Less i j = paired i j
+measured_compared is.LessOrEqual i j = paired i j
+measured_compared is.Greater i j = above (paired i j)
+measured_compared is.GreaterOrEqual i j = above (paired i j)
+measured_compared is.Equal i j = paired i j
+measured_compared is.NotEqual i j = above (paired i j)
+measured_compared is.In i j = paired i j
+
+-- of a function's call
+abbrev pub measured_call : List ℕ → PathTree → List ExprTree → Measure
+measured_call text path arguments =
+    let fault = least (function_faults text path (length arguments)) in
+    called fault (with_fault fault (measured_all text arguments))
+
+-- of an access to what is measured
+abbrev pub measured_access : List ℕ → Measure → Access (List ExprTree) → Measure
+measured_access text j (access.Field key) = above j
+measured_access text j (access.Method name arguments) =
+    let fault = least (call_faults name.start (method_takes (method_of (spelling_of text name))) (length arguments)) in
+    called fault (beside j (with_fault fault (measured_all text arguments)))

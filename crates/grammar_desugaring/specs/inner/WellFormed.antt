@@ -1,0 +1,55 @@
+-- What a tree is made of: tokens of the text, each of a kind that its place asks for.
+use Rattle.std.specs.Prelude.{◌≡◌, ℕ, true, List}
+use Rattle.std.specs.List.{AllByRecursion}
+use Rattle.grammar_trees.specs.grammar_tokens.declared.token.TokenKind.TheVariants as k
+use Rattle.grammar_trees.specs.grammar_tokens.declared.token.Token.{Token}
+use Rattle.grammar_trees.specs.grammar_tokens.Lexing.{IsSpelledIn}
+use Rattle.grammar_trees.specs.grammar_tokens.declared.tree.PathTree.{PathTree}
+use Rattle.grammar_trees.specs.grammar_tokens.declared.tree.UidTree.{UidTree}
+use Rattle.grammar_trees.specs.declared.tree.Access.{Access}
+use Rattle.grammar_trees.specs.declared.tree.Access.TheVariants as access
+use Rattle.grammar_trees.specs.declared.tree.Entry.{Entry}
+use Rattle.grammar_trees.specs.declared.tree.KeyTree.{KeyTree}
+use Rattle.grammar_trees.specs.declared.tree.KeyTree.TheVariants.{Word, Quoted}
+use Rattle.grammar_trees.specs.declared.tree.Term.{Term}
+use Rattle.grammar_trees.specs.declared.tree.ExprTree.{ExprTree}
+use Rattle.grammar_trees.specs.grammar_tokens.Kinds.{Kinds, only}
+use Rattle.grammar_trees.specs.grammar_tokens.Grammar.{identifiers}
+use Rattle.grammar_trees.specs.Parts.{parts_of}
+
+-- The token is spelled in the text, and of these kinds.
+pub record TokenIn (text : List ℕ) (kinds : Kinds) (token : Token) : Type 0 where
+  pub spelled : IsSpelledIn text token
+  pub kind : kinds token.kind ≡ true
+
+-- The tree is made of tokens of the text.
+pub record WellFormed (text : List ℕ) (x : ExprTree) : Type 0 where
+  pub parts : AllByRecursion (λ p. TokenIn text p.kinds p.token) (parts_of x)
+
+-- ## The same of the parts of a tree
+
+abbrev pub KeyIn : List ℕ → KeyTree → Type 0
+KeyIn text (Word word) = TokenIn text identifiers word
+KeyIn text (Quoted quoted) = TokenIn text (only k.Text) quoted
+
+pub record PathIn (text : List ℕ) (path : PathTree) : Type 0 where
+  pub first : TokenIn text identifiers path.first
+  pub more : AllByRecursion (TokenIn text identifiers) path.more
+
+pub record UidIn (text : List ℕ) (uid : UidTree) : Type 0 where
+  pub path : PathIn text uid.path
+  pub id : TokenIn text (only k.Text) uid.id
+
+abbrev pub AllWellFormed : List ℕ → List ExprTree → Type 0
+AllWellFormed text = AllByRecursion (WellFormed text)
+
+pub record WellFormedEntry (text : List ℕ) (entry : Entry ExprTree) : Type 0 where
+  pub key : KeyIn text entry.key
+  pub value : WellFormed text entry.value
+
+pub record WellFormedTerm (text : List ℕ) (term : Term ExprTree) : Type 0 where
+  pub operand : WellFormed text term.operand
+
+abbrev pub WellFormedAccess : List ℕ → Access (List ExprTree) → Type 0
+WellFormedAccess text (access.Field key) = KeyIn text key
+WellFormedAccess text (access.Method name arguments) = TokenIn text identifiers name × AllWellFormed text arguments

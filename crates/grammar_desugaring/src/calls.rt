@@ -1,0 +1,107 @@
+//! Calls of functions and methods.
+ghost use Rattle.std.specs.Prelude.{◌≡◌, IfOk, Some};
+ghost use Rattle.grammar_desugaring.specs.Core as spec;
+ghost use Rattle.grammar_desugaring.specs.declared.names.Method.TheVariants as method;
+ghost use Rattle.grammar_desugaring.specs.inner.Giving.{Gave};
+
+use crate::names::Method;
+use grammar_core::{Expr, Literal, UnaryCall};
+use plain::{Items, NoMemory, beside};
+use std::alloc::Global;
+
+/// Returns what stands in place of a call of these parts that is refused.
+fn no_call<T: Drop, U: Drop>(_part: T, _other: U) -> Expr
+    ensures { result ≡ spec.no_call }
+{
+    Expr::Literal(Literal::Boolean(false))
+}
+
+/// Returns the only argument.
+fn single(arguments: Items<Expr>) -> Option<Expr>
+    ensures { result ≡ spec.single_of arguments }
+{
+    let mut rest = arguments.into_vec();
+    if rest.len() == 1 { rest.pop() } else { None }
+}
+
+/// Returns a call of a function.
+pub(crate) fn call(
+    alloc: Global,
+    function: Option<UnaryCall>,
+    arguments: Result<Items<Expr>, NoMemory>,
+) -> Result<Expr, NoMemory>
+    ensures { IfOk result (λ e. Gave arguments (λ es. e ≡ spec.called function es)) }
+{
+    let arguments = arguments?;
+    let Some(called) = function else {
+        return Ok(no_call(arguments, ()));
+    };
+    match single(arguments) {
+        Some(argument) => Expr::unary_call(alloc, called, argument),
+        None => Ok(no_call((), ())),
+    }
+}
+
+/// Returns a call of a method with one argument.
+fn call_with(
+    alloc: Global,
+    method: Method,
+    receiver: Expr,
+    argument: Expr,
+) -> Result<Expr, NoMemory>
+    ensures { IfOk result (λ e. e ≡ spec.called_with method receiver argument) }
+{
+    match method {
+        Method::Alone(_) => Ok(no_call(receiver, argument)),
+        Method::Operator(operator) => Expr::binary(alloc, operator, receiver, argument),
+        Method::WithArgument(called) => Expr::binary_call(alloc, called, receiver, argument),
+    }
+}
+
+/// Returns a call of a method that takes no argument.
+fn call_alone(
+    alloc: Global,
+    called: UnaryCall,
+    receiver: Expr,
+    arguments: Items<Expr>,
+) -> Result<Expr, NoMemory>
+    ensures { IfOk result (λ e. e ≡ spec.method_called (Some (method.Alone called)) receiver arguments) }
+{
+    if arguments.is_empty() {
+        Expr::unary_call(alloc, called, receiver)
+    } else {
+        Ok(no_call(receiver, arguments))
+    }
+}
+
+/// Returns a call of a method.
+fn call_method(
+    alloc: Global,
+    method: Option<Method>,
+    receiver: Expr,
+    arguments: Items<Expr>,
+) -> Result<Expr, NoMemory>
+    ensures { IfOk result (λ e. e ≡ spec.method_called method receiver arguments) }
+{
+    match method {
+        None => Ok(no_call(receiver, arguments)),
+        Some(Method::Alone(called)) => call_alone(alloc, called, receiver, arguments),
+        Some(other) => match single(arguments) {
+            Some(argument) => call_with(alloc, other, receiver, argument),
+            None => Ok(no_call(receiver, ())),
+        },
+    }
+}
+
+/// Returns a call of a method, with the row of arguments that was made.
+pub(crate) fn call_with_row(
+    alloc: Global,
+    method: Option<Method>,
+    receiver: Expr,
+    arguments: Result<Items<Expr>, NoMemory>,
+) -> Result<Expr, NoMemory>
+    ensures { IfOk result (λ e. Gave arguments (λ es. e ≡ spec.method_called method receiver es)) }
+{
+    let (receiver, arguments) = beside(receiver, arguments)?;
+    call_method(alloc, method, receiver, arguments)
+}

@@ -1,0 +1,47 @@
+//! Why a tree has no core expression.
+ghost use Rattle.std.specs.Prelude.{◌≡◌};
+ghost use Rattle.grammar_desugaring.specs.Refused as spec;
+
+use thiserror::Error;
+
+/// Why a tree has no core expression. Each place is a byte's, counted from 0.
+#[derive(Clone, Copy, Debug, Error)]
+pub enum DesugarFault {
+    /// The number at this token is outside signed 64 bits.
+    #[error("policy 12: number outside signed 64 bits at byte {0}")]
+    NumberRange(usize),
+    /// No function or method has this name.
+    #[error("policy 13: unknown function or method at byte {0}")]
+    UnknownCall(usize),
+    /// The function or method of this name takes another count of arguments.
+    #[error("policy 14: wrong number of arguments at byte {0}")]
+    Arity(usize),
+    /// This key stands further left in the same record.
+    #[error("policy 15: repeated key at byte {0}")]
+    RepeatedKey(usize),
+}
+
+impl DesugarFault {
+    /// Where it stands.
+    fn at(self) -> usize
+        ensures { result ≡ spec.at self }
+    {
+        match self {
+            DesugarFault::NumberRange(at)
+            | DesugarFault::UnknownCall(at)
+            | DesugarFault::Arity(at)
+            | DesugarFault::RepeatedKey(at) => at,
+        }
+    }
+}
+
+/// Returns the one at the lesser place, where there is one; the first where they are at one place.
+pub fn earlier_of(one: Option<DesugarFault>, other: Option<DesugarFault>) -> Option<DesugarFault>
+    ensures { result ≡ spec.earlier_of one other }
+{
+    match (one, other) {
+        (Some(first), Some(second)) if second.at() < first.at() => Some(second),
+        (None, second) => second,
+        (first, _) => first,
+    }
+}

@@ -1,0 +1,197 @@
+//! Core expressions from their operands.
+ghost use Rattle.std.specs.Prelude.{◌≡◌, IfOk};
+ghost use Rattle.grammar_trees.specs.grammar_tokens.Lexing.{spelling_of};
+ghost use Rattle.grammar_core.specs.declared.operator.Unary.TheVariants as unary;
+ghost use Rattle.grammar_core.specs.declared.operator.Binary.TheVariants as binary;
+ghost use Rattle.grammar_core.specs.declared.expr.Expr.TheVariants as core;
+ghost use Rattle.grammar_trees.specs.Patterns.{patterns};
+ghost use Rattle.grammar_desugaring.specs.Strings.{pattern_of};
+ghost use Rattle.grammar_desugaring.specs.Meaning.{path_name, name_of};
+ghost use Rattle.grammar_desugaring.specs.Core as spec;
+ghost use Rattle.grammar_desugaring.specs.inner.Giving.{Gave};
+ghost use Rattle.grammar_desugaring.specs.inner.WellFormed.{TokenIn, KeyIn, PathIn};
+
+use crate::pairs::{all_three, both};
+use crate::words::{name, path_type, pattern, sign};
+use grammar_core::{Binary, Expr, Named, Unary};
+use grammar_trees::{Comparison, KeyTree, PathTree, Sign, Token};
+use plain::{Items, NoMemory, Text, beside};
+use std::alloc::Global;
+
+/// How the operands of a chain are joined.
+#[derive(Clone, Copy)]
+pub(crate) enum Chain {
+    Product,
+    /// The sign of the further term.
+    Sum(Sign),
+    And,
+    Or,
+}
+
+/// `owner.name`
+pub(crate) fn field(alloc: Global, text: &str, owner: Expr, key: KeyTree) -> Result<Expr, NoMemory>
+    requires { KeyIn text.now key }
+    ensures { IfOk result (λ e. e ≡ core.Field owner (name_of text.entry.now key)) }
+{
+    let (owner, name) = both(Ok(owner), name(alloc, text, key))?;
+    Expr::field(alloc, owner, name)
+}
+
+/// `owner has name`
+pub(crate) fn has(
+    alloc: Global,
+    text: &str,
+    owner: Result<Expr, NoMemory>,
+    key: KeyTree,
+) -> Result<Expr, NoMemory>
+    requires { KeyIn text.now key }
+    ensures { IfOk result (λ e. Gave owner (λ a. e ≡ core.Has a (name_of text.now key))) }
+{
+    let (owner, name) = both(owner, name(alloc, text, key))?;
+    Expr::has(alloc, owner, name)
+}
+
+/// `operand like pattern`
+pub(crate) fn like(
+    alloc: Global,
+    text: &str,
+    operand: Result<Expr, NoMemory>,
+    token: Token,
+) -> Result<Expr, NoMemory>
+    requires { TokenIn text.now patterns token }
+    ensures { IfOk result (λ e. Gave operand
+        (λ a. e ≡ core.Unary (unary.Like (pattern_of (spelling_of text.now token))) a)) }
+{
+    let (operand, pattern) = both(operand, pattern(alloc, text, token))?;
+    Expr::unary(alloc, Unary::Like(pattern), operand)
+}
+
+/// `operand is path`
+pub(crate) fn is(
+    alloc: Global,
+    text: &str,
+    operand: Result<Expr, NoMemory>,
+    path: &PathTree,
+) -> Result<Expr, NoMemory>
+    requires { PathIn text.now path.now }
+    ensures { IfOk result (λ e. Gave operand (λ a. e ≡ core.Unary (unary.Is (path_name text.now path.now)) a)) }
+{
+    let (operand, type_name) = both(operand, path_type(alloc, text, path))?;
+    Expr::unary(alloc, Unary::Is(type_name), operand)
+}
+
+/// `operand is path in ancestor`
+pub(crate) fn is_in(
+    alloc: Global,
+    text: &str,
+    operands: Result<(Expr, Expr), NoMemory>,
+    path: &PathTree,
+) -> Result<Expr, NoMemory>
+    requires { PathIn text.now path.now }
+    ensures { IfOk result
+        (λ e. Gave operands
+        (λ pair. e
+        ≡ core.And (core.Unary (unary.Is (path_name text.now path.now)) pair.0)
+        (core.Binary binary.In pair.0 pair.1))) }
+{
+    let (operands, type_name) = both(operands, path_type(alloc, text, path))?;
+    let (operand, ancestor) = operands;
+    Expr::is_in(alloc, operand, type_name, ancestor)
+}
+
+/// Returns an operator with one operand.
+pub(crate) fn apply(
+    alloc: Global,
+    operator: Unary,
+    operand: Result<Expr, NoMemory>,
+) -> Result<Expr, NoMemory>
+    ensures { IfOk result (λ e. Gave operand (λ a. e ≡ core.Unary operator a)) }
+{
+    let operand = operand?;
+    Expr::unary(alloc, operator, operand)
+}
+
+/// `if test then consequent else alternative`
+pub(crate) fn if_then_else(
+    alloc: Global,
+    test: Result<Expr, NoMemory>,
+    consequent: Result<Expr, NoMemory>,
+    alternative: Result<Expr, NoMemory>,
+) -> Result<Expr, NoMemory>
+    ensures { IfOk result
+        (λ e. Gave test (λ a. Gave consequent (λ b. Gave alternative (λ c. e ≡ core.If a b c)))) }
+{
+    let (test, consequent, alternative) = all_three(test, consequent, alternative)?;
+    Expr::if_then_else(alloc, test, consequent, alternative)
+}
+
+/// `[members]`
+pub(crate) fn set(members: Result<Items<Expr>, NoMemory>) -> Result<Expr, NoMemory>
+    ensures { IfOk result (λ e. Gave members (λ es. e ≡ core.Set es)) }
+{
+    Ok(Expr::Set(members?))
+}
+
+/// `name: value`
+pub(crate) fn named(
+    name: Result<Text, NoMemory>,
+    value: Result<Expr, NoMemory>,
+) -> Result<Named<Expr>, NoMemory>
+    ensures { IfOk result
+        (λ f. Gave name (λ n. Gave value (λ e. f ≡ record { name = n; value = e }))) }
+{
+    let (name, value) = both(name, value)?;
+    Ok(Named { name, value })
+}
+
+/// `{fields}`
+pub(crate) fn record(fields: Result<Items<Named<Expr>>, NoMemory>) -> Result<Expr, NoMemory>
+    ensures { IfOk result (λ e. Gave fields (λ fs. e ≡ core.Record fs)) }
+{
+    Ok(Expr::Record(fields?))
+}
+
+/// Returns a comparison: `!=`, `>` and `>=` are the negations of `==`, `<=` and `<`.
+pub(crate) fn compare(
+    alloc: Global,
+    operator: Comparison,
+    operands: Result<(Expr, Expr), NoMemory>,
+) -> Result<Expr, NoMemory>
+    ensures { IfOk result (λ e. Gave operands (λ pair. e ≡ spec.compared operator pair.0 pair.1)) }
+{
+    let (left, right) = operands?;
+    match operator {
+        Comparison::Less => Expr::binary(alloc, Binary::Less, left, right),
+        Comparison::LessOrEqual => Expr::binary(alloc, Binary::LessOrEqual, left, right),
+        Comparison::Greater => Expr::greater(alloc, left, right),
+        Comparison::GreaterOrEqual => Expr::greater_or_equal(alloc, left, right),
+        Comparison::Equal => Expr::binary(alloc, Binary::Equal, left, right),
+        Comparison::NotEqual => Expr::not_equal(alloc, left, right),
+        Comparison::In => Expr::binary(alloc, Binary::In, left, right),
+    }
+}
+
+/// Two operands of a chain.
+fn join(alloc: Global, chain: Chain, left: Expr, right: Expr) -> Result<Expr, NoMemory>
+    ensures { IfOk result (λ e. e ≡ spec.joined_by chain left right) }
+{
+    match chain {
+        Chain::Product => Expr::binary(alloc, Binary::Multiply, left, right),
+        Chain::Sum(before) => Expr::binary(alloc, sign(before), left, right),
+        Chain::And => Expr::and(alloc, left, right),
+        Chain::Or => Expr::or(alloc, left, right),
+    }
+}
+
+/// Returns a chain with what was made as its next operand.
+pub(crate) fn join_next(
+    alloc: Global,
+    chain: Chain,
+    left: Expr,
+    right: Result<Expr, NoMemory>,
+) -> Result<Expr, NoMemory>
+    ensures { IfOk result (λ e. Gave right (λ b. e ≡ spec.joined_by chain left b)) }
+{
+    let (left, right) = beside(left, right)?;
+    join(alloc, chain, left, right)
+}

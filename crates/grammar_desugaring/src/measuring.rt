@@ -1,0 +1,345 @@
+//! Whether a tree has a core expression, and how large that is: told without building it. Memory is taken for the
+//! keys of records alone.
+ghost use Rattle.std.specs.Prelude.{◌≡◌, IfOk};
+ghost use Rattle.std.specs.List.{AllByRecursion, fold};
+ghost use Rattle.grammar_trees.specs.grammar_tokens.declared.token.TokenKind.TheVariants as k;
+ghost use Rattle.grammar_trees.specs.grammar_tokens.Lexing.{spelling_of};
+ghost use Rattle.grammar_trees.specs.grammar_tokens.Kinds.{only};
+ghost use Rattle.grammar_trees.specs.grammar_tokens.Grammar.{identifiers};
+ghost use Rattle.grammar_desugaring.specs.Core.{function};
+ghost use Rattle.grammar_desugaring.specs.Names.{method_takes, method_of};
+ghost use Rattle.grammar_desugaring.specs.Numbers as number;
+ghost use Rattle.grammar_desugaring.specs.Refused.{least};
+ghost use Rattle.grammar_desugaring.specs.Faults.{range, call_faults, function_faults};
+ghost use Rattle.grammar_desugaring.specs.Measured.{measured, measured_negated};
+ghost use Rattle.grammar_desugaring.specs.inner.WellFormed.{WellFormed, TokenIn, PathIn, AllWellFormed};
+ghost use Rattle.grammar_desugaring.specs.inner.WellFormed.{WellFormedEntry};
+ghost use Rattle.grammar_desugaring.specs.inner.WellFormed.{WellFormedTerm};
+ghost use Rattle.grammar_desugaring.specs.inner.WellFormed.{WellFormedAccess};
+ghost use Rattle.grammar_desugaring.specs.inner.Giving.{Gave};
+ghost use Rattle.grammar_desugaring.specs.Sums as spec;
+
+use crate::fault::DesugarFault;
+use crate::measure::Measure;
+use crate::names::{function_named, method_named};
+use crate::numbers::{fits, fits_negated};
+use crate::repeats::repeated_key;
+use grammar_core::UnaryCall;
+use grammar_trees::{Access, Comparison, Entry, ExprTree, PathTree, Term, Token, spelling};
+use plain::{Boxed, Items, NoMemory};
+use std::alloc::Global;
+
+/// What is told, but for want of memory.
+type Told = Result<Measure, NoMemory>;
+
+/// What is told of two.
+type BothTold = Result<(Measure, Measure), NoMemory>;
+
+/// Returns the fault of a number that is out of range.
+fn range_fault(within: bool, token: Token) -> Option<DesugarFault>
+    ensures { result ≡ least (range within token) }
+{
+    if within {
+        None
+    } else {
+        Some(DesugarFault::NumberRange(token.start))
+    }
+}
+
+/// Of a number by itself.
+fn measure_number(text: &str, token: Token) -> Measure
+    requires { TokenIn text.now (only k.Number) token }
+    ensures { result ≡ spec.leaf (least (range (number.fits (spelling_of text.now token)) token)) }
+{
+    let digits = spelling(text, token).as_bytes();
+    Measure::leaf(range_fault(fits(digits), token))
+}
+
+/// Of a number that a minus joins.
+fn measure_negated_number(text: &str, token: Token) -> Measure
+    requires { TokenIn text.now (only k.Number) token }
+    ensures { result ≡ spec.leaf (least (range (number.fits_negated (spelling_of text.now token)) token)) }
+{
+    let digits = spelling(text, token).as_bytes();
+    Measure::leaf(range_fault(fits_negated(digits), token))
+}
+
+/// Returns the fault of a call with so many arguments, by what it takes, if it is known.
+fn call_fault(at: usize, takes: Option<usize>, count: usize) -> Option<DesugarFault>
+    ensures { result ≡ least (call_faults at takes count) }
+{
+    match takes {
+        None => Some(DesugarFault::UnknownCall(at)),
+        Some(wanted) => {
+            if count == wanted {
+                None
+            } else {
+                Some(DesugarFault::Arity(at))
+            }
+        }
+    }
+}
+
+/// Returns the function that a Path is.
+pub(crate) fn function_at(text: &str, path: &PathTree) -> Option<UnaryCall>
+    requires { PathIn text.now path.now }
+    ensures { result ≡ function text.now path.now }
+{
+    match path.more.as_slice() {
+        [] => function_named(spelling(text, path.first)),
+        _ => None,
+    }
+}
+
+/// Returns the fault of a function's call.
+fn function_fault(text: &str, path: &PathTree, count: usize) -> Option<DesugarFault>
+    requires { PathIn text.now path.now }
+    ensures { result ≡ least (function_faults text.now path.now count) }
+{
+    let takes = match function_at(text, path) {
+        None => None,
+        Some(_) => Some(1),
+    };
+    call_fault(path.first.start, takes, count)
+}
+
+/// Returns the fault of a method's call.
+fn method_fault(text: &str, name: Token, count: usize) -> Option<DesugarFault>
+    requires { TokenIn text.now identifiers name }
+    ensures { result ≡ least (call_faults name.start (method_takes (method_of (spelling_of text.now name))) count) }
+{
+    let takes = match method_named(spelling(text, name)) {
+        None => None,
+        Some(method) => Some(method.takes()),
+    };
+    call_fault(name.start, takes, count)
+}
+
+/// Of a comparison: a negated one is a form more.
+fn measure_comparison(operator: Comparison, left: Measure, right: Measure) -> Measure
+    ensures { result ≡ spec.measured_compared operator left right }
+{
+    let both = left.paired(right);
+    match operator {
+        Comparison::Greater | Comparison::GreaterOrEqual | Comparison::NotEqual => both.above(),
+        Comparison::Less | Comparison::LessOrEqual | Comparison::Equal | Comparison::In => both,
+    }
+}
+
+/// Of a form over what is measured.
+fn above(operand: Told) -> Told
+    ensures { IfOk result (λ j. Gave operand (λ i. j ≡ spec.above i)) }
+{
+    Ok(operand?.above())
+}
+
+/// Of a function's call, of its arguments and the fault of the call itself.
+fn call(fault: Option<DesugarFault>, arguments: Told) -> Told
+    ensures { IfOk result (λ j. Gave arguments (λ i. j ≡ spec.called fault (spec.with_fault fault i))) }
+{
+    Ok(arguments?.with_fault(fault).called(fault))
+}
+
+/// Of a record, of its entries and the fault of its keys.
+fn record(fault: Result<Option<DesugarFault>, NoMemory>, entries: Told) -> Told
+    ensures { IfOk result (λ j. Gave fault (λ o. Gave entries (λ i. j ≡ spec.above (spec.with_fault o i)))) }
+{
+    let fault = fault?;
+    Ok(entries?.with_fault(fault).above())
+}
+
+/// `left operator right`
+fn compare(operator: Comparison, operands: BothTold) -> Told
+    ensures { IfOk result (λ j. Gave operands (λ pair. j ≡ spec.measured_compared operator pair.0 pair.1)) }
+{
+    let (left, right) = operands?;
+    Ok(measure_comparison(operator, left, right))
+}
+
+/// `operand is path in ancestor`, in which the operand stands twice.
+fn is_in(operands: BothTold) -> Told
+    ensures { IfOk result
+        (λ j. Gave operands (λ pair. j ≡ spec.paired (spec.above pair.0) (spec.paired pair.0 pair.1))) }
+{
+    let (operand, ancestor) = operands?;
+    Ok(operand.above().paired(operand.paired(ancestor)))
+}
+
+/// `if test then consequent else alternative`
+fn if_then_else(test: Told, consequent: Told, alternative: Told) -> Told
+    ensures { IfOk result (λ j. Gave test (λ i. Gave consequent
+        (λ k. Gave alternative (λ l. j ≡ spec.above (spec.beside i (spec.beside k l)))))) }
+{
+    let test = test?;
+    let consequent = consequent?;
+    Ok(test.beside(consequent.beside(alternative?)).above())
+}
+
+/// Returns what is told of a tree.
+#[cycle(measuring)]
+pub(crate) fn measure_tree(alloc: Global, text: &str, tree: &ExprTree) -> Told
+    requires { WellFormed text.now tree.now }
+    ensures { IfOk result (λ j. j ≡ measured text.now tree.now) }
+{
+    match tree {
+        ExprTree::Boolean(_) => Ok(Measure::leaf(None)),
+        ExprTree::Number(token) => Ok(measure_number(text, *token)),
+        ExprTree::Text(_) => Ok(Measure::leaf(None)),
+        ExprTree::Variable(_) => Ok(Measure::leaf(None)),
+        ExprTree::Uid(_) => Ok(Measure::leaf(None)),
+        ExprTree::Call(path, arguments) => call(
+            function_fault(text, path, arguments.len()),
+            measure_all(alloc, text, arguments.as_slice()),
+        ),
+        ExprTree::Parentheses(inner) => measure_tree(alloc, text, inner.get()),
+        ExprTree::Set(members) => above(measure_all(alloc, text, members.as_slice())),
+        ExprTree::Record(entries) => record(
+            repeated_key(alloc, text, entries.as_slice()),
+            measure_entries(alloc, text, entries.as_slice()),
+        ),
+        ExprTree::Member(inner, accesses) => measure_accesses(alloc, text, accesses, inner),
+        ExprTree::Not(inner) => above(measure_tree(alloc, text, inner.get())),
+        ExprTree::Minus(inner) => measure_behind_minus(alloc, text, inner.get()),
+        ExprTree::Product(inner, more) => measure_chain(alloc, text, more, inner),
+        ExprTree::Sum(inner, terms) => measure_terms(alloc, text, terms, inner),
+        ExprTree::Compare(left, operator, right) => {
+            compare(*operator, measure_both(alloc, text, left, right))
+        }
+        ExprTree::Has(inner, _) => above(measure_tree(alloc, text, inner.get())),
+        ExprTree::Like(inner, _) => above(measure_tree(alloc, text, inner.get())),
+        ExprTree::Is(inner, _) => above(measure_tree(alloc, text, inner.get())),
+        ExprTree::IsIn(inner, _, outer) => is_in(measure_both(alloc, text, inner, outer)),
+        ExprTree::And(inner, more) => measure_chain(alloc, text, more, inner),
+        ExprTree::Or(inner, more) => measure_chain(alloc, text, more, inner),
+        ExprTree::If(test, consequent, alternative) => {
+            let first = measure_tree(alloc, text, test.get());
+            let second = measure_tree(alloc, text, consequent.get());
+            let third = measure_tree(alloc, text, alternative.get());
+            if_then_else(first, second, third)
+        }
+    }
+}
+
+/// Of a tree behind a minus, which joins a number.
+#[cycle(measuring)]
+fn measure_behind_minus(alloc: Global, text: &str, tree: &ExprTree) -> Told
+    requires { WellFormed text.now tree.now }
+    ensures { IfOk result (λ j. j ≡ measured_negated text.now tree.now) }
+{
+    match tree {
+        ExprTree::Number(token) => Ok(measure_negated_number(text, *token)),
+        _ => above(measure_tree(alloc, text, tree)),
+    }
+}
+
+/// Of two trees, each by itself.
+#[cycle(measuring)]
+fn measure_both(
+    alloc: Global,
+    text: &str,
+    left: &Boxed<ExprTree>,
+    right: &Boxed<ExprTree>,
+) -> BothTold
+    requires { WellFormed text.now left.now × WellFormed text.now right.now }
+    ensures { IfOk result (λ pair. pair ≡ (measured text.now left.now, measured text.now right.now)) }
+{
+    let first = measure_tree(alloc, text, left.get())?;
+    let second = measure_tree(alloc, text, right.get())?;
+    Ok((first, second))
+}
+
+#[cycle(measuring)]
+fn measure_all(alloc: Global, text: &str, trees: &[ExprTree]) -> Told
+    requires { AllWellFormed text.now trees.now }
+    ensures { IfOk result (λ j. j ≡ spec.measured_all text.now trees.now) }
+{
+    let mut row = Measure::nothing();
+    for tree in trees {
+        row = row.beside(measure_tree(alloc, text, tree)?);
+    }
+    Ok(row)
+}
+
+#[cycle(measuring)]
+fn measure_entries(alloc: Global, text: &str, entries: &[Entry<ExprTree>]) -> Told
+    requires { AllByRecursion (WellFormedEntry text.now) entries.now }
+    ensures { IfOk result (λ j. j ≡ fold (spec.measured_entry text.now) spec.nothing entries.now) }
+{
+    let mut row = Measure::nothing();
+    for entry in entries {
+        row = row.beside(measure_tree(alloc, text, &entry.value)?);
+    }
+    Ok(row)
+}
+
+/// Of a chain of operands.
+#[cycle(measuring)]
+fn measure_chain(alloc: Global, text: &str, more: &Items<ExprTree>, first: &Boxed<ExprTree>) -> Told
+    requires { WellFormed text.now first.now × AllWellFormed text.now more.now }
+    ensures { IfOk result (λ j. j ≡ spec.measured_chain text.now (measured text.now first.now) more.now) }
+{
+    let trees = more.as_slice();
+    let mut left = measure_tree(alloc, text, first.get())?;
+    for tree in trees {
+        left = left.paired(measure_tree(alloc, text, tree)?);
+    }
+    Ok(left)
+}
+
+/// Of a sum.
+#[cycle(measuring)]
+fn measure_terms(
+    alloc: Global,
+    text: &str,
+    more: &Items<Term<ExprTree>>,
+    first: &Boxed<ExprTree>,
+) -> Told
+    requires { WellFormed text.now first.now × AllByRecursion (WellFormedTerm text.now) more.now }
+    ensures { IfOk result (λ j. j ≡ fold (spec.measured_term text.now) (measured text.now first.now) more.now) }
+{
+    let terms = more.as_slice();
+    let mut left = measure_tree(alloc, text, first.get())?;
+    for term in terms {
+        left = left.paired(measure_tree(alloc, text, &term.operand)?);
+    }
+    Ok(left)
+}
+
+/// Of what is reached by accesses.
+#[cycle(measuring)]
+fn measure_accesses(
+    alloc: Global,
+    text: &str,
+    more: &Items<Access<Items<ExprTree>>>,
+    receiver: &Boxed<ExprTree>,
+) -> Told
+    requires { WellFormed text.now receiver.now × AllByRecursion (WellFormedAccess text.now) more.now }
+    ensures { IfOk result (λ j. j ≡ fold (spec.measured_access text.now) (measured text.now receiver.now) more.now) }
+{
+    let accesses = more.as_slice();
+    let mut left = measure_tree(alloc, text, receiver.get())?;
+    for access in accesses {
+        left = measure_access(alloc, text, access, left)?;
+    }
+    Ok(left)
+}
+
+#[cycle(measuring)]
+fn measure_access(
+    alloc: Global,
+    text: &str,
+    access: &Access<Items<ExprTree>>,
+    receiver: Measure,
+) -> Told
+    requires { WellFormedAccess text.now access.now }
+    ensures { IfOk result (λ j. j ≡ spec.measured_access text.now receiver access.now) }
+{
+    match access {
+        Access::Field(_) => Ok(receiver.above()),
+        Access::Method(name, arguments) => {
+            let row = measure_all(alloc, text, arguments.as_slice())?;
+            let fault = method_fault(text, *name, arguments.len());
+            Ok(receiver.beside(row.with_fault(fault)).called(fault))
+        }
+    }
+}

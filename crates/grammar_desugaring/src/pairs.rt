@@ -1,0 +1,40 @@
+//! What was made, or refused for want of memory, put together.
+ghost use Rattle.std.specs.Prelude.{◌≡◌, ◌++◌, ◌∷◌, [], IfOk};
+ghost use Rattle.grammar_desugaring.specs.inner.Giving.{Gave};
+
+use plain::NoMemory;
+
+/// Both of two. Generic, so that what is let go where one is missing is one step, and not one a form.
+pub(crate) fn both<A: Drop, B: Drop>(
+    left: Result<A, NoMemory>,
+    right: Result<B, NoMemory>,
+) -> Result<(A, B), NoMemory>
+    ensures { IfOk result (λ pair. Gave left (λ a. Gave right (λ b. pair ≡ (a, b)))) }
+{
+    let left = left?;
+    let right = right?;
+    Ok((left, right))
+}
+
+/// All of three.
+pub(crate) fn all_three<A: Drop, B: Drop, C: Drop>(
+    first: Result<A, NoMemory>,
+    second: Result<B, NoMemory>,
+    third: Result<C, NoMemory>,
+) -> Result<(A, B, C), NoMemory>
+    ensures { IfOk result
+        (λ all. Gave first (λ a. Gave second (λ b. Gave third (λ c. all ≡ (a, b, c))))) }
+{
+    let first = first?;
+    let second = second?;
+    let third = third?;
+    Ok((first, second, third))
+}
+
+/// Puts what was made behind the row.
+pub(crate) fn add<T: Drop>(row: &mut Vec<T>, made: Result<T, NoMemory>) -> Result<(), NoMemory>
+    ensures { IfOk result (λ done. Gave made (λ x. row.new.items ≡ row.old.items ++ x ∷ [])) }
+{
+    row.push(made?)?;
+    Ok(())
+}

@@ -1,0 +1,47 @@
+//! A whole tree: what is told of it, and then its core expression.
+ghost use Rattle.std.specs.Prelude.{◌≡◌, [], IfOk};
+ghost use Rattle.grammar_trees.specs.WellFormed.{WellFormedExpr, WellFormedPath};
+ghost use Rattle.grammar_desugaring.specs.BuiltFrom.{IsBuiltFrom};
+ghost use Rattle.grammar_desugaring.specs.Meaning.{path_name};
+ghost use Rattle.grammar_desugaring.specs.Core.{core_of};
+ghost use Rattle.grammar_desugaring.specs.Faults.{faults_of};
+ghost use Rattle.grammar_desugaring.specs.Measured.{measured};
+
+use crate::build::build_tree;
+use crate::measure::Measure;
+use crate::measuring::measure_tree;
+use crate::words::path_type;
+use grammar_core::Expr;
+use grammar_trees::{ExprTree, PathTree};
+use plain::NoMemory;
+use std::alloc::Global;
+use values::TypeName;
+
+/// Returns what is told of a tree before anything is built: how large its core expression is, and its fault at the
+/// least place. Takes memory for the keys of records alone, and time in proportion to the tree but for these, of which
+/// n take n log n. The only error is `NoMemory`.
+pub fn measure_expr(alloc: Global, text: &str, tree: &ExprTree) -> Result<Measure, NoMemory>
+    requires { IsBuiltFrom text.now (λ tokens. WellFormedExpr tokens tree.now) }
+    ensures { IfOk result (λ measure. measure ≡ measured text.now tree.now) }
+{
+    measure_tree(alloc, text, tree)
+}
+
+/// Returns the core expression that a tree without faults stands for. The only error is `NoMemory`.
+///
+/// Source: Cedar reference guide 4.0, "Grammar specification for Cedar policy syntax" and "Operators and functions".
+pub fn build_expr(alloc: Global, text: &str, tree: &ExprTree) -> Result<Expr, NoMemory>
+    requires stands { IsBuiltFrom text.now (λ tokens. WellFormedExpr tokens tree.now) }
+    requires sound { faults_of text.now tree.now ≡ [] }
+    ensures { IfOk result (λ expr. expr ≡ core_of text.now tree.now) }
+{
+    build_tree(alloc, text, tree)
+}
+
+/// Returns the type name that a path is. The only error is `NoMemory`.
+pub fn type_name(alloc: Global, text: &str, path: &PathTree) -> Result<TypeName, NoMemory>
+    requires { IsBuiltFrom text.now (λ tokens. WellFormedPath tokens path.now) }
+    ensures { IfOk result (λ name. name ≡ path_name text.now path.now) }
+{
+    path_type(alloc, text, path)
+}

@@ -1,0 +1,333 @@
+-- How expressions are read, from the left, by the next token.
+use Rattle.std.specs.Prelude.{ℕ, zero, suc, Bool, true, false, List, [], ◌∷◌, Option, Some, None}
+use Rattle.grammar_trees.specs.grammar_tokens.declared.token.TokenKind.{TokenKind}
+use Rattle.grammar_trees.specs.grammar_tokens.declared.token.TokenKind.TheVariants as k
+use Rattle.grammar_trees.specs.grammar_tokens.declared.token.Token.{Token}
+use Rattle.grammar_trees.specs.grammar_tokens.declared.tree.PathTree.{PathTree}
+use Rattle.grammar_trees.specs.grammar_tokens.declared.tree.Name.{Name}
+use Rattle.grammar_trees.specs.grammar_tokens.declared.tree.Name.TheVariants as name
+use Rattle.grammar_trees.specs.declared.tree.Access.{Access}
+use Rattle.grammar_trees.specs.declared.tree.Access.TheVariants as access
+use Rattle.grammar_trees.specs.declared.tree.Entry.{Entry}
+use Rattle.grammar_trees.specs.declared.tree.KeyTree.{KeyTree}
+use Rattle.grammar_trees.specs.declared.tree.KeyTree.TheVariants.{Word, Quoted}
+use Rattle.grammar_trees.specs.declared.tree.Term.{Term}
+use Rattle.grammar_trees.specs.declared.tree.ExprTree.{ExprTree}
+use Rattle.grammar_trees.specs.declared.tree.ExprTree.TheVariants as tree
+use Rattle.grammar_trees.specs.declared.tree.Variable.{Variable}
+use Rattle.grammar_trees.specs.grammar_tokens.Kinds.{Kinds, only}
+use Rattle.grammar_trees.specs.grammar_tokens.Reading.{Parser, ParseResult, Read, Stop, Unexpected, take, token, pure}
+use Rattle.grammar_trees.specs.grammar_tokens.Reading.{refuse, ◌>>=◌}
+use Rattle.grammar_trees.specs.grammar_tokens.Reading.{◌>>◌, either, optional, many, gate, too_deep}
+use Rattle.grammar_trees.specs.grammar_tokens.Grammar.{identifiers}
+use Rattle.grammar_trees.specs.grammar_tokens.Parsing.{path}
+pub use Rattle.grammar_trees.specs.grammar_tokens.Parsing.{path_of, name_by}
+unfoldable pub use Rattle.grammar_trees.specs.grammar_tokens.Parsing.{rest_of_name}
+use Rattle.grammar_expressions.specs.Expressions.{boolean_of, variable_of, sign_of, comparison_of}
+use Rattle.grammar_expressions.specs.Expressions.{booleans, keys, patterns, signs, comparisons}
+use Rattle.grammar_expressions.specs.Expressions.{joined, accessed, is_in, is_positive}
+
+-- ---- what comes next
+
+abbrev pub openers : Kinds
+openers k.LParen = true
+openers k.LBracket = true
+openers k.LBrace = true
+openers _ = false
+
+abbrev pub access_firsts : Kinds
+access_firsts k.Dot = true
+access_firsts k.LBracket = true
+access_firsts _ = false
+
+-- what an expression begins with
+abbrev pub firsts : Kinds
+firsts k.Number = true
+firsts k.Text = true
+firsts k.True = true
+firsts k.False = true
+firsts k.LParen = true
+firsts k.LBracket = true
+firsts k.LBrace = true
+firsts k.Not = true
+firsts k.Minus = true
+firsts k.If = true
+firsts kind = identifiers kind
+
+-- ---- tokens that stand for something by their kind alone
+
+abbrev pub symbol_by : {A : Type 0} → Option A → Token → List Token → ParseResult A
+symbol_by None t ts = Stop Unexpected (t ∷ ts)
+symbol_by (Some a) t ts = Read a ts
+
+unfoldable pub symbol : {A : Type 0} → (TokenKind → Option A) → Parser A
+symbol meaning [] = Stop Unexpected []
+symbol meaning (t ∷ ts) = symbol_by (meaning t.kind) t ts
+
+-- ---- pieces that nest nothing
+
+unfoldable pub literal : Parser ExprTree
+literal =
+    either booleans (symbol boolean_of >>= (λ value. pure (tree.Boolean value)))
+    (either (only k.Number) (token k.Number >>= (λ t. pure (tree.Number t)))
+    (token k.Text >>= (λ t. pure (tree.Text t))))
+
+unfoldable pub key : Parser KeyTree
+key =
+    either identifiers (take identifiers >>= (λ t. pure (Word t)))
+    (token k.Text >>= (λ t. pure (Quoted t)))
+
+unfoldable pub indexed : Parser (Access (List ExprTree))
+indexed = do
+  token k.LBracket
+  word ← token k.Text
+  token k.RBracket
+  pure (access.Field (Quoted word))
+
+-- the variable that a Path of one word is, if it is one
+abbrev pub variable_at : Token → List Token → Option Variable
+variable_at first [] = variable_of first.kind
+variable_at first (t ∷ ts) = None
+
+abbrev pub variable_by : Option Variable → Parser ExprTree
+variable_by (Some variable) = pure (tree.Variable variable)
+variable_by None = refuse
+
+unfoldable pub alone : PathTree → Parser ExprTree
+alone p = variable_by (variable_at p.first p.more)
+
+module _ (may : Bool) (inner : Parser ExprTree) where
+  -- ---- lists
+
+  unfoldable pub next_argument : Parser ExprTree
+  next_argument = token k.Comma >> inner
+
+  unfoldable pub rest_of_arguments : ExprTree → Parser (List ExprTree)
+  rest_of_arguments first = many (only k.Comma) next_argument >>= (λ more. pure (first ∷ more))
+
+  unfoldable pub arguments : Parser (List ExprTree)
+  arguments = either firsts (inner >>= rest_of_arguments) (pure [])
+
+  unfoldable pub called : Parser (List ExprTree)
+  called = do
+    token k.LParen
+    found ← arguments
+    token k.RParen
+    pure found
+
+  unfoldable pub entry : Parser (Entry ExprTree)
+  entry = do
+    name ← key
+    token k.Colon
+    x ← inner
+    pure (record { key = name; value = x })
+
+  unfoldable pub next_entry : Parser (Entry ExprTree)
+  next_entry = token k.Comma >> entry
+
+  unfoldable pub rest_of_entries : Entry ExprTree → Parser (List (Entry ExprTree))
+  rest_of_entries first = many (only k.Comma) next_entry >>= (λ more. pure (first ∷ more))
+
+  unfoldable pub entries : Parser (List (Entry ExprTree))
+  entries = either keys (entry >>= rest_of_entries) (pure [])
+
+  -- ---- names: a variable, a Uid and a call begin alike, so they are read from their common front, by `rest_of_name`
+
+  unfoldable pub call_of : PathTree → Parser ExprTree
+  call_of p = called >>= (λ found. pure (tree.Call p found))
+
+  unfoldable pub call_or_variable : PathTree → Parser ExprTree
+  call_or_variable p = either (only k.LParen) (gate may (call_of p)) (alone p)
+
+  abbrev pub named_as : Name → Parser ExprTree
+  named_as (name.Uid u) = pure (tree.Uid u)
+  named_as (name.Path p) = call_or_variable p
+
+  unfoldable pub rest_of_named : Token → Parser ExprTree
+  rest_of_named first = rest_of_name first >>= named_as
+
+  unfoldable pub named : Parser ExprTree
+  named = take identifiers >>= rest_of_named
+
+  -- ---- brackets
+
+  unfoldable pub parenthesized : Parser ExprTree
+  parenthesized = do
+    token k.LParen
+    x ← inner
+    token k.RParen
+    pure (tree.Parentheses x)
+
+  unfoldable pub set : Parser ExprTree
+  set = do
+    token k.LBracket
+    found ← arguments
+    token k.RBracket
+    pure (tree.Set found)
+
+  unfoldable pub braced : Parser ExprTree
+  braced = do
+    token k.LBrace
+    found ← entries
+    token k.RBrace
+    pure (tree.Record found)
+
+  unfoldable pub nested : Parser ExprTree
+  nested = either (only k.LParen) parenthesized (either (only k.LBracket) set braced)
+
+  unfoldable pub primary : Parser ExprTree
+  primary = either identifiers named (either openers (gate may nested) literal)
+
+  -- ---- accesses
+
+  unfoldable pub call_arguments : Parser (Option (List ExprTree))
+  call_arguments = called >>= (λ found. pure (Some found))
+
+  unfoldable pub maybe_called : Parser (Option (List ExprTree))
+  maybe_called = either (only k.LParen) (gate may call_arguments) (pure None)
+
+  unfoldable pub dotted : Parser (Access (List ExprTree))
+  dotted = do
+    token k.Dot
+    word ← take identifiers
+    found ← maybe_called
+    pure (accessed word found)
+
+  unfoldable pub accessing : Parser (Access (List ExprTree))
+  accessing = either (only k.Dot) dotted indexed
+
+  unfoldable pub accesses : Parser (List (Access (List ExprTree)))
+  accesses = many access_firsts accessing
+
+  unfoldable pub member : Parser ExprTree
+  member = do
+    x ← primary
+    more ← accesses
+    pure (joined tree.Member x more)
+
+  -- ---- operators
+
+  unfoldable pub signed : TokenKind → (ExprTree → ExprTree) → ℕ → Parser ExprTree
+  signed sign make zero = member
+  signed sign make (suc n) = either (only sign) (do token sign; x ← signed sign make n; pure (make x)) member
+
+  unfoldable pub unary : Parser ExprTree
+  unary =
+      either (only k.Not) (do token k.Not; x ← signed k.Not tree.Not 3; pure (tree.Not x))
+      (signed k.Minus tree.Minus 4)
+
+  unfoldable pub factor : Parser ExprTree
+  factor = token k.Star >> unary
+
+  unfoldable pub factors : Parser (List ExprTree)
+  factors = many (only k.Star) factor
+
+  unfoldable pub product : Parser ExprTree
+  product = do
+    x ← unary
+    more ← factors
+    pure (joined tree.Product x more)
+
+  unfoldable pub term : Parser (Term ExprTree)
+  term = do
+    sign ← symbol sign_of
+    x ← product
+    pure (record { sign = sign; operand = x })
+
+  unfoldable pub terms : Parser (List (Term ExprTree))
+  terms = many signs term
+
+  unfoldable pub sum : Parser ExprTree
+  sum = do
+    x ← product
+    more ← terms
+    pure (joined tree.Sum x more)
+
+  unfoldable pub compared : ExprTree → Parser ExprTree
+  compared x = do
+    operator ← symbol comparison_of
+    y ← sum
+    pure (tree.Compare x operator y)
+
+  unfoldable pub has : ExprTree → Parser ExprTree
+  has x = do
+    token k.Has
+    name ← key
+    pure (tree.Has x name)
+
+  unfoldable pub like : ExprTree → Parser ExprTree
+  like x = do
+    token k.Like
+    pattern_text ← take patterns
+    pure (tree.Like x pattern_text)
+
+  unfoldable pub inside : Parser ExprTree
+  inside = token k.In >> sum
+
+  unfoldable pub maybe_inside : Parser (Option ExprTree)
+  maybe_inside = optional (only k.In) inside
+
+  unfoldable pub type_test : ExprTree → Parser ExprTree
+  type_test x = do
+    token k.Is
+    type_name ← path
+    y ← maybe_inside
+    pure (is_in x type_name y)
+
+  unfoldable pub test_tail : ExprTree → Parser ExprTree
+  test_tail x = either (only k.Has) (has x) (either (only k.Like) (like x) (either (only k.Is) (type_test x) (pure x)))
+
+  unfoldable pub related : ExprTree → Parser ExprTree
+  related x = either comparisons (compared x) (test_tail x)
+
+  unfoldable pub relation : Parser ExprTree
+  relation = sum >>= related
+
+  unfoldable pub next_and : Parser ExprTree
+  next_and = token k.And >> relation
+
+  unfoldable pub ands : Parser (List ExprTree)
+  ands = many (only k.And) next_and
+
+  unfoldable pub conjunction : Parser ExprTree
+  conjunction = do
+    x ← relation
+    more ← ands
+    pure (joined tree.And x more)
+
+  unfoldable pub next_or : Parser ExprTree
+  next_or = token k.Or >> conjunction
+
+  unfoldable pub ors : Parser (List ExprTree)
+  ors = many (only k.Or) next_or
+
+  unfoldable pub disjunction : Parser ExprTree
+  disjunction = do
+    x ← conjunction
+    more ← ors
+    pure (joined tree.Or x more)
+
+  unfoldable pub alternative : Parser ExprTree
+  alternative = token k.Else >> inner
+
+  unfoldable pub consequent : Parser ExprTree
+  consequent = token k.Then >> inner
+
+  unfoldable pub decided : ExprTree → ExprTree → Parser ExprTree
+  decided test then_tree = alternative >>= (λ else_tree. pure (tree.If test then_tree else_tree))
+
+  unfoldable pub conditional_tail : ExprTree → Parser ExprTree
+  conditional_tail test = consequent >>= decided test
+
+  unfoldable pub conditional : Parser ExprTree
+  conditional = do
+    token k.If
+    test ← inner
+    conditional_tail test
+
+  unfoldable pub level : Parser ExprTree
+  level = either (only k.If) (gate may conditional) disjunction
+
+unfoldable pub expr : ℕ → Parser ExprTree
+expr zero = too_deep
+expr (suc levels) = level (is_positive levels) (expr levels)

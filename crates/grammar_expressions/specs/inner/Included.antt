@@ -1,0 +1,16 @@
+-- The kinds of each set of tokens that readers of expressions ask for by name.
+use Rattle.grammar_expressions.specs.declared.token_sets.TokenSet.{TokenSet}
+use Rattle.grammar_expressions.specs.declared.token_sets.TokenSet.TheVariants as set
+use Rattle.grammar_trees.specs.grammar_tokens.Kinds.{Kinds}
+use Rattle.grammar_expressions.specs.Expressions.{booleans, keys, patterns, signs, comparisons}
+use Rattle.grammar_expressions.specs.ExpressionReading.{openers, access_firsts, firsts}
+
+abbrev pub included : TokenSet → Kinds
+included set.Booleans = booleans
+included set.Keys = keys
+included set.Patterns = patterns
+included set.Signs = signs
+included set.Comparisons = comparisons
+included set.Openers = openers
+included set.AccessStarts = access_firsts
+included set.ExpressionStarts = firsts

@@ -1,0 +1,57 @@
+-- What stands behind the first Sum of a relation, read before it is joined to the Sum.
+use Rattle.std.specs.Prelude.{Bool, Option, Some, None}
+use Rattle.grammar_trees.specs.grammar_tokens.declared.token.TokenKind.TheVariants as k
+use Rattle.grammar_trees.specs.declared.tree.ExprTree.{ExprTree}
+use Rattle.grammar_trees.specs.declared.tree.ExprTree.TheVariants as tree
+use Rattle.grammar_trees.specs.grammar_tokens.Kinds.{only}
+use Rattle.grammar_trees.specs.grammar_tokens.Reading.{Parser, take, token, pure, ◌>>=◌, ◌>>◌, either}
+use Rattle.grammar_trees.specs.grammar_tokens.Parsing.{path}
+use Rattle.grammar_expressions.specs.Expressions.{comparison_of, comparisons, patterns, is_in}
+use Rattle.grammar_expressions.specs.ExpressionReading.{symbol, key, sum, maybe_inside}
+use Rattle.grammar_expressions.specs.declared.relations.Tail.{Tail}
+use Rattle.grammar_expressions.specs.declared.relations.Tail.TheVariants.{Compared, Has, Like, Is}
+
+abbrev pub form : ExprTree → Tail → ExprTree
+form x (Compared operator y) = tree.Compare x operator y
+form x (Has name) = tree.Has x name
+form x (Like text) = tree.Like x text
+form x (Is type_name y) = is_in x type_name y
+
+abbrev pub relate : ExprTree → Option Tail → ExprTree
+relate x None = x
+relate x (Some tail) = form x tail
+
+unfoldable pub has : Parser (Option Tail)
+has = do
+  token k.Has
+  name ← key
+  pure (Some (Has name))
+
+unfoldable pub like : Parser (Option Tail)
+like = do
+  token k.Like
+  text ← take patterns
+  pure (Some (Like text))
+
+module _ (may : Bool) (inner : Parser ExprTree) where
+  unfoldable pub compared : Parser (Option Tail)
+  compared = do
+    operator ← symbol comparison_of
+    y ← sum may inner
+    pure (Some (Compared operator y))
+
+  unfoldable pub type_test : Parser (Option Tail)
+  type_test = do
+    token k.Is
+    type_name ← path
+    y ← maybe_inside may inner
+    pure (Some (Is type_name y))
+
+  unfoldable pub test_tail : Parser (Option Tail)
+  test_tail = either (only k.Has) has (either (only k.Like) like (either (only k.Is) type_test (pure None)))
+
+  unfoldable pub tail : Parser (Option Tail)
+  tail = either comparisons compared test_tail
+
+  unfoldable pub joined : ExprTree → Parser ExprTree
+  joined x = tail >>= (λ found. pure (relate x found))

@@ -1,0 +1,128 @@
+//! Expressions.
+
+ghost use Rattle.std.specs.Prelude.{◌≡◌, ◌<◌, Err};
+ghost use Rattle.grammar_expressions.specs.ExpressionReading as spec;
+ghost use Rattle.grammar_expressions.specs.Expressions as grammar;
+ghost use Rattle.grammar_expressions.specs.Expressions.{is_positive};
+ghost use Rattle.grammar_trees.specs.grammar_tokens.ParsesTo.{ParsesTo};
+ghost use Rattle.grammar_expressions.specs.inner.Nests.{Nests};
+ghost use Rattle.grammar_trees.specs.grammar_tokens.Reads.{ReadsFrontWithin};
+ghost use Rattle.grammar_trees.specs.grammar_tokens.declared.fault.Halt.TheVariants as halt;
+
+use crate::primary::Reader;
+use grammar_trees::{Cursor, ExprTree, Halt, TokenKind};
+use plain::{Boxed, beside};
+use std::alloc::Global;
+
+/// The most levels that expressions nest: an expression's own, and one more for what stands in
+/// parentheses, brackets, braces or call arguments, and for each part of an `if`.
+pub const NESTING_LIMIT: usize = 64;
+
+impl<F: Fn(Global, &mut Cursor<'_>, usize) -> Result<ExprTree, Halt>> Reader<F> {
+    /// "else" Expr
+    #[tactic(auto, unfolding(crate::specs::ExpressionReading::alternative))]
+    fn alternative(&self, tokens: &mut Cursor<'_>) -> Result<Boxed<ExprTree>, Halt>
+        requires { Nests self.now.levels (F.pre self.now.expr) (F.post self.now.expr) }
+        ensures { ParsesTo (spec.alternative (is_positive self.now.levels)
+            (spec.expr self.now.levels) tokens.old.rest.now)
+            result tokens.new.rest.now }
+    {
+        tokens.take(TokenKind::Else)?;
+        self.boxed_inner(tokens)
+    }
+
+    /// "then" Expr
+    #[tactic(auto, unfolding(crate::specs::ExpressionReading::consequent))]
+    fn consequent(&self, tokens: &mut Cursor<'_>) -> Result<Boxed<ExprTree>, Halt>
+        requires { Nests self.now.levels (F.pre self.now.expr) (F.post self.now.expr) }
+        ensures { ParsesTo (spec.consequent (is_positive self.now.levels)
+            (spec.expr self.now.levels) tokens.old.rest.now)
+            result tokens.new.rest.now }
+    {
+        tokens.take(TokenKind::Then)?;
+        self.boxed_inner(tokens)
+    }
+
+    #[tactic(auto, unfolding(crate::specs::ExpressionReading::decided))]
+    fn decided(
+        &self,
+        tokens: &mut Cursor<'_>,
+        test: Boxed<ExprTree>,
+        consequent: Boxed<ExprTree>,
+    ) -> Result<ExprTree, Halt>
+        requires { Nests self.now.levels (F.pre self.now.expr) (F.post self.now.expr) }
+        ensures { ParsesTo (spec.decided (is_positive self.now.levels) (spec.expr self.now.levels)
+            test consequent tokens.old.rest.now)
+            result tokens.new.rest.now }
+    {
+        let ((test, consequent), alternative) = beside(
+            (test, consequent),
+            self.alternative(tokens),
+        )?;
+        Ok(ExprTree::If(test, consequent, alternative))
+    }
+
+    #[tactic(auto, unfolding(crate::specs::ExpressionReading::conditional_tail))]
+    fn conditional_tail(
+        &self,
+        tokens: &mut Cursor<'_>,
+        test: Boxed<ExprTree>,
+    ) -> Result<ExprTree, Halt>
+        requires { Nests self.now.levels (F.pre self.now.expr) (F.post self.now.expr) }
+        ensures { ParsesTo (spec.conditional_tail (is_positive self.now.levels)
+            (spec.expr self.now.levels) test tokens.old.rest.now)
+            result tokens.new.rest.now }
+    {
+        let (test, consequent) = beside(test, self.consequent(tokens))?;
+        self.decided(tokens, test, consequent)
+    }
+
+    /// "if" Expr "then" Expr "else" Expr
+    #[tactic(auto, unfolding(crate::specs::ExpressionReading::conditional))]
+    fn conditional(&self, tokens: &mut Cursor<'_>) -> Result<ExprTree, Halt>
+        requires { Nests self.now.levels (F.pre self.now.expr) (F.post self.now.expr) }
+        ensures { ParsesTo (spec.conditional (is_positive self.now.levels)
+            (spec.expr self.now.levels) tokens.old.rest.now)
+            result tokens.new.rest.now }
+    {
+        tokens.take(TokenKind::If)?;
+        let test = self.boxed_inner(tokens)?;
+        self.conditional_tail(tokens, test)
+    }
+
+    /// "if" Expr "then" Expr "else" Expr | Or
+    #[tactic(auto, unfolding(crate::specs::ExpressionReading::level))]
+    fn level(&self, tokens: &mut Cursor<'_>) -> Result<ExprTree, Halt>
+        requires { Nests self.now.levels (F.pre self.now.expr) (F.post self.now.expr) }
+        ensures { ParsesTo (spec.level (is_positive self.now.levels) (spec.expr self.now.levels) tokens.old.rest.now)
+            result tokens.new.rest.now }
+    {
+        if !tokens.sees(TokenKind::If) {
+            return self.disjunction(tokens);
+        }
+        if self.levels == 0 {
+            return Err(Halt::TooDeep);
+        }
+        self.conditional(tokens)
+    }
+}
+
+/// Returns an expression with so many levels of nesting at most, its own being one, from the front of the tokens and as
+/// many of them as it takes. The tokens that are left afterwards begin behind it, or with the one at which reading
+/// halts: that is too deep where more levels would go on with it.
+pub fn expr(alloc: Global, tokens: &mut Cursor<'_>, levels: usize) -> Result<ExprTree, Halt>
+    ensures reads { 0 < levels → ReadsFrontWithin (grammar.expr levels) grammar.any_expr
+        tokens.old.rest.now result tokens.new.rest.now }
+    ensures shut { levels ≡ 0 → (result ≡ Err halt.TooDeep) × (tokens.new.rest.now ≡ tokens.old.rest.now) }
+    ensures steps { ParsesTo (spec.expr levels tokens.old.rest.now) result tokens.new.rest.now }
+{
+    if levels == 0 {
+        return Err(Halt::TooDeep);
+    }
+    Reader {
+        alloc,
+        levels: levels - 1,
+        expr,
+    }
+    .level(tokens)
+}

@@ -1,0 +1,12 @@
+//! Laws of the definitions.
+ghost use Rattle.grammar_expressions.specs.Expressions.{expr, any_expr, nesting_limit};
+ghost use Rattle.grammar_trees.specs.grammar_tokens.Reads.{HasOneTree, HasOneAnswerWithin, OpensNextLevel};
+
+/// Proves that a list of tokens comes to one tree or one refusal, and that a token which is too deep opens the first
+/// level past the limit: it does nothing, and its clauses are laws of the definitions.
+pub fn expression_is_unique()
+    ensures one_tree { HasOneTree (expr nesting_limit) }
+    ensures one_tree_at_any_depth { HasOneTree any_expr }
+    ensures one_answer { HasOneAnswerWithin (expr nesting_limit) any_expr }
+    ensures too_deep { OpensNextLevel expr nesting_limit }
+{}

@@ -1,0 +1,103 @@
+//! Levels of operators: an operand, and behind it as many pieces as begin with a token of a set.
+
+ghost use Rattle.std.specs.Prelude.{◌≡◌, List, IfOk};
+ghost use Rattle.grammar_trees.specs.grammar_tokens.ParsesTo.{ParsesTo};
+ghost use Rattle.grammar_trees.specs.grammar_tokens.Reading.{Parser, many};
+ghost use Rattle.grammar_trees.specs.declared.tree.ExprTree as trees;
+ghost use Rattle.grammar_expressions.specs.Expressions.{joined};
+ghost use Rattle.grammar_expressions.specs.inner.Chains.{chained, chained_on};
+
+use grammar_trees::{Cursor, ExprTree, Halt, KindSet, read_many};
+use plain::{Boxed, Items, beside};
+use std::alloc::{AllocError, Global};
+
+/// A level of operators, each proved once as a chain.
+pub(crate) trait Level {
+    /// What may stand behind the first operand, again and again.
+    type Piece: Drop;
+
+    /// Whether it may be asked to read.
+    ghost can_read: { Self → Type 0 };
+
+    ghost operands: { Self → Parser trees.ExprTree };
+
+    ghost pieces: { Self → Parser Self.Piece };
+
+    ghost joins: { trees.ExprTree → List Self.Piece → trees.ExprTree };
+
+    fn operand(&self, tokens: &mut Cursor<'_>) -> Result<ExprTree, Halt>
+        requires { can_read self.now }
+        ensures { ParsesTo (operands self.now tokens.old.rest.now) result tokens.new.rest.now };
+
+    fn piece(&self, tokens: &mut Cursor<'_>) -> Result<Self::Piece, Halt>
+        requires { can_read self.now }
+        ensures { ParsesTo (pieces self.now tokens.old.rest.now) result tokens.new.rest.now };
+
+    /// Returns the tree of an operand and the pieces behind it.
+    fn join(first: Boxed<ExprTree>, more: Items<Self::Piece>) -> ExprTree
+        ensures { result ≡ joins first more };
+}
+
+/// Returns the pieces behind an operand, which begin with a token of the set.
+fn pieces<L: Level, S: KindSet>(
+    alloc: Global,
+    tokens: &mut Cursor<'_>,
+    level: &L,
+    set: S,
+) -> Result<Items<L::Piece>, Halt>
+    requires { L.can_read level.now }
+    ensures { ParsesTo (many (S.included set) (L.pieces level.now) tokens.old.rest.now) result tokens.new.rest.now }
+{
+    read_many(alloc, tokens, set, |tokens| level.piece(tokens))
+}
+
+/// Returns the tree of an operand and the pieces behind it; without any, the operand itself.
+fn join<L: Level>(
+    alloc: Global,
+    first: ExprTree,
+    more: Items<L::Piece>,
+) -> Result<ExprTree, AllocError>
+    ensures { IfOk result (λ e. e ≡ joined L.joins first more) }
+{
+    match more.as_slice() {
+        [] => Ok(first),
+        _ => Ok(L::join(Boxed::new(alloc, first)?, more)),
+    }
+}
+
+/// Returns an operand that was read, and the pieces behind it, which begin with a token of the set.
+fn chain_on<L: Level, S: KindSet>(
+    alloc: Global,
+    tokens: &mut Cursor<'_>,
+    level: &L,
+    set: S,
+    first: ExprTree,
+) -> Result<ExprTree, Halt>
+    requires { L.can_read level.now }
+    ensures { ParsesTo (chained_on (S.included set) (L.pieces level.now) L.joins first tokens.old.rest.now)
+        result tokens.new.rest.now }
+{
+    let (first, more) = beside(first, pieces(alloc, tokens, level, set))?;
+    Ok(join::<L>(alloc, first, more)?)
+}
+
+/// Returns an operand and the pieces behind it, which begin with a token of the set. An operand that none follows, as
+/// most, goes on as it was read, without a list of pieces.
+pub(crate) fn chain<L: Level, S: KindSet>(
+    alloc: Global,
+    tokens: &mut Cursor<'_>,
+    level: &L,
+    set: S,
+) -> Result<ExprTree, Halt>
+    requires { L.can_read level.now }
+    ensures { ParsesTo (chained (L.operands level.now) (S.included set) (L.pieces level.now) L.joins
+        tokens.old.rest.now)
+        result tokens.new.rest.now }
+{
+    let read = level.operand(tokens);
+    if !tokens.sees_one_of(set) {
+        return read;
+    }
+    let first = read?;
+    chain_on(alloc, tokens, level, set, first)
+}

@@ -1,0 +1,385 @@
+//! Accesses and operators, from the one that binds most.
+
+ghost use Rattle.std.specs.Prelude.{◌≡◌, IfOk};
+ghost use Rattle.grammar_expressions.specs.ExpressionReading as spec;
+ghost use Rattle.grammar_expressions.specs.Expressions as grammar;
+ghost use Rattle.grammar_expressions.specs.Expressions.{is_positive, accessed};
+ghost use Rattle.grammar_trees.specs.grammar_tokens.ParsesTo.{ParsesTo};
+ghost use Rattle.grammar_expressions.specs.inner.Nests.{Nests};
+ghost use Rattle.grammar_expressions.specs.inner.Prefixes as prefixes;
+ghost use Rattle.grammar_trees.specs.declared.tree.ExprTree.TheVariants as tree;
+
+use crate::levels::{Level, chain};
+use crate::primary::{Reader, indexed};
+use crate::symbols::take_symbol;
+use crate::token_sets::TokenSet;
+use grammar_trees::{
+    Access, Cursor, ExprTree, Halt, KeyTree, NameSet, Related, Sign, Term, Token, TokenKind,
+    relation,
+};
+use plain::{Boxed, Items};
+use std::alloc::{AllocError, Global};
+
+/// What stands up to four times before a Member.
+#[derive(Clone, Copy)]
+pub(crate) enum Prefix {
+    /// `!`
+    Not,
+    /// `-`
+    Minus,
+}
+
+impl Prefix {
+    fn kind(self) -> TokenKind
+        ensures { result ≡ prefixes.kind_of self }
+    {
+        match self {
+            Prefix::Not => TokenKind::Not,
+            Prefix::Minus => TokenKind::Minus,
+        }
+    }
+}
+
+fn under(alloc: Global, prefix: Prefix, x: ExprTree) -> Result<ExprTree, AllocError>
+    ensures { IfOk result (λ e. e ≡ prefixes.under prefix x) }
+{
+    let x = Boxed::new(alloc, x)?;
+    match prefix {
+        Prefix::Not => Ok(ExprTree::Not(x)),
+        Prefix::Minus => Ok(ExprTree::Minus(x)),
+    }
+}
+
+fn access(name: Token, found: Option<Items<ExprTree>>) -> Access<Items<ExprTree>>
+    ensures { result ≡ accessed name found }
+{
+    match found {
+        None => Access::Field(KeyTree::Word(name)),
+        Some(found) => Access::Method(name, found),
+    }
+}
+
+impl<F: Fn(Global, &mut Cursor<'_>, usize) -> Result<ExprTree, Halt>> Reader<F> {
+    #[tactic(auto, unfolding(crate::specs::ExpressionReading::call_arguments))]
+    fn call_arguments(&self, tokens: &mut Cursor<'_>) -> Result<Option<Items<ExprTree>>, Halt>
+        requires { Nests self.now.levels (F.pre self.now.expr) (F.post self.now.expr) }
+        ensures { ParsesTo (spec.call_arguments (is_positive self.now.levels)
+            (spec.expr self.now.levels) tokens.old.rest.now)
+            result tokens.new.rest.now }
+    {
+        let found = self.called(tokens)?;
+        Ok(Some(found))
+    }
+
+    /// [ "(" Arguments ")" ]
+    #[tactic(auto, unfolding(crate::specs::ExpressionReading::maybe_called))]
+    fn maybe_called(&self, tokens: &mut Cursor<'_>) -> Result<Option<Items<ExprTree>>, Halt>
+        requires { Nests self.now.levels (F.pre self.now.expr) (F.post self.now.expr) }
+        ensures { ParsesTo (spec.maybe_called (is_positive self.now.levels) (spec.expr self.now.levels)
+            tokens.old.rest.now)
+            result tokens.new.rest.now }
+    {
+        if !tokens.sees(TokenKind::LParen) {
+            return Ok(None);
+        }
+        if self.levels == 0 {
+            return Err(Halt::TooDeep);
+        }
+        self.call_arguments(tokens)
+    }
+
+    /// "." Ident [ "(" Arguments ")" ]
+    #[tactic(auto, unfolding(crate::specs::ExpressionReading::dotted))]
+    fn dotted(&self, tokens: &mut Cursor<'_>) -> Result<Access<Items<ExprTree>>, Halt>
+        requires { Nests self.now.levels (F.pre self.now.expr) (F.post self.now.expr) }
+        ensures { ParsesTo (spec.dotted (is_positive self.now.levels) (spec.expr self.now.levels) tokens.old.rest.now)
+            result tokens.new.rest.now }
+    {
+        tokens.take(TokenKind::Dot)?;
+        let name = tokens.take_one_of(NameSet::Identifiers)?;
+        let found = self.maybe_called(tokens)?;
+        Ok(access(name, found))
+    }
+
+    /// Primary { "." Ident [ "(" Arguments ")" ] | "[" String "]" }
+    #[tactic(auto, unfolding(crate::specs::ExpressionReading::member, crate::specs::ExpressionReading::accesses))]
+    fn member(&self, tokens: &mut Cursor<'_>) -> Result<ExprTree, Halt>
+        requires { Nests self.now.levels (F.pre self.now.expr) (F.post self.now.expr) }
+        ensures { ParsesTo (spec.member (is_positive self.now.levels) (spec.expr self.now.levels) tokens.old.rest.now)
+            result tokens.new.rest.now }
+    {
+        chain(self.alloc, tokens, &Members(self), TokenSet::AccessStarts)
+    }
+
+    /// So many of a prefix at most, and a Member.
+    fn signed(&self, tokens: &mut Cursor<'_>, sign: Prefix, most: u8) -> Result<ExprTree, Halt>
+        requires { Nests self.now.levels (F.pre self.now.expr) (F.post self.now.expr) }
+        ensures { ParsesTo (spec.signed (is_positive self.now.levels) (spec.expr self.now.levels)
+            (prefixes.kind_of sign) (prefixes.under sign) most tokens.old.rest.now)
+            result tokens.new.rest.now }
+    {
+        if most == 0 {
+            return self.member(tokens);
+        }
+        if !tokens.sees(sign.kind()) {
+            return self.member(tokens);
+        }
+        tokens.take(sign.kind())?;
+        let x = self.signed(tokens, sign, most - 1)?;
+        Ok(under(self.alloc, sign, x)?)
+    }
+
+    /// Up to four "!" Member | up to four "-" Member
+    #[tactic(auto, unfolding(crate::specs::ExpressionReading::unary, crate::specs::ExpressionReading::signed))]
+    fn unary(&self, tokens: &mut Cursor<'_>) -> Result<ExprTree, Halt>
+        requires { Nests self.now.levels (F.pre self.now.expr) (F.post self.now.expr) }
+        ensures { ParsesTo (spec.unary (is_positive self.now.levels) (spec.expr self.now.levels) tokens.old.rest.now)
+            result tokens.new.rest.now }
+    {
+        if tokens.sees(TokenKind::Not) {
+            return self.signed(tokens, Prefix::Not, 4);
+        }
+        self.signed(tokens, Prefix::Minus, 4)
+    }
+
+    /// Unary { "*" Unary }
+    #[tactic(auto, unfolding(crate::specs::ExpressionReading::product, crate::specs::ExpressionReading::factors))]
+    fn product(&self, tokens: &mut Cursor<'_>) -> Result<ExprTree, Halt>
+        requires { Nests self.now.levels (F.pre self.now.expr) (F.post self.now.expr) }
+        ensures { ParsesTo (spec.product (is_positive self.now.levels) (spec.expr self.now.levels) tokens.old.rest.now)
+            result tokens.new.rest.now }
+    {
+        chain(self.alloc, tokens, &Products(self), TokenKind::Star)
+    }
+
+    /// Product { ("+" | "-") Product }
+    #[tactic(auto, unfolding(crate::specs::ExpressionReading::sum, crate::specs::ExpressionReading::terms))]
+    pub(crate) fn sum(&self, tokens: &mut Cursor<'_>) -> Result<ExprTree, Halt>
+        requires { Nests self.now.levels (F.pre self.now.expr) (F.post self.now.expr) }
+        ensures { ParsesTo (spec.sum (is_positive self.now.levels) (spec.expr self.now.levels) tokens.old.rest.now)
+            result tokens.new.rest.now }
+    {
+        chain(self.alloc, tokens, &Sums(self), TokenSet::Signs)
+    }
+
+    /// Sum [ comparison Sum | "has" (Ident | String) | "like" Pattern | "is" Path [ "in" Sum ] ]
+    #[tactic(auto, unfolding(crate::specs::ExpressionReading::relation))]
+    fn relation(&self, tokens: &mut Cursor<'_>) -> Result<ExprTree, Halt>
+        requires { Nests self.now.levels (F.pre self.now.expr) (F.post self.now.expr) }
+        ensures { ParsesTo (spec.relation (is_positive self.now.levels) (spec.expr self.now.levels) tokens.old.rest.now)
+            result tokens.new.rest.now }
+    {
+        relation(tokens, &Relations(self))
+    }
+
+    /// Relation { "&&" Relation }
+    #[tactic(auto, unfolding(crate::specs::ExpressionReading::conjunction, crate::specs::ExpressionReading::ands))]
+    fn conjunction(&self, tokens: &mut Cursor<'_>) -> Result<ExprTree, Halt>
+        requires { Nests self.now.levels (F.pre self.now.expr) (F.post self.now.expr) }
+        ensures { ParsesTo (spec.conjunction (is_positive self.now.levels)
+            (spec.expr self.now.levels) tokens.old.rest.now)
+            result tokens.new.rest.now }
+    {
+        chain(self.alloc, tokens, &Conjunctions(self), TokenKind::And)
+    }
+
+    /// And { "||" And }
+    #[tactic(auto, unfolding(crate::specs::ExpressionReading::disjunction, crate::specs::ExpressionReading::ors))]
+    pub(crate) fn disjunction(&self, tokens: &mut Cursor<'_>) -> Result<ExprTree, Halt>
+        requires { Nests self.now.levels (F.pre self.now.expr) (F.post self.now.expr) }
+        ensures { ParsesTo (spec.disjunction (is_positive self.now.levels)
+            (spec.expr self.now.levels) tokens.old.rest.now)
+            result tokens.new.rest.now }
+    {
+        chain(self.alloc, tokens, &Disjunctions(self), TokenKind::Or)
+    }
+}
+
+/// Accesses, behind a Primary.
+#[derive(Drop)]
+struct Members<'r, F>(&'r Reader<F>);
+
+impl<F: Fn(Global, &mut Cursor<'_>, usize) -> Result<ExprTree, Halt>> Level for Members<'_, F> {
+    type Piece = Access<Items<ExprTree>>;
+
+    ghost can_read = { λ s. Nests s.0.now.levels (F.pre s.0.now.expr) (F.post s.0.now.expr) };
+
+    ghost operands = { λ s. spec.primary (is_positive s.0.now.levels) (spec.expr s.0.now.levels) };
+
+    ghost pieces = { λ s. spec.accessing (is_positive s.0.now.levels) (spec.expr s.0.now.levels) };
+
+    ghost joins = { tree.Member };
+
+    fn operand(&self, tokens: &mut Cursor<'_>) -> Result<ExprTree, Halt> {
+        self.0.primary(tokens)
+    }
+
+    #[tactic(auto, unfolding(crate::specs::ExpressionReading::accessing))]
+    fn piece(&self, tokens: &mut Cursor<'_>) -> Result<Access<Items<ExprTree>>, Halt> {
+        if tokens.sees(TokenKind::Dot) {
+            return self.0.dotted(tokens);
+        }
+        indexed(tokens)
+    }
+
+    fn join(first: Boxed<ExprTree>, more: Items<Access<Items<ExprTree>>>) -> ExprTree
+        ensures { result ≡ tree.Member first more }
+    {
+        ExprTree::Member(first, more)
+    }
+}
+
+/// Factors, behind a Unary.
+#[derive(Drop)]
+struct Products<'r, F>(&'r Reader<F>);
+
+impl<F: Fn(Global, &mut Cursor<'_>, usize) -> Result<ExprTree, Halt>> Level for Products<'_, F> {
+    type Piece = ExprTree;
+
+    ghost can_read = { λ s. Nests s.0.now.levels (F.pre s.0.now.expr) (F.post s.0.now.expr) };
+
+    ghost operands = { λ s. spec.unary (is_positive s.0.now.levels) (spec.expr s.0.now.levels) };
+
+    ghost pieces = { λ s. spec.factor (is_positive s.0.now.levels) (spec.expr s.0.now.levels) };
+
+    ghost joins = { tree.Product };
+
+    fn operand(&self, tokens: &mut Cursor<'_>) -> Result<ExprTree, Halt> {
+        self.0.unary(tokens)
+    }
+
+    #[tactic(auto, unfolding(crate::specs::ExpressionReading::factor))]
+    fn piece(&self, tokens: &mut Cursor<'_>) -> Result<ExprTree, Halt> {
+        tokens.take(TokenKind::Star)?;
+        self.0.unary(tokens)
+    }
+
+    fn join(first: Boxed<ExprTree>, more: Items<ExprTree>) -> ExprTree
+        ensures { result ≡ tree.Product first more }
+    {
+        ExprTree::Product(first, more)
+    }
+}
+
+/// ("+" | "-") Product, behind a Product.
+#[derive(Drop)]
+struct Sums<'r, F>(&'r Reader<F>);
+
+impl<F: Fn(Global, &mut Cursor<'_>, usize) -> Result<ExprTree, Halt>> Level for Sums<'_, F> {
+    type Piece = Term<ExprTree>;
+
+    ghost can_read = { λ s. Nests s.0.now.levels (F.pre s.0.now.expr) (F.post s.0.now.expr) };
+
+    ghost operands = { λ s. spec.product (is_positive s.0.now.levels) (spec.expr s.0.now.levels) };
+
+    ghost pieces = { λ s. spec.term (is_positive s.0.now.levels) (spec.expr s.0.now.levels) };
+
+    ghost joins = { tree.Sum };
+
+    fn operand(&self, tokens: &mut Cursor<'_>) -> Result<ExprTree, Halt> {
+        self.0.product(tokens)
+    }
+
+    #[tactic(auto, unfolding(crate::specs::ExpressionReading::term))]
+    fn piece(&self, tokens: &mut Cursor<'_>) -> Result<Term<ExprTree>, Halt> {
+        let sign = take_symbol::<Sign>(tokens)?;
+        let operand = self.0.product(tokens)?;
+        Ok(Term { sign, operand })
+    }
+
+    fn join(first: Boxed<ExprTree>, more: Items<Term<ExprTree>>) -> ExprTree
+        ensures { result ≡ tree.Sum first more }
+    {
+        ExprTree::Sum(first, more)
+    }
+}
+
+/// The operand of a relation, a Sum, and its tail.
+#[derive(Drop)]
+struct Relations<'r, F>(&'r Reader<F>);
+
+impl<F: Fn(Global, &mut Cursor<'_>, usize) -> Result<ExprTree, Halt>> Related for Relations<'_, F> {
+    ghost can_read = { λ s. Nests s.0.now.levels (F.pre s.0.now.expr) (F.post s.0.now.expr) };
+
+    ghost operands = { λ s. grammar.sum (is_positive s.0.now.levels) (grammar.expr s.0.now.levels) };
+
+    ghost tailed = { λ s. grammar.tailed (is_positive s.0.now.levels) (grammar.expr s.0.now.levels) };
+
+    ghost reads_operand = { λ s. spec.sum (is_positive s.0.now.levels) (spec.expr s.0.now.levels) };
+
+    ghost reads_tail = { λ s. spec.related (is_positive s.0.now.levels) (spec.expr s.0.now.levels) };
+
+    fn operand(&self, tokens: &mut Cursor<'_>) -> Result<ExprTree, Halt> {
+        self.0.sum(tokens)
+    }
+
+    fn with_tail(&self, tokens: &mut Cursor<'_>, x: ExprTree) -> Result<ExprTree, Halt> {
+        self.0.related(tokens, x)
+    }
+}
+
+/// "&&" Relation, behind a Relation.
+#[derive(Drop)]
+struct Conjunctions<'r, F>(&'r Reader<F>);
+
+impl<F: Fn(Global, &mut Cursor<'_>, usize) -> Result<ExprTree, Halt>> Level
+    for Conjunctions<'_, F> {
+    type Piece = ExprTree;
+
+    ghost can_read = { λ s. Nests s.0.now.levels (F.pre s.0.now.expr) (F.post s.0.now.expr) };
+
+    ghost operands = { λ s. spec.relation (is_positive s.0.now.levels) (spec.expr s.0.now.levels) };
+
+    ghost pieces = { λ s. spec.next_and (is_positive s.0.now.levels) (spec.expr s.0.now.levels) };
+
+    ghost joins = { tree.And };
+
+    fn operand(&self, tokens: &mut Cursor<'_>) -> Result<ExprTree, Halt> {
+        self.0.relation(tokens)
+    }
+
+    #[tactic(auto, unfolding(crate::specs::ExpressionReading::next_and))]
+    fn piece(&self, tokens: &mut Cursor<'_>) -> Result<ExprTree, Halt> {
+        tokens.take(TokenKind::And)?;
+        self.0.relation(tokens)
+    }
+
+    fn join(first: Boxed<ExprTree>, more: Items<ExprTree>) -> ExprTree
+        ensures { result ≡ tree.And first more }
+    {
+        ExprTree::And(first, more)
+    }
+}
+
+/// "||" And, behind an And.
+#[derive(Drop)]
+struct Disjunctions<'r, F>(&'r Reader<F>);
+
+impl<F: Fn(Global, &mut Cursor<'_>, usize) -> Result<ExprTree, Halt>> Level
+    for Disjunctions<'_, F> {
+    type Piece = ExprTree;
+
+    ghost can_read = { λ s. Nests s.0.now.levels (F.pre s.0.now.expr) (F.post s.0.now.expr) };
+
+    ghost operands = { λ s. spec.conjunction (is_positive s.0.now.levels) (spec.expr s.0.now.levels) };
+
+    ghost pieces = { λ s. spec.next_or (is_positive s.0.now.levels) (spec.expr s.0.now.levels) };
+
+    ghost joins = { tree.Or };
+
+    fn operand(&self, tokens: &mut Cursor<'_>) -> Result<ExprTree, Halt> {
+        self.0.conjunction(tokens)
+    }
+
+    #[tactic(auto, unfolding(crate::specs::ExpressionReading::next_or))]
+    fn piece(&self, tokens: &mut Cursor<'_>) -> Result<ExprTree, Halt> {
+        tokens.take(TokenKind::Or)?;
+        self.0.conjunction(tokens)
+    }
+
+    fn join(first: Boxed<ExprTree>, more: Items<ExprTree>) -> ExprTree
+        ensures { result ≡ tree.Or first more }
+    {
+        ExprTree::Or(first, more)
+    }
+}

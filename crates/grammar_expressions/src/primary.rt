@@ -1,0 +1,344 @@
+//! Primaries: literals, names, calls, and what stands in brackets.
+
+ghost use Rattle.std.specs.Prelude.{◌≡◌, IfErr};
+ghost use Rattle.grammar_expressions.specs.ExpressionReading as spec;
+ghost use Rattle.grammar_expressions.specs.Expressions.{is_positive};
+ghost use Rattle.grammar_trees.specs.grammar_tokens.ParsesTo.{ParsesTo};
+ghost use Rattle.grammar_expressions.specs.inner.Nests.{Nests};
+ghost use Rattle.grammar_trees.specs.grammar_tokens.declared.fault.Halt.TheVariants as halt;
+
+use crate::symbols::{Symbol, take_symbol};
+use crate::token_sets::TokenSet;
+use grammar_trees::{
+    Access, Cursor, Entry, ExprTree, Halt, KeyTree, Name, NameSet, PathTree, Token, TokenKind,
+    Variable, read_more, rest_of_name,
+};
+use plain::{Boxed, Items, beside};
+use std::alloc::Global;
+
+/// "true" | "false" | Number | String
+#[tactic(auto, unfolding(crate::specs::ExpressionReading::literal))]
+fn literal(tokens: &mut Cursor<'_>) -> Result<ExprTree, Halt>
+    ensures reads { ParsesTo (spec.literal tokens.old.rest.now) result tokens.new.rest.now }
+    ensures only { IfErr result (λ why. why ≡ halt.Unexpected) }
+{
+    if tokens.sees_one_of(TokenSet::Booleans) {
+        let value = take_symbol::<bool>(tokens)?;
+        return Ok(ExprTree::Boolean(value));
+    }
+    if tokens.sees(TokenKind::Number) {
+        let token = tokens.take(TokenKind::Number)?;
+        return Ok(ExprTree::Number(token));
+    }
+    let token = tokens.take(TokenKind::Text)?;
+    Ok(ExprTree::Text(token))
+}
+
+/// Ident | String
+#[tactic(auto, unfolding(crate::specs::ExpressionReading::key))]
+pub(crate) fn key(tokens: &mut Cursor<'_>) -> Result<KeyTree, Halt>
+    ensures reads { ParsesTo (spec.key tokens.old.rest.now) result tokens.new.rest.now }
+    ensures only { IfErr result (λ why. why ≡ halt.Unexpected) }
+{
+    if tokens.sees_one_of(NameSet::Identifiers) {
+        let word = tokens.take_one_of(NameSet::Identifiers)?;
+        return Ok(KeyTree::Word(word));
+    }
+    let quoted = tokens.take(TokenKind::Text)?;
+    Ok(KeyTree::Quoted(quoted))
+}
+
+/// "[" String "]"
+#[tactic(auto, unfolding(crate::specs::ExpressionReading::indexed))]
+pub(crate) fn indexed(tokens: &mut Cursor<'_>) -> Result<Access<Items<ExprTree>>, Halt>
+    ensures reads { ParsesTo (spec.indexed tokens.old.rest.now) result tokens.new.rest.now }
+    ensures only { IfErr result (λ why. why ≡ halt.Unexpected) }
+{
+    tokens.take(TokenKind::LBracket)?;
+    let name = tokens.take(TokenKind::Text)?;
+    tokens.take(TokenKind::RBracket)?;
+    Ok(Access::Field(KeyTree::Quoted(name)))
+}
+
+/// Returns the variable that a Path of one word is, if it is one.
+fn variable_at(path: &PathTree) -> Option<Variable>
+    ensures { result ≡ spec.variable_at path.now.first path.now.more }
+{
+    match path.more.as_slice() {
+        [] => Variable::of(path.first.kind),
+        _ => None,
+    }
+}
+
+/// Returns a Path that no argument follows: the word of a variable, or nothing.
+#[tactic(auto, unfolding(crate::specs::ExpressionReading::alone))]
+fn alone(tokens: &Cursor<'_>, path: PathTree) -> Result<ExprTree, Halt>
+    ensures reads { ParsesTo (spec.alone path tokens.now.rest.now) result tokens.now.rest.now }
+    ensures only { IfErr result (λ why. why ≡ halt.Unexpected) }
+{
+    match variable_at(&path) {
+        Some(variable) => Ok(ExprTree::Variable(variable)),
+        None => Err(Halt::Unexpected),
+    }
+}
+
+/// Reads expressions that may open so many levels of nesting. The reader of the expressions one
+/// level deeper is a parameter, so that each production is proved by itself.
+#[derive(Drop)]
+pub(crate) struct Reader<F> {
+    pub(crate) alloc: Global,
+    /// How many levels of nesting may still be opened.
+    pub(crate) levels: usize,
+    pub(crate) expr: F,
+}
+
+impl<F: Fn(Global, &mut Cursor<'_>, usize) -> Result<ExprTree, Halt>> Reader<F> {
+    /// Returns an expression one level deeper.
+    pub(crate) fn inner(&self, tokens: &mut Cursor<'_>) -> Result<ExprTree, Halt>
+        requires { Nests self.now.levels (F.pre self.now.expr) (F.post self.now.expr) }
+        ensures { ParsesTo (spec.expr self.now.levels tokens.old.rest.now) result tokens.new.rest.now }
+    {
+        (self.expr)(self.alloc, tokens, self.levels)
+    }
+
+    /// Returns an expression one level deeper, in memory of its own.
+    pub(crate) fn boxed_inner(&self, tokens: &mut Cursor<'_>) -> Result<Boxed<ExprTree>, Halt>
+        requires { Nests self.now.levels (F.pre self.now.expr) (F.post self.now.expr) }
+        ensures { ParsesTo (spec.expr self.now.levels tokens.old.rest.now) result tokens.new.rest.now }
+    {
+        let x = self.inner(tokens)?;
+        Ok(Boxed::new(self.alloc, x)?)
+    }
+
+    #[tactic(auto, unfolding(crate::specs::ExpressionReading::next_argument))]
+    fn next_argument(&self, tokens: &mut Cursor<'_>) -> Result<ExprTree, Halt>
+        requires { Nests self.now.levels (F.pre self.now.expr) (F.post self.now.expr) }
+        ensures { ParsesTo (spec.next_argument (is_positive self.now.levels) (spec.expr self.now.levels)
+            tokens.old.rest.now)
+            result tokens.new.rest.now }
+    {
+        tokens.take(TokenKind::Comma)?;
+        self.inner(tokens)
+    }
+
+    fn rest_of_arguments(
+        &self,
+        tokens: &mut Cursor<'_>,
+        first: ExprTree,
+    ) -> Result<Items<ExprTree>, Halt>
+        requires { Nests self.now.levels (F.pre self.now.expr) (F.post self.now.expr) }
+        ensures { ParsesTo (spec.rest_of_arguments (is_positive self.now.levels) (spec.expr self.now.levels)
+            first tokens.old.rest.now)
+            result tokens.new.rest.now }
+    {
+        read_more(self.alloc, tokens, first, TokenKind::Comma, |tokens| {
+            self.next_argument(tokens)
+        })
+    }
+
+    /// [ Expr { "," Expr } ]
+    #[tactic(auto, unfolding(crate::specs::ExpressionReading::arguments))]
+    fn arguments(&self, tokens: &mut Cursor<'_>) -> Result<Items<ExprTree>, Halt>
+        requires { Nests self.now.levels (F.pre self.now.expr) (F.post self.now.expr) }
+        ensures { ParsesTo (spec.arguments (is_positive self.now.levels)
+            (spec.expr self.now.levels) tokens.old.rest.now)
+            result tokens.new.rest.now }
+    {
+        if !tokens.sees_one_of(TokenSet::ExpressionStarts) {
+            return Ok(Items::new(self.alloc));
+        }
+        let first = self.inner(tokens)?;
+        self.rest_of_arguments(tokens, first)
+    }
+
+    /// "(" Arguments ")"
+    #[tactic(auto, unfolding(crate::specs::ExpressionReading::called))]
+    pub(crate) fn called(&self, tokens: &mut Cursor<'_>) -> Result<Items<ExprTree>, Halt>
+        requires { Nests self.now.levels (F.pre self.now.expr) (F.post self.now.expr) }
+        ensures { ParsesTo (spec.called (is_positive self.now.levels) (spec.expr self.now.levels) tokens.old.rest.now)
+            result tokens.new.rest.now }
+    {
+        tokens.take(TokenKind::LParen)?;
+        let found = self.arguments(tokens)?;
+        tokens.take(TokenKind::RParen)?;
+        Ok(found)
+    }
+
+    /// Key ":" Expr
+    #[tactic(auto, unfolding(crate::specs::ExpressionReading::entry))]
+    fn entry(&self, tokens: &mut Cursor<'_>) -> Result<Entry<ExprTree>, Halt>
+        requires { Nests self.now.levels (F.pre self.now.expr) (F.post self.now.expr) }
+        ensures { ParsesTo (spec.entry (is_positive self.now.levels) (spec.expr self.now.levels) tokens.old.rest.now)
+            result tokens.new.rest.now }
+    {
+        let key = key(tokens)?;
+        tokens.take(TokenKind::Colon)?;
+        let value = self.inner(tokens)?;
+        Ok(Entry { key, value })
+    }
+
+    #[tactic(auto, unfolding(crate::specs::ExpressionReading::next_entry))]
+    fn next_entry(&self, tokens: &mut Cursor<'_>) -> Result<Entry<ExprTree>, Halt>
+        requires { Nests self.now.levels (F.pre self.now.expr) (F.post self.now.expr) }
+        ensures { ParsesTo (spec.next_entry (is_positive self.now.levels)
+            (spec.expr self.now.levels) tokens.old.rest.now)
+            result tokens.new.rest.now }
+    {
+        tokens.take(TokenKind::Comma)?;
+        self.entry(tokens)
+    }
+
+    fn rest_of_entries(
+        &self,
+        tokens: &mut Cursor<'_>,
+        first: Entry<ExprTree>,
+    ) -> Result<Items<Entry<ExprTree>>, Halt>
+        requires { Nests self.now.levels (F.pre self.now.expr) (F.post self.now.expr) }
+        ensures { ParsesTo (spec.rest_of_entries (is_positive self.now.levels) (spec.expr self.now.levels)
+            first tokens.old.rest.now)
+            result tokens.new.rest.now }
+    {
+        read_more(self.alloc, tokens, first, TokenKind::Comma, |tokens| {
+            self.next_entry(tokens)
+        })
+    }
+
+    /// [ Key ":" Expr { "," Key ":" Expr } ]
+    #[tactic(auto, unfolding(crate::specs::ExpressionReading::entries))]
+    fn entries(&self, tokens: &mut Cursor<'_>) -> Result<Items<Entry<ExprTree>>, Halt>
+        requires { Nests self.now.levels (F.pre self.now.expr) (F.post self.now.expr) }
+        ensures { ParsesTo (spec.entries (is_positive self.now.levels) (spec.expr self.now.levels) tokens.old.rest.now)
+            result tokens.new.rest.now }
+    {
+        if !tokens.sees_one_of(TokenSet::Keys) {
+            return Ok(Items::new(self.alloc));
+        }
+        let first = self.entry(tokens)?;
+        self.rest_of_entries(tokens, first)
+    }
+
+    #[tactic(auto, unfolding(crate::specs::ExpressionReading::call_of))]
+    fn call_of(&self, tokens: &mut Cursor<'_>, path: PathTree) -> Result<ExprTree, Halt>
+        requires { Nests self.now.levels (F.pre self.now.expr) (F.post self.now.expr) }
+        ensures { ParsesTo (spec.call_of (is_positive self.now.levels) (spec.expr self.now.levels) path
+            tokens.old.rest.now)
+            result tokens.new.rest.now }
+    {
+        let found = self.called(tokens)?;
+        Ok(ExprTree::Call(path, found))
+    }
+
+    #[tactic(auto, unfolding(crate::specs::ExpressionReading::call_or_variable))]
+    fn call_or_variable(&self, tokens: &mut Cursor<'_>, path: PathTree) -> Result<ExprTree, Halt>
+        requires { Nests self.now.levels (F.pre self.now.expr) (F.post self.now.expr) }
+        ensures { ParsesTo (spec.call_or_variable (is_positive self.now.levels) (spec.expr self.now.levels)
+            path tokens.old.rest.now)
+            result tokens.new.rest.now }
+    {
+        if !tokens.sees(TokenKind::LParen) {
+            return alone(tokens, path);
+        }
+        if self.levels == 0 {
+            return Err(Halt::TooDeep);
+        }
+        self.call_of(tokens, path)
+    }
+
+    #[tactic(auto, unfolding(crate::specs::ExpressionReading::rest_of_named))]
+    fn rest_of_named(&self, tokens: &mut Cursor<'_>, first: Token) -> Result<ExprTree, Halt>
+        requires { Nests self.now.levels (F.pre self.now.expr) (F.post self.now.expr) }
+        ensures { ParsesTo (spec.rest_of_named (is_positive self.now.levels) (spec.expr self.now.levels)
+            first tokens.old.rest.now)
+            result tokens.new.rest.now }
+    {
+        match rest_of_name(self.alloc, tokens, first)? {
+            Name::Uid(uid) => Ok(ExprTree::Uid(uid)),
+            Name::Path(path) => self.call_or_variable(tokens, path),
+        }
+    }
+
+    /// Variable | Uid | Path "(" Arguments ")"
+    #[tactic(auto, unfolding(crate::specs::ExpressionReading::named))]
+    fn named(&self, tokens: &mut Cursor<'_>) -> Result<ExprTree, Halt>
+        requires { Nests self.now.levels (F.pre self.now.expr) (F.post self.now.expr) }
+        ensures { ParsesTo (spec.named (is_positive self.now.levels) (spec.expr self.now.levels) tokens.old.rest.now)
+            result tokens.new.rest.now }
+    {
+        let first = tokens.take_one_of(NameSet::Identifiers)?;
+        self.rest_of_named(tokens, first)
+    }
+
+    /// "(" Expr ")"
+    #[tactic(auto, unfolding(crate::specs::ExpressionReading::parenthesized))]
+    fn parenthesized(&self, tokens: &mut Cursor<'_>) -> Result<ExprTree, Halt>
+        requires { Nests self.now.levels (F.pre self.now.expr) (F.post self.now.expr) }
+        ensures { ParsesTo (spec.parenthesized (is_positive self.now.levels) (spec.expr self.now.levels)
+            tokens.old.rest.now)
+            result tokens.new.rest.now }
+    {
+        tokens.take(TokenKind::LParen)?;
+        let x = self.boxed_inner(tokens)?;
+        let (x, _closed) = beside(x, tokens.take(TokenKind::RParen))?;
+        Ok(ExprTree::Parentheses(x))
+    }
+
+    /// "[" Arguments "]"
+    #[tactic(auto, unfolding(crate::specs::ExpressionReading::set))]
+    fn set(&self, tokens: &mut Cursor<'_>) -> Result<ExprTree, Halt>
+        requires { Nests self.now.levels (F.pre self.now.expr) (F.post self.now.expr) }
+        ensures { ParsesTo (spec.set (is_positive self.now.levels) (spec.expr self.now.levels) tokens.old.rest.now)
+            result tokens.new.rest.now }
+    {
+        tokens.take(TokenKind::LBracket)?;
+        let found = self.arguments(tokens)?;
+        tokens.take(TokenKind::RBracket)?;
+        Ok(ExprTree::Set(found))
+    }
+
+    /// "{" [ Key ":" Expr { "," Key ":" Expr } ] "}"
+    #[tactic(auto, unfolding(crate::specs::ExpressionReading::braced))]
+    fn braced(&self, tokens: &mut Cursor<'_>) -> Result<ExprTree, Halt>
+        requires { Nests self.now.levels (F.pre self.now.expr) (F.post self.now.expr) }
+        ensures { ParsesTo (spec.braced (is_positive self.now.levels) (spec.expr self.now.levels) tokens.old.rest.now)
+            result tokens.new.rest.now }
+    {
+        tokens.take(TokenKind::LBrace)?;
+        let found = self.entries(tokens)?;
+        tokens.take(TokenKind::RBrace)?;
+        Ok(ExprTree::Record(found))
+    }
+
+    #[tactic(auto, unfolding(crate::specs::ExpressionReading::nested))]
+    fn nested(&self, tokens: &mut Cursor<'_>) -> Result<ExprTree, Halt>
+        requires { Nests self.now.levels (F.pre self.now.expr) (F.post self.now.expr) }
+        ensures { ParsesTo (spec.nested (is_positive self.now.levels) (spec.expr self.now.levels) tokens.old.rest.now)
+            result tokens.new.rest.now }
+    {
+        if tokens.sees(TokenKind::LParen) {
+            return self.parenthesized(tokens);
+        }
+        if tokens.sees(TokenKind::LBracket) {
+            return self.set(tokens);
+        }
+        self.braced(tokens)
+    }
+
+    /// Variable | Uid | Call | "(" Expr ")" | "[" Arguments "]" | "{" .. "}" | Literal
+    #[tactic(auto, unfolding(crate::specs::ExpressionReading::primary))]
+    pub(crate) fn primary(&self, tokens: &mut Cursor<'_>) -> Result<ExprTree, Halt>
+        requires { Nests self.now.levels (F.pre self.now.expr) (F.post self.now.expr) }
+        ensures { ParsesTo (spec.primary (is_positive self.now.levels) (spec.expr self.now.levels) tokens.old.rest.now)
+            result tokens.new.rest.now }
+    {
+        if tokens.sees_one_of(NameSet::Identifiers) {
+            return self.named(tokens);
+        }
+        if !tokens.sees_one_of(TokenSet::Openers) {
+            return literal(tokens);
+        }
+        if self.levels == 0 {
+            return Err(Halt::TooDeep);
+        }
+        self.nested(tokens)
+    }
+}

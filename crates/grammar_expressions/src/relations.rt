@@ -1,0 +1,192 @@
+//! Relations: what stands behind a Sum is read first, and then joined to it.
+
+ghost use Rattle.std.specs.Prelude.{◌≡◌, IfOk};
+ghost use Rattle.grammar_expressions.specs.ExpressionReading as spec;
+ghost use Rattle.grammar_expressions.specs.Expressions.{is_positive};
+ghost use Rattle.grammar_trees.specs.grammar_tokens.ParsesTo.{ParsesTo};
+ghost use Rattle.grammar_expressions.specs.inner.Nests.{Nests};
+ghost use Rattle.grammar_expressions.specs.inner.Tails as tails;
+
+use crate::primary::{Reader, key};
+use crate::symbols::take_symbol;
+use crate::token_sets::TokenSet;
+use grammar_trees::{
+    Comparison, Cursor, ExprTree, Halt, KeyTree, PathTree, Token, TokenKind, path,
+};
+use plain::{Boxed, beside};
+use std::alloc::{AllocError, Global};
+
+/// What may stand behind the first Sum of a relation.
+#[derive(Drop)]
+pub(crate) enum Tail {
+    /// A comparison, and the other operand.
+    Compared(Comparison, Boxed<ExprTree>),
+    /// `has`, and the attribute.
+    Has(KeyTree),
+    /// `like`, and the pattern.
+    Like(Token),
+    /// `is`, the type, and what stands behind `in`.
+    Is(PathTree, Option<Boxed<ExprTree>>),
+}
+
+/// "has" (Ident | String)
+#[tactic(auto, unfolding(crate::specs::inner::Tails::has))]
+fn has(tokens: &mut Cursor<'_>) -> Result<Option<Tail>, Halt>
+    ensures { ParsesTo (tails.has tokens.old.rest.now) result tokens.new.rest.now }
+{
+    tokens.take(TokenKind::Has)?;
+    let name = key(tokens)?;
+    Ok(Some(Tail::Has(name)))
+}
+
+/// "like" Pattern
+#[tactic(auto, unfolding(crate::specs::inner::Tails::like))]
+fn like(tokens: &mut Cursor<'_>) -> Result<Option<Tail>, Halt>
+    ensures { ParsesTo (tails.like tokens.old.rest.now) result tokens.new.rest.now }
+{
+    tokens.take(TokenKind::Like)?;
+    let text = tokens.take_one_of(TokenSet::Patterns)?;
+    Ok(Some(Tail::Like(text)))
+}
+
+fn form(x: Boxed<ExprTree>, tail: Tail) -> ExprTree
+    ensures { result ≡ tails.form x tail }
+{
+    match tail {
+        Tail::Compared(operator, y) => ExprTree::Compare(x, operator, y),
+        Tail::Has(name) => ExprTree::Has(x, name),
+        Tail::Like(text) => ExprTree::Like(x, text),
+        Tail::Is(type_name, entity) => match entity {
+            None => ExprTree::Is(x, type_name),
+            Some(entity) => ExprTree::IsIn(x, type_name, entity),
+        },
+    }
+}
+
+fn relate(alloc: Global, x: ExprTree, tail: Option<Tail>) -> Result<ExprTree, AllocError>
+    ensures { IfOk result (λ e. e ≡ tails.relate x tail) }
+{
+    match tail {
+        None => Ok(x),
+        Some(tail) => {
+            let (tail, x) = beside(tail, Boxed::new(alloc, x))?;
+            Ok(form(x, tail))
+        }
+    }
+}
+
+impl<F: Fn(Global, &mut Cursor<'_>, usize) -> Result<ExprTree, Halt>> Reader<F> {
+    /// Returns a Sum in memory of its own.
+    fn boxed_sum(&self, tokens: &mut Cursor<'_>) -> Result<Boxed<ExprTree>, Halt>
+        requires { Nests self.now.levels (F.pre self.now.expr) (F.post self.now.expr) }
+        ensures { ParsesTo (spec.sum (is_positive self.now.levels) (spec.expr self.now.levels) tokens.old.rest.now)
+            result tokens.new.rest.now }
+    {
+        let x = self.sum(tokens)?;
+        Ok(Boxed::new(self.alloc, x)?)
+    }
+
+    /// ("<" | "<=" | ">" | ">=" | "==" | "!=" | "in") Sum
+    #[tactic(auto, unfolding(crate::specs::inner::Tails::compared))]
+    fn compared(&self, tokens: &mut Cursor<'_>) -> Result<Option<Tail>, Halt>
+        requires { Nests self.now.levels (F.pre self.now.expr) (F.post self.now.expr) }
+        ensures { ParsesTo (tails.compared (is_positive self.now.levels)
+            (spec.expr self.now.levels) tokens.old.rest.now)
+            result tokens.new.rest.now }
+    {
+        let operator = take_symbol::<Comparison>(tokens)?;
+        let y = self.boxed_sum(tokens)?;
+        Ok(Some(Tail::Compared(operator, y)))
+    }
+
+    #[tactic(auto, unfolding(crate::specs::ExpressionReading::inside))]
+    fn inside(&self, tokens: &mut Cursor<'_>) -> Result<Boxed<ExprTree>, Halt>
+        requires { Nests self.now.levels (F.pre self.now.expr) (F.post self.now.expr) }
+        ensures { ParsesTo (spec.inside (is_positive self.now.levels) (spec.expr self.now.levels) tokens.old.rest.now)
+            result tokens.new.rest.now }
+    {
+        tokens.take(TokenKind::In)?;
+        self.boxed_sum(tokens)
+    }
+
+    /// [ "in" Sum ]
+    #[tactic(auto, unfolding(crate::specs::ExpressionReading::maybe_inside))]
+    fn maybe_inside(&self, tokens: &mut Cursor<'_>) -> Result<Option<Boxed<ExprTree>>, Halt>
+        requires { Nests self.now.levels (F.pre self.now.expr) (F.post self.now.expr) }
+        ensures { ParsesTo (spec.maybe_inside (is_positive self.now.levels)
+            (spec.expr self.now.levels) tokens.old.rest.now)
+            result tokens.new.rest.now }
+    {
+        if !tokens.sees(TokenKind::In) {
+            return Ok(None);
+        }
+        let entity = self.inside(tokens)?;
+        Ok(Some(entity))
+    }
+
+    /// "is" Path [ "in" Sum ]
+    #[tactic(auto, unfolding(crate::specs::inner::Tails::type_test))]
+    fn type_test(&self, tokens: &mut Cursor<'_>) -> Result<Option<Tail>, Halt>
+        requires { Nests self.now.levels (F.pre self.now.expr) (F.post self.now.expr) }
+        ensures { ParsesTo (tails.type_test (is_positive self.now.levels)
+            (spec.expr self.now.levels) tokens.old.rest.now) result tokens.new.rest.now }
+    {
+        tokens.take(TokenKind::Is)?;
+        let type_name = path(self.alloc, tokens)?;
+        let (type_name, entity) = beside(type_name, self.maybe_inside(tokens))?;
+        Ok(Some(Tail::Is(type_name, entity)))
+    }
+
+    #[tactic(auto, unfolding(crate::specs::inner::Tails::test_tail))]
+    fn test_tail(&self, tokens: &mut Cursor<'_>) -> Result<Option<Tail>, Halt>
+        requires { Nests self.now.levels (F.pre self.now.expr) (F.post self.now.expr) }
+        ensures { ParsesTo (tails.test_tail (is_positive self.now.levels)
+            (spec.expr self.now.levels) tokens.old.rest.now)
+            result tokens.new.rest.now }
+    {
+        if tokens.sees(TokenKind::Has) {
+            return has(tokens);
+        }
+        if tokens.sees(TokenKind::Like) {
+            return like(tokens);
+        }
+        if tokens.sees(TokenKind::Is) {
+            return self.type_test(tokens);
+        }
+        Ok(None)
+    }
+
+    /// [ comparison Sum | "has" (Ident | String) | "like" Pattern | "is" Path [ "in" Sum ] ]
+    #[tactic(auto, unfolding(crate::specs::inner::Tails::tail))]
+    fn tail(&self, tokens: &mut Cursor<'_>) -> Result<Option<Tail>, Halt>
+        requires { Nests self.now.levels (F.pre self.now.expr) (F.post self.now.expr) }
+        ensures { ParsesTo (tails.tail (is_positive self.now.levels) (spec.expr self.now.levels) tokens.old.rest.now)
+            result tokens.new.rest.now }
+    {
+        if tokens.sees_one_of(TokenSet::Comparisons) {
+            return self.compared(tokens);
+        }
+        self.test_tail(tokens)
+    }
+
+    #[tactic(auto, unfolding(crate::specs::inner::Tails::joined))]
+    fn join_tail(&self, tokens: &mut Cursor<'_>, x: ExprTree) -> Result<ExprTree, Halt>
+        requires { Nests self.now.levels (F.pre self.now.expr) (F.post self.now.expr) }
+        ensures { ParsesTo (tails.joined (is_positive self.now.levels)
+            (spec.expr self.now.levels) x tokens.old.rest.now)
+            result tokens.new.rest.now }
+    {
+        let (x, tail) = beside(x, self.tail(tokens))?;
+        Ok(relate(self.alloc, x, tail)?)
+    }
+
+    /// Returns a relation, of its first Sum and what stands behind it.
+    pub(crate) fn related(&self, tokens: &mut Cursor<'_>, x: ExprTree) -> Result<ExprTree, Halt>
+        requires { Nests self.now.levels (F.pre self.now.expr) (F.post self.now.expr) }
+        ensures { ParsesTo (spec.related (is_positive self.now.levels)
+            (spec.expr self.now.levels) x tokens.old.rest.now)
+            result tokens.new.rest.now }
+    {
+        self.join_tail(tokens, x)
+    }
+}

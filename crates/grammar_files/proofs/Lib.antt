@@ -1,0 +1,9 @@
+pub mod Cutting
+pub mod Splitting
+pub mod Alone
+pub mod Endless
+pub mod Counting
+pub mod Alike
+pub mod Deriving
+-- crates below, passed on to those above
+pub use Rattle.grammar_policies.proofs.of_grammar_tokens

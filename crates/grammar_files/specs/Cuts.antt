@@ -1,0 +1,89 @@
+-- The texts of the policies in a file, each on its own.
+--
+-- Source: Cedar reference guide 4.0, "Grammar specification for Cedar policy syntax": a policy ends with `;`, and no
+-- other token of it is one. Rules of this product: what stands in front of a policy is of its text, comments too, but
+-- for the white space before the first of it; what stands behind the last `;` is of no policy's.
+use Rattle.std.specs.Prelude.{◌≡◌, ℕ, Bool, true, false, List, [], ◌∷◌, ◌++◌, length, map, drop, slice_range}
+use Rattle.std.specs.Prelude.{if◌then◌else◌}
+use Rattle.std.specs.List.{AllByRecursion, AllZip, concat}
+use Rattle.std.specs.Str.{IsUtf8, NoCharPasses, trim_start}
+use Rattle.std.specs.Char.{is_not_whitespace}
+use Rattle.grammar_policies.specs.grammar_tokens.declared.token.TokenKind.{TokenKind}
+use Rattle.grammar_policies.specs.grammar_tokens.declared.token.TokenKind.TheVariants as k
+use Rattle.grammar_policies.specs.grammar_tokens.declared.token.Token.{Token}
+use Rattle.grammar_policies.specs.grammar_tokens.Lexing.{IsLexed}
+use Rattle.grammar_policies.specs.declared.tree.PolicyTree.{PolicyTree}
+use Rattle.grammar_policies.specs.Grammar.{policies, policy}
+
+-- `;`, which ends a policy
+abbrev pub is_end : TokenKind → Bool
+is_end k.Semicolon = true
+is_end _ = false
+
+-- the parts of the text from this place on, one up to each token that ends a policy, and with it
+abbrev pub parts_from : List ℕ → ℕ → List Token → List (List ℕ)
+parts_from text from [] = []
+parts_from text from (t ∷ ts) =
+    if is_end t.kind then slice_range text from t.end ∷ parts_from text t.end ts else parts_from text from ts
+
+-- where the last of these ends
+abbrev pub left_from : ℕ → List Token → ℕ
+left_from from [] = from
+left_from from (t ∷ ts) = if is_end t.kind then left_from t.end ts else left_from from ts
+
+-- the texts of the policies of a text with these tokens
+abbrev pub policy_texts : List ℕ → List Token → List (List ℕ)
+policy_texts text ts = map trim_start (parts_from text 0 ts)
+
+-- the text has tokens, and these are the texts of its policies
+abbrev pub AreTextsOf : List ℕ → List (List ℕ) → Type 0
+AreTextsOf text texts = (ts : List Token) × IsLexed text ts × (texts ≡ policy_texts text ts)
+
+-- ## Laws
+
+-- By itself a text has tokens, of which the last ends a policy and stands at the text's end, and no other ends one.
+pub record StandsAlone (text : List ℕ) : Type 0 where
+  pub before : List Token
+  pub last : Token
+  pub lexed : IsLexed text (before ++ last ∷ [])
+  pub none_before : AllByRecursion (λ t. is_end t.kind ≡ false) before
+  pub ends : is_end last.kind ≡ true
+  pub at_end : last.end ≡ length text
+
+-- Each text of a policy does so.
+abbrev pub EachStandsAlone : Type 0
+EachStandsAlone = (text : List ℕ) (ts : List Token) → IsUtf8 text → IsLexed text ts
+    → AllByRecursion StandsAlone (policy_texts text ts)
+
+-- The text is its parts, one behind the other, and what is left of it.
+abbrev pub PartsJoin : Type 0
+PartsJoin = (text : List ℕ) (ts : List Token) → IsLexed text ts
+    → text ≡ concat (parts_from text 0 ts) ++ drop (left_from 0 ts) text
+
+-- the part is white space and this text, which begins with none
+pub record IsSpaced (part text : List ℕ) : Type 0 where
+  pub space : List ℕ
+  pub is_space : NoCharPasses is_not_whitespace space
+  pub whole : part ≡ space ++ text
+
+-- Each text of a policy is its part, but for the white space in front.
+abbrev pub EachIsSpaced : Type 0
+EachIsSpaced = (text : List ℕ) (ts : List Token) → IsUtf8 text → IsLexed text ts
+    → AllZip IsSpaced (parts_from text 0 ts) (policy_texts text ts)
+
+-- A text that is derived as policies has as many.
+abbrev pub AreAsManyAsPolicies : Type 0
+AreAsManyAsPolicies = (levels : ℕ) (text : List ℕ) (ts : List Token) (trees : List PolicyTree) (texts : List (List ℕ))
+    → IsLexed text ts → policies levels ts trees → AreTextsOf text texts → length texts ≡ length trees
+
+-- By itself a text has tokens that derive a policy.
+pub record DerivesPolicy (levels : ℕ) (text : List ℕ) : Type 0 where
+  pub tokens : List Token
+  pub lexed : IsLexed text tokens
+  pub tree : PolicyTree
+  pub derived : policy levels tokens tree
+
+-- Each text of a file that is derived as policies does so: none of them is refused for its grammar.
+abbrev pub EachDerivesPolicy : Type 0
+EachDerivesPolicy = (levels : ℕ) (text : List ℕ) (ts : List Token) (trees : List PolicyTree) → IsUtf8 text
+    → IsLexed text ts → policies levels ts trees → AllByRecursion (DerivesPolicy levels) (policy_texts text ts)

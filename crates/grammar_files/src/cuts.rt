@@ -1,0 +1,48 @@
+//! A file's text, cut into the texts of its policies.
+ghost use Rattle.std.specs.Prelude.{◌≡◌, IfOk, IfErr, map};
+ghost use Rattle.std.specs.List.{AllByRecursion};
+ghost use Rattle.grammar_policies.specs.grammar_tokens.Lexing.{IsLexed, IsSpelledIn, AreInOrder, IsFault};
+ghost use Rattle.grammar_files.specs.Cuts.{is_end, policy_texts, AreTextsOf};
+
+use grammar_policies::{LexFault, Token, TokenKind, tokens};
+use plain::NoMemory;
+use std::alloc::Global;
+
+/// Returns whether a token of this kind ends a policy.
+fn is_end(kind: TokenKind) -> bool
+    ensures { result ≡ is_end kind }
+{
+    matches!(kind, TokenKind::Semicolon)
+}
+
+/// Returns the parts of a text that end with the tokens which end a policy, without the white space in front of each.
+fn cut<'t>(alloc: Global, text: &'t str, tokens: &[Token]) -> Result<Vec<&'t str>, NoMemory>
+    requires spelled { AllByRecursion (IsSpelledIn text.now) tokens.now }
+    requires ordered { AreInOrder 0 tokens.now }
+    ensures { IfOk result (λ texts. map (λ t. t.now) texts.items ≡ policy_texts text.now tokens.now) }
+{
+    let mut texts = Vec::new(alloc);
+    let mut from = 0;
+    for token in tokens {
+        if !is_end(token.kind) {
+            continue;
+        }
+        texts.push(text[from..token.end].trim_start())?;
+        from = token.end;
+    }
+    Ok(texts)
+}
+
+/// Returns the text of each policy of a file, in the file's order, as it stands there.
+///
+/// A policy's text ends with its `;`, and begins where the one before ended, with the first character that is no white
+/// space: a comment in front of a policy is of its text. What stands behind the last `;` is of none. Nothing is read
+/// but tokens, so of a text that is no file of policies these are texts too. Takes time in proportion to the text, and
+/// memory for its tokens. `BadToken` tells the first byte at which no token begins.
+pub fn policy_texts<'t>(alloc: Global, text: &'t str) -> Result<Vec<&'t str>, LexFault>
+    ensures cut { IfOk result (λ texts. AreTextsOf text.now (map (λ t. t.now) texts.items)) }
+    ensures fault { IfErr result (λ fault. IsFault fault text.now) }
+{
+    let tokens = tokens(alloc, text)?;
+    Ok(cut(alloc, text, &tokens)?)
+}

@@ -1,0 +1,156 @@
+-- The grammar of policies, over tokens: which trees a list of tokens derives. One definition for each production.
+-- Source: Cedar reference guide 4.0, "Grammar specification for Cedar policy syntax". Rules of this product: `__cedar`
+-- is reserved too, and so is no Ident; an annotation's value may be missing, with its parentheses or between them.
+use Rattle.std.specs.Prelude.{ℕ, true, false, ◌||◌, List, [], ◌∷◌, Option, Some, None}
+use Rattle.grammar_expressions.specs.grammar_tokens.declared.token.TokenKind.{TokenKind}
+use Rattle.grammar_expressions.specs.grammar_tokens.declared.token.TokenKind.TheVariants as k
+use Rattle.grammar_expressions.specs.grammar_tokens.declared.token.Token.{Token}
+use Rattle.grammar_expressions.specs.grammar_tokens.Idents.{is_reserved}
+use Rattle.grammar_expressions.specs.grammar_tokens.declared.tree.PathTree.{PathTree}
+use Rattle.grammar_expressions.specs.grammar_tokens.declared.tree.UidTree.{UidTree}
+use Rattle.grammar_policies.specs.declared.tree.Annotation.{Annotation}
+use Rattle.grammar_policies.specs.declared.tree.PartTree.{PartTree}
+use Rattle.grammar_policies.specs.declared.tree.PartTree.TheVariants as part
+use Rattle.grammar_policies.specs.declared.tree.ActionTree.{ActionTree}
+use Rattle.grammar_policies.specs.declared.tree.ActionTree.TheVariants as action
+use Rattle.grammar_policies.specs.declared.tree.ScopeTree.{ScopeTree}
+use Rattle.grammar_policies.specs.declared.tree.Condition.{Condition}
+use Rattle.grammar_policies.specs.declared.tree.ConditionWord.{ConditionWord}
+use Rattle.grammar_policies.specs.declared.tree.ConditionWord.TheVariants.{When, Unless}
+use Rattle.grammar_policies.specs.declared.tree.PolicyTree.{PolicyTree}
+use Rattle.grammar_expressions.specs.grammar_tokens.Kinds.{Kinds}
+pub use Rattle.grammar_expressions.specs.grammar_tokens.Grammar.{identifiers, path, uid}
+use Rattle.grammar_expressions.specs.Expressions.{expr, symbol, known}
+use Rattle.grammar_expressions.specs.grammar_tokens.Lang.{Lang, of, one, empty, ◌>>=◌, ◌>>◌, ◌giving◌, ◌or◌, optional}
+use Rattle.grammar_expressions.specs.grammar_tokens.Lang.{many}
+
+-- Ident | Reserved
+abbrev pub words : Kinds
+words kind = is_reserved kind || identifiers kind
+
+-- Effect = "permit" | "forbid"
+abbrev pub effects : Kinds
+effects k.Permit = true
+effects k.Forbid = true
+effects _ = false
+
+-- "(" [ String ] ")"
+abbrev pub annotation_value : Lang (Option Token)
+annotation_value = do
+  one k.LParen
+  text ← optional (one k.Text)
+  one k.RParen
+  empty text
+
+-- Annotation = "@" (Ident | Reserved) [ "(" [ String ] ")" ]
+abbrev pub annotation : Lang Annotation
+annotation = do
+  at ← one k.At
+  key ← of words
+  value ← annotation_value or empty None
+  empty (record { at = at; key = key; value = value })
+
+-- "==" Uid
+abbrev pub equal_uid : Lang UidTree
+equal_uid = one k.Equal >> uid
+
+-- "in" Uid
+abbrev pub in_uid : Lang UidTree
+in_uid = one k.In >> uid
+
+-- "is" Path [ "in" Uid ]
+abbrev pub is_in : PathTree → Option UidTree → PartTree
+is_in type_name None = part.Is type_name
+is_in type_name (Some entity) = part.IsIn type_name entity
+
+abbrev pub type_test : Lang PartTree
+type_test = do
+  one k.Is
+  type_name ← path
+  entity ← optional in_uid
+  empty (is_in type_name entity)
+
+-- [ "==" Uid | "in" Uid | "is" Path [ "in" Uid ] ]
+abbrev pub entity_constraint : Lang PartTree
+entity_constraint = (equal_uid giving part.Equal) or (in_uid giving part.In) or type_test or empty part.Any
+
+-- Principal is the word "principal" and a constraint, and Resource the word "resource" and a constraint.
+abbrev pub entity_part : TokenKind → Lang PartTree
+entity_part variable = one variable >> entity_constraint
+
+-- [ Uid { "," Uid } ]
+abbrev pub uids : Lang (List UidTree)
+uids = (do first ← uid; more ← many (one k.Comma >> uid); empty (first ∷ more)) or empty []
+
+-- "[" [ Uid { "," Uid } ] "]"
+abbrev pub uid_list : Lang ActionTree
+uid_list = do
+  one k.LBracket
+  found ← uids
+  one k.RBracket
+  empty (action.InList found)
+
+-- "in" ( "[" [ Uid { "," Uid } ] "]" | Uid )
+abbrev pub in_actions : Lang ActionTree
+in_actions = one k.In >> (uid_list or (uid giving action.In))
+
+-- [ "==" Uid | "in" Uid | "in" "[" [ Uid { "," Uid } ] "]" ]
+abbrev pub action_constraint : Lang ActionTree
+action_constraint = (equal_uid giving action.Equal) or in_actions or empty action.Any
+
+-- Action = "action" and its constraint
+abbrev pub action_part : Lang ActionTree
+action_part = one k.Action >> action_constraint
+
+-- Scope = Principal "," Action "," Resource
+abbrev pub scope : Lang ScopeTree
+scope = do
+  principal ← entity_part k.Principal
+  one k.Comma
+  action ← action_part
+  one k.Comma
+  resource ← entity_part k.Resource
+  empty (record { principal = principal; action = action; resource = resource })
+
+-- "when" | "unless"
+abbrev pub condition_word_of : TokenKind → Option ConditionWord
+condition_word_of k.When = Some When
+condition_word_of k.Unless = Some Unless
+condition_word_of _ = None
+
+abbrev pub condition_words : Kinds
+condition_words = known condition_word_of
+
+-- by the levels of nesting that an expression may have
+module _ (levels : ℕ) where
+  -- Condition = ("when" | "unless") "{" Expr "}"
+  abbrev pub condition : Lang Condition
+  condition = do
+    word ← symbol condition_word_of
+    one k.LBrace
+    x ← expr levels
+    one k.RBrace
+    empty (record { word = word; expression = x })
+
+  -- Policy = { Annotation } Effect "(" Scope ")" { Condition } ";"
+  abbrev pub policy : Lang PolicyTree
+  policy = do
+    annotations ← many annotation
+    effect ← of effects
+    one k.LParen
+    found ← scope
+    one k.RParen
+    conditions ← many condition
+    one k.Semicolon
+    empty (record {
+      annotations = annotations;
+      effect = effect;
+      principal = found.principal;
+      action = found.action;
+      resource = found.resource;
+      conditions = conditions;
+    })
+
+  -- a file: any number of policies
+  abbrev pub policies : Lang (List PolicyTree)
+  policies = many policy

@@ -1,0 +1,55 @@
+-- What a tree is made of: tokens of the text, each of the kind that its place asks for.
+use Rattle.std.specs.Prelude.{List, Option, Some, None}
+use Rattle.std.specs.List.{AllByRecursion}
+use Rattle.grammar_expressions.specs.grammar_tokens.declared.token.TokenKind.TheVariants as k
+use Rattle.grammar_expressions.specs.grammar_tokens.declared.token.Token.{Token}
+use Rattle.grammar_policies.specs.declared.tree.Annotation.{Annotation}
+use Rattle.grammar_policies.specs.declared.tree.PartTree.{PartTree}
+use Rattle.grammar_policies.specs.declared.tree.PartTree.TheVariants as part
+use Rattle.grammar_policies.specs.declared.tree.ActionTree.{ActionTree}
+use Rattle.grammar_policies.specs.declared.tree.ActionTree.TheVariants as action
+use Rattle.grammar_policies.specs.declared.tree.Condition.{Condition}
+use Rattle.grammar_policies.specs.declared.tree.PolicyTree.{PolicyTree}
+use Rattle.grammar_expressions.specs.grammar_tokens.Kinds.{only}
+use Rattle.grammar_expressions.specs.grammar_tokens.Lang.{Lang}
+pub use Rattle.grammar_expressions.specs.grammar_trees.WellFormed.{WellFormedToken, WellFormedPath, WellFormedUid}
+pub use Rattle.grammar_expressions.specs.grammar_trees.WellFormed.{WellFormedExpr}
+use Rattle.grammar_policies.specs.Grammar.{words, effects}
+
+abbrev pub WellFormedValue : List Token → Option Token → Type 0
+WellFormedValue ts None = Unit {0}
+WellFormedValue ts (Some t) = WellFormedToken (only k.Text) ts t
+
+abbrev pub WellFormedAnnotation : List Token → Annotation → Type 0
+WellFormedAnnotation ts a = WellFormedToken (only k.At) ts a.at × WellFormedToken words ts a.key
+    × WellFormedValue ts a.value
+
+abbrev pub WellFormedPart : List Token → PartTree → Type 0
+WellFormedPart ts part.Any = Unit {0}
+WellFormedPart ts (part.Equal u) = WellFormedUid ts u
+WellFormedPart ts (part.In u) = WellFormedUid ts u
+WellFormedPart ts (part.Is p) = WellFormedPath ts p
+WellFormedPart ts (part.IsIn p u) = WellFormedPath ts p × WellFormedUid ts u
+
+abbrev pub WellFormedAction : List Token → ActionTree → Type 0
+WellFormedAction ts action.Any = Unit {0}
+WellFormedAction ts (action.Equal u) = WellFormedUid ts u
+WellFormedAction ts (action.In u) = WellFormedUid ts u
+WellFormedAction ts (action.InList us) = AllByRecursion (WellFormedUid ts) us
+
+abbrev pub WellFormedCondition : List Token → Condition → Type 0
+WellFormedCondition ts c = WellFormedExpr ts c.expression
+
+pub record WellFormedPolicy (ts : List Token) (p : PolicyTree) : Type 0 where
+  pub annotations : AllByRecursion (WellFormedAnnotation ts) p.annotations
+  pub effect : WellFormedToken effects ts p.effect
+  pub principal : WellFormedPart ts p.principal
+  pub action : WellFormedAction ts p.action
+  pub resource : WellFormedPart ts p.resource
+  pub conditions : AllByRecursion (WellFormedCondition ts) p.conditions
+
+-- ## Laws
+
+-- What tokens derive is made of them.
+abbrev pub IsMadeOfTokens : {A : Type 0} → Lang A → (List Token → A → Type 0) → Type 0
+IsMadeOfTokens L Holds = (ts : List Token) (x : _) → L ts x → Holds ts x

@@ -1,0 +1,12 @@
+-- The kinds of each set of tokens that readers of policies ask for by name.
+use Rattle.grammar_expressions.specs.grammar_tokens.Kinds.{Kinds}
+use Rattle.grammar_policies.specs.declared.policy_sets.PolicySet.{PolicySet}
+use Rattle.grammar_policies.specs.declared.policy_sets.PolicySet.TheVariants as set
+use Rattle.grammar_policies.specs.Grammar.{words, effects, condition_words}
+use Rattle.grammar_policies.specs.inner.Parsing.{policy_firsts}
+
+abbrev pub included : PolicySet → Kinds
+included set.Words = words
+included set.Effects = effects
+included set.ConditionWords = condition_words
+included set.PolicyStarts = policy_firsts

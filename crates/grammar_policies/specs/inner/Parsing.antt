@@ -1,0 +1,161 @@
+-- How the grammar is read, from the left, by the next token.
+use Rattle.std.specs.Prelude.{ℕ, true, List, [], ◌∷◌, Option, None}
+use Rattle.grammar_expressions.specs.grammar_tokens.declared.token.TokenKind.{TokenKind}
+use Rattle.grammar_expressions.specs.grammar_tokens.declared.token.TokenKind.TheVariants as k
+use Rattle.grammar_expressions.specs.grammar_tokens.declared.token.Token.{Token}
+use Rattle.grammar_expressions.specs.grammar_tokens.declared.tree.UidTree.{UidTree}
+use Rattle.grammar_policies.specs.declared.tree.Annotation.{Annotation}
+use Rattle.grammar_policies.specs.declared.tree.PartTree.{PartTree}
+use Rattle.grammar_policies.specs.declared.tree.PartTree.TheVariants as part
+use Rattle.grammar_policies.specs.declared.tree.ActionTree.{ActionTree}
+use Rattle.grammar_policies.specs.declared.tree.ActionTree.TheVariants as action
+use Rattle.grammar_policies.specs.declared.tree.ScopeTree.{ScopeTree}
+use Rattle.grammar_policies.specs.declared.tree.Condition.{Condition}
+use Rattle.grammar_policies.specs.declared.tree.PolicyTree.{PolicyTree}
+use Rattle.grammar_expressions.specs.grammar_tokens.Kinds.{Kinds, only}
+use Rattle.grammar_expressions.specs.grammar_tokens.Reading.{Parser, take, token, pure, ◌>>=◌, ◌>>◌, either, optional}
+use Rattle.grammar_expressions.specs.grammar_tokens.Reading.{many}
+pub use Rattle.grammar_expressions.specs.grammar_tokens.Parsing.{path, uid}
+use Rattle.grammar_expressions.specs.ExpressionReading.{expr, symbol}
+use Rattle.grammar_policies.specs.Grammar.{identifiers, words, effects, is_in, condition_word_of, condition_words}
+
+-- ---- annotations
+
+unfoldable pub maybe_text : Parser (Option Token)
+maybe_text = optional (only k.Text) (token k.Text)
+
+unfoldable pub annotation_value : Parser (Option Token)
+annotation_value = do
+  token k.LParen
+  text ← maybe_text
+  token k.RParen
+  pure text
+
+unfoldable pub maybe_value : Parser (Option Token)
+maybe_value = either (only k.LParen) annotation_value (pure None)
+
+unfoldable pub annotation : Parser Annotation
+annotation = do
+  at ← token k.At
+  key ← take words
+  value ← maybe_value
+  pure (record { at = at; key = key; value = value })
+
+unfoldable pub annotations : Parser (List Annotation)
+annotations = many (only k.At) annotation
+
+-- ---- scopes
+
+unfoldable pub equal_uid : Parser UidTree
+equal_uid = token k.Equal >> uid
+
+unfoldable pub in_uid : Parser UidTree
+in_uid = token k.In >> uid
+
+unfoldable pub type_test : Parser PartTree
+type_test = do
+  token k.Is
+  type_name ← path
+  entity ← optional (only k.In) in_uid
+  pure (is_in type_name entity)
+
+unfoldable pub entity_constraint : Parser PartTree
+entity_constraint =
+    either (only k.Equal) (equal_uid >>= (λ entity. pure (part.Equal entity)))
+    (either (only k.In) (in_uid >>= (λ entity. pure (part.In entity)))
+    (either (only k.Is) type_test (pure part.Any)))
+
+unfoldable pub entity_part : TokenKind → Parser PartTree
+entity_part variable = token variable >> entity_constraint
+
+unfoldable pub comma_uid : Parser UidTree
+comma_uid = token k.Comma >> uid
+
+unfoldable pub rest_of_uids : UidTree → Parser (List UidTree)
+rest_of_uids first = many (only k.Comma) comma_uid >>= (λ more. pure (first ∷ more))
+
+unfoldable pub uids : Parser (List UidTree)
+uids = either identifiers (uid >>= rest_of_uids) (pure [])
+
+unfoldable pub uid_list : Parser ActionTree
+uid_list = do
+  token k.LBracket
+  found ← uids
+  token k.RBracket
+  pure (action.InList found)
+
+unfoldable pub list_or_uid : Parser ActionTree
+list_or_uid = either (only k.LBracket) uid_list (uid >>= (λ entity. pure (action.In entity)))
+
+unfoldable pub in_actions : Parser ActionTree
+in_actions = token k.In >> list_or_uid
+
+unfoldable pub action_constraint : Parser ActionTree
+action_constraint =
+    either (only k.Equal) (equal_uid >>= (λ entity. pure (action.Equal entity)))
+    (either (only k.In) in_actions (pure action.Any))
+
+unfoldable pub action_part : Parser ActionTree
+action_part = token k.Action >> action_constraint
+
+unfoldable pub scope : Parser ScopeTree
+scope = do
+  principal ← entity_part k.Principal
+  token k.Comma
+  action ← action_part
+  token k.Comma
+  resource ← entity_part k.Resource
+  pure (record { principal = principal; action = action; resource = resource })
+
+-- ---- policies
+
+-- what a policy begins with
+abbrev pub policy_firsts : Kinds
+policy_firsts k.At = true
+policy_firsts kind = effects kind
+
+module _ (levels : ℕ) where
+  unfoldable pub condition : Parser Condition
+  condition = do
+    word ← symbol condition_word_of
+    token k.LBrace
+    x ← expr levels
+    token k.RBrace
+    pure (record { word = word; expression = x })
+
+  unfoldable pub conditions : Parser (List Condition)
+  conditions = many condition_words condition
+
+  -- what stands behind the scope
+  unfoldable pub scope_tail : Parser (List Condition)
+  scope_tail = do
+    token k.RParen
+    cs ← conditions
+    token k.Semicolon
+    pure cs
+
+  -- the same, with what stands before it
+  unfoldable pub policy_of : List Annotation → Token → ScopeTree → Parser PolicyTree
+  policy_of notes effect found = do
+    token k.RParen
+    cs ← conditions
+    token k.Semicolon
+    pure (record {
+      annotations = notes;
+      effect = effect;
+      principal = found.principal;
+      action = found.action;
+      resource = found.resource;
+      conditions = cs;
+    })
+
+  unfoldable pub policy : Parser PolicyTree
+  policy = do
+    found_annotations ← annotations
+    effect ← take effects
+    token k.LParen
+    found ← scope
+    policy_of found_annotations effect found
+
+  unfoldable pub policies : Parser (List PolicyTree)
+  policies = many policy_firsts policy

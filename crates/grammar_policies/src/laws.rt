@@ -1,0 +1,29 @@
+//! Laws of the definitions.
+ghost use Rattle.std.specs.List.{AllByRecursion};
+ghost use Rattle.grammar_policies.specs.Grammar.{policy, policies, uid};
+ghost use Rattle.grammar_policies.specs.WellFormed.{IsMadeOfTokens, WellFormedPolicy, WellFormedUid};
+ghost use Rattle.grammar_expressions.specs.Expressions.{nesting_limit};
+ghost use Rattle.grammar_expressions.specs.grammar_tokens.Lang.{at_any};
+ghost use Rattle.grammar_expressions.specs.grammar_tokens.Reads.{HasOneTree, HasOneAnswer, HasOneAnswerWithin};
+ghost use Rattle.grammar_expressions.specs.grammar_tokens.Reads.{OpensNextLevel};
+
+/// Proves that a list of tokens comes to one tree or one refusal, and that a token which is too deep opens the first
+/// level past the limit: it does nothing, and its clauses are laws of the definitions.
+pub fn reading_is_unique()
+    ensures one_policy { HasOneTree (policy nesting_limit) }
+    ensures one_list { HasOneTree (policies nesting_limit) }
+    ensures one_uid { HasOneTree uid }
+    ensures policy_answer { HasOneAnswerWithin (policy nesting_limit) (at_any policy) }
+    ensures list_answer { HasOneAnswerWithin (policies nesting_limit) (at_any policies) }
+    ensures uid_answer { HasOneAnswer uid }
+    ensures policy_too_deep { OpensNextLevel policy nesting_limit }
+    ensures list_too_deep { OpensNextLevel policies nesting_limit }
+{}
+
+/// Proves that a tree is made of the tokens that derive it, each of a kind that its place asks for: it does nothing,
+/// and its clauses are laws of the definitions.
+pub fn trees_stand_in_tokens()
+    ensures policy { IsMadeOfTokens (policy nesting_limit) WellFormedPolicy }
+    ensures list { IsMadeOfTokens (policies nesting_limit) (λ ts. AllByRecursion (WellFormedPolicy ts)) }
+    ensures uid { IsMadeOfTokens uid WellFormedUid }
+{}

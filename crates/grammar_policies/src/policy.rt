@@ -1,0 +1,150 @@
+//! Annotations and policies.
+
+ghost use Rattle.std.specs.Prelude.{◌≡◌, IfErr};
+ghost use Rattle.grammar_expressions.specs.grammar_tokens.ParsesTo.{ParsesTo};
+ghost use Rattle.grammar_expressions.specs.grammar_tokens.declared.fault.Halt.TheVariants as halt;
+ghost use Rattle.grammar_expressions.specs.Expressions.{nesting_limit};
+ghost use Rattle.grammar_policies.specs.inner.Parsing as spec;
+
+use crate::policy_sets::PolicySet;
+use crate::scope::scope;
+use crate::tree::{Annotation, Condition, ConditionWord, PolicyTree, ScopeTree};
+use grammar_expressions::{
+    Cursor, Halt, NESTING_LIMIT, Token, TokenKind, expr, read_many, take_symbol,
+};
+use plain::{Items, beside};
+use std::alloc::Global;
+
+#[tactic(auto, unfolding(crate::specs::inner::Parsing::maybe_text))]
+fn maybe_text(tokens: &mut Cursor<'_>) -> Result<Option<Token>, Halt>
+    ensures reads { ParsesTo (spec.maybe_text tokens.old.rest.now) result tokens.new.rest.now }
+    ensures only { IfErr result (λ why. why ≡ halt.Unexpected) }
+{
+    if !tokens.sees(TokenKind::Text) {
+        return Ok(None);
+    }
+    let text = tokens.take(TokenKind::Text)?;
+    Ok(Some(text))
+}
+
+/// "(" [ String ] ")"
+#[tactic(auto, unfolding(crate::specs::inner::Parsing::annotation_value))]
+fn annotation_value(tokens: &mut Cursor<'_>) -> Result<Option<Token>, Halt>
+    ensures reads { ParsesTo (spec.annotation_value tokens.old.rest.now) result tokens.new.rest.now }
+    ensures only { IfErr result (λ why. why ≡ halt.Unexpected) }
+{
+    tokens.take(TokenKind::LParen)?;
+    let text = maybe_text(tokens)?;
+    tokens.take(TokenKind::RParen)?;
+    Ok(text)
+}
+
+#[tactic(auto, unfolding(crate::specs::inner::Parsing::maybe_value))]
+fn maybe_value(tokens: &mut Cursor<'_>) -> Result<Option<Token>, Halt>
+    ensures reads { ParsesTo (spec.maybe_value tokens.old.rest.now) result tokens.new.rest.now }
+    ensures only { IfErr result (λ why. why ≡ halt.Unexpected) }
+{
+    if !tokens.sees(TokenKind::LParen) {
+        return Ok(None);
+    }
+    annotation_value(tokens)
+}
+
+/// Annotation = "@" (Ident | Reserved) [ "(" [ String ] ")" ]
+#[tactic(auto, unfolding(crate::specs::inner::Parsing::annotation))]
+fn annotation(tokens: &mut Cursor<'_>) -> Result<Annotation, Halt>
+    ensures reads { ParsesTo (spec.annotation tokens.old.rest.now) result tokens.new.rest.now }
+    ensures only { IfErr result (λ why. why ≡ halt.Unexpected) }
+{
+    let at = tokens.take(TokenKind::At)?;
+    let key = tokens.take_one_of(PolicySet::Words)?;
+    let value = maybe_value(tokens)?;
+    Ok(Annotation { at, key, value })
+}
+
+#[tactic(auto, unfolding(crate::specs::inner::Parsing::annotations))]
+fn annotations(alloc: Global, tokens: &mut Cursor<'_>) -> Result<Items<Annotation>, Halt>
+    ensures { ParsesTo (spec.annotations tokens.old.rest.now) result tokens.new.rest.now }
+{
+    read_many(alloc, tokens, TokenKind::At, annotation)
+}
+
+/// ("when" | "unless") "{" Expr "}"
+#[tactic(auto, unfolding(crate::specs::inner::Parsing::condition))]
+fn condition(alloc: Global, tokens: &mut Cursor<'_>) -> Result<Condition, Halt>
+    ensures { ParsesTo (spec.condition nesting_limit tokens.old.rest.now) result tokens.new.rest.now }
+{
+    let word = take_symbol::<ConditionWord>(tokens)?;
+    tokens.take(TokenKind::LBrace)?;
+    let expression = expr(alloc, tokens, NESTING_LIMIT)?;
+    let (expression, _closed) = beside(expression, tokens.take(TokenKind::RBrace))?;
+    Ok(Condition { word, expression })
+}
+
+#[tactic(auto, unfolding(crate::specs::inner::Parsing::conditions))]
+fn conditions(alloc: Global, tokens: &mut Cursor<'_>) -> Result<Items<Condition>, Halt>
+    ensures { ParsesTo (spec.conditions nesting_limit tokens.old.rest.now) result tokens.new.rest.now }
+{
+    read_many(alloc, tokens, PolicySet::ConditionWords, |tokens| {
+        condition(alloc, tokens)
+    })
+}
+
+/// ")" { Condition } ";"
+#[tactic(auto, unfolding(crate::specs::inner::Parsing::scope_tail))]
+fn scope_tail(alloc: Global, tokens: &mut Cursor<'_>) -> Result<Items<Condition>, Halt>
+    ensures { ParsesTo (spec.scope_tail nesting_limit tokens.old.rest.now) result tokens.new.rest.now }
+{
+    tokens.take(TokenKind::RParen)?;
+    let conditions = conditions(alloc, tokens)?;
+    let (conditions, _ended) = beside(conditions, tokens.take(TokenKind::Semicolon))?;
+    Ok(conditions)
+}
+
+/// Returns what stands behind a policy's scope, with what stands before.
+#[tactic(auto, using(crate::proofs::ScopeTail::tail_then))]
+fn policy_of(
+    alloc: Global,
+    tokens: &mut Cursor<'_>,
+    annotations: Items<Annotation>,
+    effect: Token,
+    found: ScopeTree,
+) -> Result<PolicyTree, Halt>
+    ensures { ParsesTo (spec.policy_of nesting_limit annotations effect found tokens.old.rest.now)
+        result tokens.new.rest.now }
+{
+    let ((annotations, found), conditions) = beside(
+        (annotations, found),
+        scope_tail(alloc, tokens),
+    )?;
+    Ok(PolicyTree {
+        annotations,
+        effect,
+        principal: found.principal,
+        action: found.action,
+        resource: found.resource,
+        conditions,
+    })
+}
+
+/// Policy = { Annotation } Effect "(" Scope ")" { Condition } ";"
+#[tactic(auto, unfolding(crate::specs::inner::Parsing::policy))]
+pub(crate) fn policy(alloc: Global, tokens: &mut Cursor<'_>) -> Result<PolicyTree, Halt>
+    ensures { ParsesTo (spec.policy nesting_limit tokens.old.rest.now) result tokens.new.rest.now }
+{
+    let annotations = annotations(alloc, tokens)?;
+    let effect = tokens.take_one_of(PolicySet::Effects)?;
+    tokens.take(TokenKind::LParen)?;
+    let found = scope(alloc, tokens)?;
+    policy_of(alloc, tokens, annotations, effect, found)
+}
+
+/// Returns a file: any number of policies.
+#[tactic(auto, unfolding(crate::specs::inner::Parsing::policies))]
+pub(crate) fn policies(alloc: Global, tokens: &mut Cursor<'_>) -> Result<Items<PolicyTree>, Halt>
+    ensures { ParsesTo (spec.policies nesting_limit tokens.old.rest.now) result tokens.new.rest.now }
+{
+    read_many(alloc, tokens, PolicySet::PolicyStarts, |tokens| {
+        policy(alloc, tokens)
+    })
+}

@@ -1,0 +1,48 @@
+//! Whole lists of tokens.
+
+ghost use Rattle.std.specs.Prelude.{IfOk};
+ghost use Rattle.std.specs.List.{AllByRecursion};
+ghost use Rattle.grammar_expressions.specs.Expressions.{nesting_limit};
+ghost use Rattle.grammar_expressions.specs.grammar_tokens.Lang.{at_any};
+ghost use Rattle.grammar_expressions.specs.grammar_tokens.Reads.{Reads, ReadsWithin, with_items};
+ghost use Rattle.grammar_policies.specs.Grammar as grammar;
+ghost use Rattle.grammar_policies.specs.WellFormed.{WellFormedPolicy, WellFormedUid};
+
+use crate::policy::{policies, policy};
+use crate::tree::PolicyTree;
+use grammar_expressions::{Cursor, SyntaxFault, Token, UidTree, read_to_end, uid};
+use std::alloc::Global;
+
+/// Returns the policy that the tokens are, or the first token with which no policy goes on.
+pub fn read_policy(alloc: Global, tokens: &[Token]) -> Result<PolicyTree, SyntaxFault>
+    ensures reads { ReadsWithin (grammar.policy nesting_limit) (at_any grammar.policy) tokens.now result }
+    ensures stands { IfOk result (WellFormedPolicy tokens.now) }
+{
+    let mut cursor = Cursor { rest: tokens };
+    let read = policy(alloc, &mut cursor);
+    read_to_end(tokens, &cursor, read)
+}
+
+/// Returns the policies that the tokens are, in their order, or the first token with which no list of policies goes on.
+/// Takes time and memory in proportion to the tokens.
+pub fn read_policies(alloc: Global, tokens: &[Token]) -> Result<Vec<PolicyTree>, SyntaxFault>
+    ensures reads { ReadsWithin (grammar.policies nesting_limit) (at_any grammar.policies)
+        tokens.now (with_items result) }
+    ensures stands { IfOk result (λ found. AllByRecursion (WellFormedPolicy tokens.now) found.items) }
+{
+    let mut cursor = Cursor { rest: tokens };
+    let read = policies(alloc, &mut cursor);
+    let trees = read_to_end(tokens, &cursor, read)?;
+    let found = trees.into_vec();
+    Ok(found)
+}
+
+/// Returns the uid that the tokens are, or the first token with which no uid goes on.
+pub fn read_uid(alloc: Global, tokens: &[Token]) -> Result<UidTree, SyntaxFault>
+    ensures reads { Reads grammar.uid tokens.now result }
+    ensures stands { IfOk result (WellFormedUid tokens.now) }
+{
+    let mut cursor = Cursor { rest: tokens };
+    let read = uid(alloc, &mut cursor);
+    read_to_end(tokens, &cursor, read)
+}

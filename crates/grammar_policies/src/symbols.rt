@@ -1,0 +1,18 @@
+//! Tokens that stand for something by their kind alone.
+
+ghost use Rattle.grammar_policies.specs.Grammar.{condition_word_of};
+
+use crate::tree::ConditionWord;
+use grammar_expressions::{Symbol, TokenKind};
+
+impl Symbol for ConditionWord {
+    ghost meaning = { condition_word_of };
+
+    fn of(kind: TokenKind) -> Option<ConditionWord> {
+        match kind {
+            TokenKind::When => Some(ConditionWord::When),
+            TokenKind::Unless => Some(ConditionWord::Unless),
+            _ => None,
+        }
+    }
+}

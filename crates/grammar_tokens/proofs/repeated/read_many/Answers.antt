@@ -1,0 +1,19 @@
+use Rattle.std.proofs.Common.{[], sym, ap, ◌∙◌, ◌≡◌, List, Result}
+use Rattle.grammar_tokens.specs.Kinds.{Kinds}
+use Rattle.grammar_tokens.specs.declared.fault.Halt.{Halt}
+use Rattle.grammar_tokens.specs.declared.token.Token.{Token}
+use Rattle.grammar_tokens.specs.ParsesTo.{ParsesTo}
+use Rattle.grammar_tokens.specs.Reading.{Parser, many}
+use Rattle.grammar_tokens.specs.Repeats.{many_onto}
+use Rattle.grammar_tokens.proofs.Gathered.{as_read, instead}
+use Rattle.grammar_tokens.proofs.repeated.read_many.Goals as goal
+
+after_none : {A : Type 0} (ks : Kinds) (p : Parser A) (ts rest : List Token) (none : List A) (r : Result (List A) Halt)
+    → none ≡ [] → ParsesTo (many_onto none ks p ts) r rest → ParsesTo (many ks p ts) r rest
+after_none ks p ts rest none r empty =
+    instead (many ks p ts) (many_onto none ks p ts) r rest (as_read (many ks p ts) ∙ ap (λ found. many_onto found ks p ts) (sym empty))
+
+pub returns : goal.returns
+returns g c = λ p reads.
+    after_none (g.S.KindSet.included c.args.set) p c.args.tokens.now.rest.now c.read_on.new.tokens.rest.now c.new.result
+    c.read_on.result c.new.ensures (c.read_on.ensures p reads)

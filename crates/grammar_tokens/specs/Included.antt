@@ -1,0 +1,12 @@
+-- The kinds of each set of tokens that readers of names ask for.
+use Rattle.grammar_tokens.specs.declared.kind_sets.NameSet.{NameSet}
+use Rattle.grammar_tokens.specs.declared.kind_sets.NameSet.TheVariants as set
+use Rattle.grammar_tokens.specs.Kinds.{Kinds}
+use Rattle.grammar_tokens.specs.Grammar.{identifiers}
+use Rattle.grammar_tokens.specs.Reads.{is_slot}
+use Rattle.grammar_tokens.specs.Parsing.{pieces}
+
+abbrev pub included : NameSet → Kinds
+included set.Identifiers = identifiers
+included set.Pieces = pieces
+included set.Slots = is_slot

@@ -1,0 +1,14 @@
+pub mod Idents
+pub mod Lexing
+pub mod Strings
+pub mod inner
+pub mod Kinds
+pub mod Lang
+pub mod Grammar
+pub mod Reads
+pub mod Reading
+pub mod Parsing
+pub mod ParsesTo
+pub mod WellFormed
+pub mod Included
+pub mod Repeats

@@ -1,0 +1,77 @@
+//! Tokens one after the other.
+
+ghost use Rattle.std.specs.Prelude.{◌≡◌, IfErr, length};
+ghost use Rattle.grammar_tokens.specs.ParsesTo.{ParsesTo};
+ghost use Rattle.grammar_tokens.specs.Kinds as spec;
+ghost use Rattle.grammar_tokens.specs.Reading as reading;
+ghost use Rattle.grammar_tokens.specs.Reads as reads;
+ghost use Rattle.grammar_tokens.specs.declared.fault.Halt.TheVariants as halt;
+
+use crate::fault::Halt;
+use crate::kind_sets::{KindSet, same_kind};
+use crate::token::{Token, TokenKind};
+
+/// The tokens that are left.
+#[derive(Drop)]
+pub struct Cursor<'a> {
+    pub rest: &'a [Token],
+}
+
+impl<'a> Cursor<'a> {
+    /// Returns how many tokens are left.
+    pub fn left(&self) -> usize
+        ensures { result ≡ length self.now.rest.now }
+    {
+        self.rest.len()
+    }
+
+    /// Returns whether the next token is of this kind.
+    pub fn sees(&self, kind: TokenKind) -> bool
+        ensures { result ≡ reads.sees (spec.only kind) self.now.rest.now }
+    {
+        match self.rest {
+            [token, ..] => same_kind(token.kind, kind),
+            [] => false,
+        }
+    }
+
+    /// Returns whether the next token is of one of these kinds.
+    pub fn sees_one_of<S: KindSet>(&self, set: S) -> bool
+        ensures { result ≡ reads.sees (S.included set) self.now.rest.now }
+    {
+        match self.rest {
+            [token, ..] => set.includes(token.kind),
+            [] => false,
+        }
+    }
+
+    /// Returns the next token, which has to be of this kind; else none is taken.
+    #[tactic(auto, unfolding(crate::specs::Reading::take))]
+    pub fn take(&mut self, kind: TokenKind) -> Result<Token, Halt>
+        ensures reads { ParsesTo (reading.token kind self.old.rest.now) result self.new.rest.now }
+        ensures only { IfErr result (λ why. why ≡ halt.Unexpected) }
+    {
+        match self.rest {
+            [token, rest @ ..] if same_kind(token.kind, kind) => {
+                self.rest = rest;
+                Ok(*token)
+            }
+            _ => Err(Halt::Unexpected),
+        }
+    }
+
+    /// Returns the next token, which has to be of one of these kinds; else none is taken.
+    #[tactic(auto, unfolding(crate::specs::Reading::take))]
+    pub fn take_one_of<S: KindSet>(&mut self, set: S) -> Result<Token, Halt>
+        ensures reads { ParsesTo (reading.take (S.included set) self.old.rest.now) result self.new.rest.now }
+        ensures only { IfErr result (λ why. why ≡ halt.Unexpected) }
+    {
+        match self.rest {
+            [token, rest @ ..] if set.includes(token.kind) => {
+                self.rest = rest;
+                Ok(*token)
+            }
+            _ => Err(Halt::Unexpected),
+        }
+    }
+}

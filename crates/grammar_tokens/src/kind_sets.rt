@@ -1,0 +1,57 @@
+//! Sets of kinds of tokens, by what they are to a reader.
+
+ghost use Rattle.std.specs.Prelude.{◌≡◌};
+ghost use Rattle.grammar_tokens.specs.Included.{included as of_names};
+ghost use Rattle.grammar_tokens.specs.Kinds.{Kinds, only, same_kind};
+
+use crate::token::TokenKind;
+
+/// A set of kinds of tokens that readers ask for by name.
+pub trait KindSet: Copy {
+    ghost included: { Self → Kinds };
+
+    /// Returns whether tokens of this kind are in the set.
+    fn includes(self, kind: TokenKind) -> bool
+        ensures { result ≡ included self kind };
+}
+
+pub(crate) fn same_kind(a: TokenKind, b: TokenKind) -> bool
+    ensures { result ≡ same_kind a b }
+{
+    a == b
+}
+
+/// One kind alone.
+impl KindSet for TokenKind {
+    ghost included = { only };
+
+    fn includes(self, kind: TokenKind) -> bool {
+        same_kind(kind, self)
+    }
+}
+
+/// What readers of names ask for.
+#[derive(Clone, Copy)]
+pub enum NameSet {
+    /// Words that are not reserved.
+    Identifiers,
+    /// What stands behind a `::`: an identifier or a quoted text.
+    Pieces,
+    /// `?principal` and `?resource`.
+    Slots,
+}
+
+impl KindSet for NameSet {
+    ghost included = { of_names };
+
+    fn includes(self, kind: TokenKind) -> bool {
+        match self {
+            NameSet::Identifiers => kind.is_ident(),
+            NameSet::Pieces => match kind {
+                TokenKind::Text => true,
+                _ => kind.is_ident(),
+            },
+            NameSet::Slots => matches!(kind, TokenKind::PrincipalSlot | TokenKind::ResourceSlot),
+        }
+    }
+}

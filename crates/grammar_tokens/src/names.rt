@@ -1,0 +1,99 @@
+//! Paths and uids.
+
+ghost use Rattle.std.specs.Prelude.{◌≡◌, IfErr};
+ghost use Rattle.grammar_tokens.specs.ParsesTo.{ParsesTo};
+ghost use Rattle.grammar_tokens.specs.Grammar as grammar;
+ghost use Rattle.grammar_tokens.specs.Parsing as spec;
+ghost use Rattle.grammar_tokens.specs.Reads.{ReadsFront};
+ghost use Rattle.grammar_tokens.specs.declared.fault.Halt.TheVariants as halt;
+
+use crate::cursor::Cursor;
+use crate::fault::Halt;
+use crate::kind_sets::NameSet;
+use crate::repeated::read_many;
+use crate::token::{Token, TokenKind};
+use crate::tree::{Name, PathTree, UidTree};
+use plain::Items;
+use std::alloc::Global;
+
+#[tactic(auto, unfolding(crate::specs::Parsing::path_word))]
+fn path_word(tokens: &mut Cursor<'_>) -> Result<Token, Halt>
+    ensures reads { ParsesTo (spec.path_word tokens.old.rest.now) result tokens.new.rest.now }
+    ensures only { IfErr result (λ why. why ≡ halt.Unexpected) }
+{
+    tokens.take(TokenKind::Colons)?;
+    tokens.take_one_of(NameSet::Identifiers)
+}
+
+#[tactic(auto, unfolding(crate::specs::Parsing::rest_of_path))]
+fn rest_of_path(alloc: Global, tokens: &mut Cursor<'_>, first: Token) -> Result<PathTree, Halt>
+    ensures { ParsesTo (spec.rest_of_path first tokens.old.rest.now) result tokens.new.rest.now }
+{
+    let more = read_many(alloc, tokens, TokenKind::Colons, path_word)?;
+    Ok(PathTree { first, more })
+}
+
+/// Path = Ident { "::" Ident }, from the front of the tokens and as many of them as it takes. The
+/// tokens that are left afterwards begin behind it, or with the one at which reading halts.
+#[tactic(auto, unfolding(crate::specs::Parsing::path))]
+pub fn path(alloc: Global, tokens: &mut Cursor<'_>) -> Result<PathTree, Halt>
+    ensures reads { ReadsFront grammar.path tokens.old.rest.now result tokens.new.rest.now }
+    ensures steps { ParsesTo (spec.path tokens.old.rest.now) result tokens.new.rest.now }
+{
+    let first = tokens.take_one_of(NameSet::Identifiers)?;
+    rest_of_path(alloc, tokens, first)
+}
+
+#[tactic(auto, unfolding(crate::specs::Parsing::piece))]
+fn piece(tokens: &mut Cursor<'_>) -> Result<Token, Halt>
+    ensures reads { ParsesTo (spec.piece tokens.old.rest.now) result tokens.new.rest.now }
+    ensures only { IfErr result (λ why. why ≡ halt.Unexpected) }
+{
+    tokens.take(TokenKind::Colons)?;
+    tokens.take_one_of(NameSet::Pieces)
+}
+
+fn rest_of_uid(alloc: Global, tokens: &mut Cursor<'_>, first: Token) -> Result<UidTree, Halt>
+    ensures { ParsesTo (spec.rest_of_uid first tokens.old.rest.now) result tokens.new.rest.now }
+{
+    let mut more = Items::new(alloc);
+    for _turn in 0..tokens.left() {
+        let next = piece(tokens)?;
+        if next.kind == TokenKind::Text {
+            let path = PathTree { first, more };
+            return Ok(UidTree { path, id: next });
+        }
+        more.push(next)?;
+    }
+    Err(Halt::Unexpected)
+}
+
+/// Uid = Path "::" String, from the front of the tokens. The tokens that are left afterwards begin
+/// behind it, or with the one at which reading halts.
+#[tactic(auto, unfolding(crate::specs::Parsing::uid))]
+pub fn uid(alloc: Global, tokens: &mut Cursor<'_>) -> Result<UidTree, Halt>
+    ensures reads { ReadsFront grammar.uid tokens.old.rest.now result tokens.new.rest.now }
+    ensures steps { ParsesTo (spec.uid tokens.old.rest.now) result tokens.new.rest.now }
+{
+    let first = tokens.take_one_of(NameSet::Identifiers)?;
+    rest_of_uid(alloc, tokens, first)
+}
+
+/// Returns what stands behind a first identifier makes a Path of it, or a Uid where a String comes.
+pub fn rest_of_name(alloc: Global, tokens: &mut Cursor<'_>, first: Token) -> Result<Name, Halt>
+    ensures { ParsesTo (spec.rest_of_name first tokens.old.rest.now) result tokens.new.rest.now }
+{
+    let mut more = Items::new(alloc);
+    for _turn in 0..tokens.left() {
+        if !tokens.sees(TokenKind::Colons) {
+            return Ok(Name::Path(PathTree { first, more }));
+        }
+        let next = piece(tokens)?;
+        if next.kind == TokenKind::Text {
+            let path = PathTree { first, more };
+            return Ok(Name::Uid(UidTree { path, id: next }));
+        }
+        more.push(next)?;
+    }
+    Ok(Name::Path(PathTree { first, more }))
+}

@@ -1,0 +1,173 @@
+//! Quoted texts and their escapes.
+ghost use Rattle.std.specs.Prelude.{◌≡◌, ◌<◌, ◌≤◌, ◌∷◌, List, ℕ, length};
+ghost use Rattle.std.specs.Option.{SomeIff};
+ghost use Rattle.std.specs.Char.{digit_value};
+ghost use Rattle.plain.specs.Words.{AllAre, run};
+ghost use Rattle.grammar_tokens.specs.Lexing.{quote, backslash, escaped, is_hex, hex_after};
+ghost use Rattle.grammar_tokens.specs.inner.Reading.{kind_with, ReportsEscape, ReportsToken};
+
+use crate::piece::{Escape, Piece};
+use crate::token::{Found, TokenKind};
+
+/// Returns what a letter or mark after a backslash stands for.
+fn letter_meant(byte: u8) -> Option<char>
+    ensures { result ≡ escaped byte }
+{
+    match byte {
+        b'n' => Some('\n'),
+        b'r' => Some('\r'),
+        b't' => Some('\t'),
+        b'\\' => Some('\\'),
+        b'0' => Some('\0'),
+        b'\'' => Some('\''),
+        b'"' => Some('"'),
+        _ => None,
+    }
+}
+
+/// Returns whether this is a hexadecimal digit.
+#[tactic(auto, unfolding(crate::specs::Lexing::is_hex))]
+fn hex(byte: u8) -> bool
+    ensures { result ≡ is_hex byte }
+{
+    (byte as char).to_digit(16).is_some()
+}
+
+/// Returns how many hexadecimal digits come first.
+fn hex_len(text: &[u8]) -> usize
+    ensures is { result ≡ run is_hex text.now }
+    ensures within { result ≤ length text.now }
+{
+    let mut len = 0;
+    for byte in text {
+        if !hex(*byte) {
+            return len;
+        }
+        len += 1;
+    }
+    len
+}
+
+/// Returns the value of a hexadecimal digit.
+#[tactic(auto, unfolding(crate::specs::Lexing::is_hex))]
+fn hex_value(byte: u8) -> Option<u32>
+    ensures { SomeIff result (digit_value byte < 16) (digit_value byte) }
+{
+    (byte as char).to_digit(16)
+}
+
+/// Returns the escape that two hexadecimal digits up to 7F make after `\x`.
+fn short_escape(text: &[u8]) -> Option<Escape>
+    ensures { ReportsEscape (backslash ∷ 120 ∷ text.now) result }
+{
+    let (high, rest) = text.split_first()?;
+    let (low, _) = rest.split_first()?;
+    let high = hex_value(*high)?;
+    if high > 7 {
+        return None;
+    }
+    let low = hex_value(*low)?;
+    Some(Escape {
+        piece: Piece::Char((high * 16 + low) as u8 as char),
+        len: 4,
+    })
+}
+
+/// Returns the number that up to six hexadecimal digits write.
+fn hex_number(digits: &[u8]) -> u32
+    requires hex { AllAre is_hex digits.now }
+    requires few { length digits.now ≤ 6 }
+    ensures { result ≡ hex_after 0 digits.now }
+{
+    let mut number = 0;
+    for digit in digits {
+        number = number * 16 + hex_value(*digit).unwrap();
+    }
+    number
+}
+
+/// Returns the escape that hexadecimal digits in braces make after `\u`.
+fn long_escape(text: &[u8]) -> Option<Escape>
+    ensures { ReportsEscape (backslash ∷ 117 ∷ text.now) result }
+{
+    let (brace, rest) = text.split_first()?;
+    if *brace != b'{' {
+        return None;
+    }
+    let len = hex_len(rest);
+    if len == 0 {
+        return None;
+    }
+    if len > 6 {
+        return None;
+    }
+    if len >= rest.len() {
+        return None;
+    }
+    if rest[len] != b'}' {
+        return None;
+    }
+    let Some(c) = char::from_u32(hex_number(&rest[..len])) else {
+        return None;
+    };
+    Some(Escape {
+        piece: Piece::Char(c),
+        len: len + 4,
+    })
+}
+
+/// Returns the escape that a text begins with, at a backslash.
+pub(crate) fn escape(text: &[u8]) -> Option<Escape>
+    requires { (rest : List ℕ) × (text.now ≡ backslash ∷ rest) }
+    ensures { ReportsEscape text.now result }
+{
+    let (_, rest) = text.split_first()?;
+    let (letter, rest) = rest.split_first()?;
+    match *letter {
+        b'*' => Some(Escape {
+            piece: Piece::Star,
+            len: 2,
+        }),
+        b'x' => short_escape(rest),
+        b'u' => long_escape(rest),
+        other => Some(Escape {
+            piece: Piece::Char(letter_meant(other)?),
+            len: 2,
+        }),
+    }
+}
+
+/// Returns the kind of a quoted text that goes on with this piece.
+fn kind_with(kind: TokenKind, piece: Piece) -> TokenKind
+    ensures { result ≡ kind_with kind piece }
+{
+    match piece {
+        Piece::Star => TokenKind::StarText,
+        _ => kind,
+    }
+}
+
+/// Returns the quoted text that a text begins with, at a quote.
+pub(crate) fn quoted(text: &[u8]) -> Option<Found>
+    requires { (rest : List ℕ) × (text.now ≡ quote ∷ rest) }
+    ensures { ReportsToken text.now result }
+{
+    let mut kind = TokenKind::Text;
+    let mut at = 1;
+    while at < text.len() {
+        let byte = text[at];
+        if byte == b'"' {
+            return Some(Found { kind, len: at + 1 });
+        }
+        if byte == b'\\' {
+            let Some(escape) = escape(&text[at..]) else {
+                return None;
+            };
+            kind = kind_with(kind, escape.piece);
+            at += escape.len;
+        } else {
+            at += 1;
+        }
+    }
+    None
+}

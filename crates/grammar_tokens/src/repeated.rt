@@ -1,0 +1,65 @@
+//! Pieces of one form, one after the other.
+
+ghost use Rattle.grammar_tokens.specs.ParsesTo.{ParsesTo};
+ghost use Rattle.grammar_tokens.specs.Reading.{Parser, many};
+ghost use Rattle.grammar_tokens.specs.Repeats.{CallsRead, many_onto, many_after};
+
+use crate::cursor::Cursor;
+use crate::fault::Halt;
+use crate::kind_sets::KindSet;
+use plain::Items;
+use std::alloc::Global;
+
+/// These pieces, and behind them as many as begin with a token of the set; the first halt of a call, or `NoMemory`.
+fn read_on<T: Drop, S: KindSet, F: Fn(&mut Cursor<'_>) -> Result<T, Halt>>(
+    mut found: Items<T>,
+    tokens: &mut Cursor<'_>,
+    set: S,
+    read: F,
+) -> Result<Items<T>, Halt>
+    requires { F.IsAlwaysCallable read }
+    ensures { (p : Parser T) → CallsRead p (F.post read)
+        → ParsesTo (many_onto found (S.included set) p tokens.old.rest.now) result tokens.new.rest.now }
+{
+    for _turn in 0..tokens.left() {
+        if !tokens.sees_one_of(set) {
+            return Ok(found);
+        }
+        let next = read(tokens)?;
+        found.push(next)?;
+    }
+    Ok(found)
+}
+
+/// Pieces, as long as a token of the set comes next. Each is read by a call. Answers with the first halt of such a
+/// call, or with `NoMemory` where a piece finds no room.
+pub fn read_many<T: Drop, S: KindSet, F: Fn(&mut Cursor<'_>) -> Result<T, Halt>>(
+    alloc: Global,
+    tokens: &mut Cursor<'_>,
+    set: S,
+    read: F,
+) -> Result<Items<T>, Halt>
+    requires { F.IsAlwaysCallable read }
+    ensures { (p : Parser T) → CallsRead p (F.post read)
+        → ParsesTo (many (S.included set) p tokens.old.rest.now) result tokens.new.rest.now }
+{
+    read_on(Items::new(alloc), tokens, set, read)
+}
+
+/// Returns a first piece, and behind it more, as long as a token of the set comes next. Each of these is read by a
+/// call. Answers with the first halt of such a call, or with `NoMemory` where a piece, the first too, finds no room.
+pub fn read_more<T: Drop, S: KindSet, F: Fn(&mut Cursor<'_>) -> Result<T, Halt>>(
+    alloc: Global,
+    tokens: &mut Cursor<'_>,
+    first: T,
+    set: S,
+    read: F,
+) -> Result<Items<T>, Halt>
+    requires { F.IsAlwaysCallable read }
+    ensures { (p : Parser T) → CallsRead p (F.post read)
+        → ParsesTo (many_after first (S.included set) p tokens.old.rest.now) result tokens.new.rest.now }
+{
+    let mut found = Items::new(alloc);
+    found.push(first)?;
+    read_on(found, tokens, set, read)
+}

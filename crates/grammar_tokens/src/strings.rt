@@ -1,0 +1,121 @@
+//! What strings stand for.
+ghost use Rattle.std.specs.Prelude.{◌≡◌, ◌≤◌, List, IfOk, length, true};
+ghost use Rattle.grammar_tokens.specs.Lexing.{IsSpelledIn, spelling_of, IsBody};
+ghost use Rattle.plain.specs.Words.{run};
+ghost use Rattle.grammar_tokens.specs.inner.Reading.{is_plain, character_of, IsLiteral};
+ghost use Rattle.grammar_tokens.specs.Strings.{is_string, IsStringOf, IsPatternOf};
+ghost use Rattle.grammar_tokens.specs.declared.piece.Piece.{Piece};
+
+use crate::piece::Piece;
+use crate::quoted::escape;
+use crate::token::{Token, TokenKind};
+use crate::written::body;
+use plain::{NoMemory, Text};
+use std::alloc::Global;
+
+/// What the front of a string's body stands for, and its number of bytes.
+#[derive(Drop)]
+struct Literal {
+    value: Text,
+    len: usize,
+}
+
+/// Returns whether a byte between quotes stands for itself; in a pattern a star doesn't.
+#[tactic(auto, unfolding(crate::specs::inner::Reading::is_plain))]
+fn plain_byte(in_pattern: bool, byte: u8) -> bool
+    ensures { result ≡ is_plain in_pattern byte }
+{
+    !(byte == b'\\' || (in_pattern && byte == b'*'))
+}
+
+/// Returns how many bytes that stand for themselves come first.
+fn plain_len(in_pattern: bool, text: &[u8]) -> usize
+    ensures is { result ≡ run (is_plain in_pattern) text.now }
+    ensures within { result ≤ length text.now }
+{
+    let mut len = 0;
+    for byte in text {
+        if !plain_byte(in_pattern, *byte) {
+            return len;
+        }
+        len += 1;
+    }
+    len
+}
+
+/// Returns the character that an escape stands for.
+fn character(piece: Piece) -> char
+    ensures { result ≡ character_of piece }
+{
+    match piece {
+        Piece::Char(c) => c,
+        Piece::Byte(_) | Piece::Star => '*',
+    }
+}
+
+/// Returns what a body stands for, in a pattern up to its first wildcard.
+fn read_literal(alloc: Global, body: &str, in_pattern: bool) -> Result<Literal, NoMemory>
+    requires { (ps : List Piece) × IsBody ps body.now }
+    ensures { IfOk result (λ literal. IsLiteral in_pattern literal.value literal.len body.now) }
+{
+    let bytes = body.as_bytes();
+    let mut value = String::new(alloc);
+    let mut at = 0;
+    while at < bytes.len() {
+        let byte = bytes[at];
+        if byte == b'\\' {
+            let Some(escape) = escape(&bytes[at..]) else {
+                unreachable!();
+            };
+            value.push(character(escape.piece))?;
+            at += escape.len;
+        } else {
+            let len = plain_len(in_pattern, &bytes[at..]);
+            if len == 0 {
+                break;
+            }
+            let end = at + len;
+            value.push_str(&body[at..end])?;
+            at = end;
+        }
+    }
+    Ok(Literal {
+        value: Text::from_string(value),
+        len: at,
+    })
+}
+
+/// Returns the value of a string: what is written between its quotes, with what each escape stands for in the escape's
+/// place.
+///
+/// What stands between two escapes is copied at once, so a string without escapes is copied whole.
+/// The only error is `NoMemory`.
+pub fn decode_string(alloc: Global, text: &str, token: Token) -> Result<Text, NoMemory>
+    requires spelled { IsSpelledIn text.now token }
+    requires string { token.kind ≡ TokenKind.Text }
+    ensures { IfOk result (λ value. IsStringOf value (spelling_of text.now token)) }
+{
+    let Literal { value, len: _ } = read_literal(alloc, body(text, token), false)?;
+    Ok(value)
+}
+
+/// Returns what a string is as the pattern of `like`: its literal texts, with a wildcard between each two.
+///
+/// The wildcard is a `*` that stands for itself; one that an escape makes, as `\*`, is a literal
+/// star. A pattern without a wildcard is one text. The only error is `NoMemory`.
+pub fn decode_pattern(alloc: Global, text: &str, token: Token) -> Result<Vec<Text>, NoMemory>
+    requires spelled { IsSpelledIn text.now token }
+    requires string { is_string token.kind ≡ true }
+    ensures { IfOk result (λ literals. IsPatternOf literals.items (spelling_of text.now token)) }
+{
+    let mut literals = Vec::new(alloc);
+    let mut rest = body(text, token);
+    loop {
+        let Literal { value, len } = read_literal(alloc, rest, true)?;
+        literals.push(value)?;
+        let Some(behind) = rest[len..].strip_prefix('*') else {
+            return Ok(literals);
+        };
+        rest = behind;
+    }
+}

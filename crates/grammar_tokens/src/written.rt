@@ -1,0 +1,29 @@
+//! What is written where a token stands.
+ghost use Rattle.std.specs.Prelude.{◌≡◌, ◌↔◌, ◌∷◌, ◌++◌, [], true};
+ghost use Rattle.plain.specs.Words.{IsIdent, IsReserved};
+ghost use Rattle.grammar_tokens.specs.Idents.{is_ident, is_reserved};
+ghost use Rattle.grammar_tokens.specs.Lexing.{IsSpelledIn, spelling_of, quote};
+ghost use Rattle.grammar_tokens.specs.Strings.{is_string};
+
+use crate::token::Token;
+
+/// Returns what is written where a token stands in its text; takes no memory.
+///
+/// Whether it is an identifier or a reserved word is told by the token's kind.
+pub fn spelling(text: &str, token: Token) -> &str
+    requires { IsSpelledIn text.now token }
+    ensures is { result.now ≡ spelling_of text.now token }
+    ensures ident { (is_ident token.kind ≡ true) ↔ IsIdent result.now }
+    ensures reserved { (is_reserved token.kind ≡ true) ↔ IsReserved result.now }
+{
+    &text[token.start..token.end]
+}
+
+/// Returns what is written between the quotes of a string, escapes as they stand; takes no memory.
+pub fn body(text: &str, token: Token) -> &str
+    requires spelled { IsSpelledIn text.now token }
+    requires string { is_string token.kind ≡ true }
+    ensures { spelling_of text.now token ≡ quote ∷ result.now ++ quote ∷ [] }
+{
+    &text[token.start + 1..token.end - 1]
+}

@@ -1,0 +1,11 @@
+-- The kinds of token that a pattern is written as.
+-- Source: Cedar reference guide 4.0, "Grammar specification for Cedar policy syntax".
+use Rattle.std.specs.Prelude.{true, false}
+use Rattle.grammar_tokens.specs.declared.token.TokenKind.TheVariants as k
+use Rattle.grammar_tokens.specs.Kinds.{Kinds}
+
+-- Pattern: a String, in which `\*` may stand
+abbrev pub patterns : Kinds
+patterns k.Text = true
+patterns k.StarText = true
+patterns _ = false

@@ -1,0 +1,19 @@
+//! What expressions are read as: trees over tokens, and the tokens that a tree is made of.
+//!
+//! Readers make these trees (`grammar_expressions`), and their meaning is told over them (`grammar_desugaring`):
+//! neither stands on the other. Two rules that both need are here too: a relation has at most one tail, and which
+//! names are repeated.
+#![tactic(auto)]
+
+mod relations;
+mod repeats;
+mod tree;
+
+pub use grammar_tokens::{
+    Cursor, Halt, KindSet, LexFault, Name, NameSet, PathTree, SyntaxFault, Token, TokenKind,
+    UidTree, decode_pattern, decode_string, lexing_is_unique, path, read_many, read_more,
+    read_to_end, rest_of_name, spelling, strings_have_one_meaning, tokens, uid,
+};
+pub use relations::{Related, relation};
+pub use repeats::{NameAt, least_place};
+pub use tree::{Access, Comparison, Entry, ExprTree, KeyTree, Sign, Term, Variable};

@@ -1,0 +1,53 @@
+//! Relations: an operand with at most one tail.
+ghost use Rattle.std.specs.Prelude.{IfOk};
+ghost use Rattle.grammar_tokens.specs.Lang.{Lang};
+ghost use Rattle.grammar_tokens.specs.ParsesTo.{ParsesTo};
+ghost use Rattle.grammar_tokens.specs.Reading.{Parser, and_then};
+ghost use Rattle.grammar_trees.specs.Relations.{relation, DerivesFront};
+ghost use Rattle.grammar_trees.specs.declared.tree.ExprTree as trees;
+
+use crate::tree::ExprTree;
+use grammar_tokens::{Cursor, Halt};
+
+/// The parsers of a relation's operand and tail, with what they derive.
+pub trait Related {
+    /// The condition under which the parsers may be called.
+    ghost can_read: { Self → Type 0 };
+
+    ghost operands: { Self → Lang trees.ExprTree };
+
+    /// The language of an operand's tail, which may be empty.
+    ghost tailed: { Self → trees.ExprTree → Lang trees.ExprTree };
+
+    ghost reads_operand: { Self → Parser trees.ExprTree };
+
+    ghost reads_tail: { Self → trees.ExprTree → Parser trees.ExprTree };
+
+    fn operand(&self, tokens: &mut Cursor<'_>) -> Result<ExprTree, Halt>
+        requires { can_read self.now }
+        ensures derives { IfOk result (λ x. DerivesFront (operands self.now) tokens.old.rest.now x
+            tokens.new.rest.now) }
+        ensures reads { ParsesTo (reads_operand self.now tokens.old.rest.now) result tokens.new.rest.now };
+
+    fn with_tail(&self, tokens: &mut Cursor<'_>, x: ExprTree) -> Result<ExprTree, Halt>
+        requires { can_read self.now }
+        ensures derives { IfOk result (λ e. DerivesFront (tailed self.now x) tokens.old.rest.now e
+            tokens.new.rest.now) }
+        ensures reads { ParsesTo (reads_tail self.now x tokens.old.rest.now) result tokens.new.rest.now };
+}
+
+/// Parses a relation: an operand and at most one tail.
+///
+/// Comparisons do not chain: of `1 < 2 < 3` it reads `1 < 2`, and no production continues with the second `<`.
+///
+/// Source: Cedar reference guide 4.0, "Grammar specification for Cedar policy syntax".
+pub fn relation<R: Related>(tokens: &mut Cursor<'_>, of: &R) -> Result<ExprTree, Halt>
+    requires { R.can_read of.now }
+    ensures derives { IfOk result (λ e. DerivesFront (relation (R.operands of.now) (R.tailed of.now))
+        tokens.old.rest.now e tokens.new.rest.now) }
+    ensures reads { ParsesTo (and_then (R.reads_operand of.now tokens.old.rest.now) (R.reads_tail of.now)) result
+        tokens.new.rest.now }
+{
+    let x = of.operand(tokens)?;
+    of.with_tail(tokens, x)
+}

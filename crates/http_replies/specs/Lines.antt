@@ -1,0 +1,38 @@
+-- The lines that replies have as their bodies. A rule of this product: compact JSON (RFC 8259), keys ascending, each
+-- key always there.
+use Rattle.std.specs.Prelude.{ℕ, Bool, List, Option, codes}
+use Rattle.serde_json.specs.Data.{Data, boolean, number, unsigned, string, object, no_members, member}
+use Rattle.serde_json.specs.Written.{compact_text}
+use Rattle.site_steps.specs.stamped_store.declared.entry.Stamp.{Stamp}
+use Rattle.decision_texts.specs.Refusals.{error_line}
+
+-- {"count":2,"site":"00001"}
+unfoldable pub stamp_line : Stamp → List ℕ
+stamp_line s = compact_text (object
+    (member (codes "count") (number (unsigned s.count))
+    (member (codes "site") (string s.site) no_members)))
+
+-- {"count":1,"impossible":true,"site":"00001"}
+unfoldable pub put_line : Stamp → Bool → List ℕ
+put_line s impossible = compact_text (object
+    (member (codes "count") (number (unsigned s.count))
+    (member (codes "impossible") (boolean impossible)
+    (member (codes "site") (string s.site) no_members))))
+
+-- {"taken":3}
+unfoldable pub taken_line : ℕ → List ℕ
+taken_line count = compact_text (object (member (codes "taken") (number (unsigned count)) no_members))
+
+-- {"count":1,"site":"00001","text":"permit(principal, action, resource);"}
+abbrev pub found_json : List ℕ → Stamp → Data
+found_json text s = object
+    (member (codes "count") (number (unsigned s.count))
+    (member (codes "site") (string s.site)
+    (member (codes "text") (string text) no_members)))
+
+unfoldable pub found_line : List ℕ → Stamp → List ℕ
+found_line text s = compact_text (found_json text s)
+
+-- {"error":{"code":30,"place":0,"within":null}}
+abbrev pub fault_line : ℕ → Option ℕ → Option ℕ → List ℕ
+fault_line code place within = error_line (record { code = code; place = place; within = within })

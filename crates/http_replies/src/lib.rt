@@ -1,0 +1,28 @@
+//! Replies of the service to what becomes of requests: their statuses and their bodies, one line of compact JSON each.
+//!
+//! Replies to changes, and refusals of any kind, take no memory: they are appended to a text that has room for them.
+#![tactic(auto)]
+
+mod laws;
+mod line;
+mod long;
+mod reporting;
+mod status;
+
+pub use decision_texts::{
+    Answer, MOST_ID_BYTES, MOST_POLICY_BYTES, ReadFault, Refusal, Scratch, answer_line,
+    decide_texts, error_line, read_json_by, read_uid,
+};
+pub use http_texts::status::Status;
+pub use laws::{errors_have_one_line, stamps_have_plain_lines};
+pub use reporting::{
+    report_answer, report_fault, report_found, report_message, report_put, report_stamp,
+    report_status, report_taken,
+};
+pub use site_steps::{
+    EntityFault, Found, Input, Reply, Site, SiteFault, Stamp, Taken, answer,
+    inputs_have_one_outcome, runs_go_right, runs_leave_what_they_took, take_bytes,
+};
+
+/// No reply to a change, and no refusal, has a longer body than so many bytes.
+pub const LINE_ROOM: usize = 128;

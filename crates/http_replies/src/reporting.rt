@@ -1,0 +1,162 @@
+//! The reply to each outcome: its body is appended to a text, and its status answered.
+//!
+//! Each asks for room for a short line. What wants more memory and is refused it says so in that room, so that no reply
+//! is left out; the text keeps its memory.
+ghost use Rattle.std.specs.Prelude.{◌≡◌, ◌≤◌, ◌+◌, ◌++◌, List, ℕ, OnOk, OnErr, option_map, vec_len};
+ghost use Rattle.std.specs.Vec.{vec_capacity};
+ghost use Rattle.http_replies.specs.Replies.{answer_reply, fault_reply, found_reply, message_reply, put_reply};
+ghost use Rattle.http_replies.specs.Replies.{stamp_reply, status_reply, taken_reply, IsReplyOrNoMemory};
+
+use crate::LINE_ROOM;
+use crate::line::{append_fault, append_put, append_stamp, append_taken};
+use crate::long::{append_answer, append_bytes, append_found};
+use crate::status::refusal_status;
+use decision_texts::Answer;
+use http_texts::status::Status;
+use plain::{Items, NoMemory};
+use site_steps::{Put, SiteFault, Stamp, Taken};
+use std::alloc::Global;
+
+/// Tells a refusal of the site, by its number, its place and the number within. Takes no memory.
+pub fn report_fault(text: &mut Vec<u8>, fault: SiteFault) -> Status
+    requires room { vec_len text.old + LINE_ROOM ≤ vec_capacity text.old }
+    ensures status { result ≡ (fault_reply fault).0 }
+    ensures body { text.new.items ≡ text.old.items ++ (fault_reply fault).1 }
+    ensures kept { vec_capacity text.old ≤ vec_capacity text.new }
+{
+    append_fault(text, u16::from(fault.code()), fault.place(), fault.within());
+    refusal_status(fault.code())
+}
+
+/// Tells an error that is a status alone, as an unknown path (404) or another method (405). Takes no memory.
+pub fn report_status(text: &mut Vec<u8>, status: Status) -> Status
+    requires room { vec_len text.old + LINE_ROOM ≤ vec_capacity text.old }
+    ensures status { result ≡ (status_reply status).0 }
+    ensures body { text.new.items ≡ text.old.items ++ (status_reply status).1 }
+    ensures kept { vec_capacity text.old ≤ vec_capacity text.new }
+{
+    append_fault(text, status.code(), None, None);
+    status
+}
+
+/// Tells what became of a policy that was to be put: `{"count":1,"impossible":true,"site":"00001"}`. Takes no memory.
+pub fn report_put(text: &mut Vec<u8>, outcome: Result<Put, SiteFault>) -> Status
+    requires room { vec_len text.old + LINE_ROOM ≤ vec_capacity text.old }
+    ensures status { result ≡ (put_reply outcome).0 }
+    ensures body { text.new.items ≡ text.old.items ++ (put_reply outcome).1 }
+    ensures kept { vec_capacity text.old ≤ vec_capacity text.new }
+{
+    match outcome {
+        Ok(put) => {
+            append_put(text, put.stamp, put.impossible);
+            Status::Ok
+        }
+        Err(fault) => report_fault(text, fault),
+    }
+}
+
+/// Tells what became of an entity that was to be put, or of what was to be taken away: `{"count":2,"site":"00001"}`.
+/// Takes no memory.
+pub fn report_stamp(text: &mut Vec<u8>, outcome: Result<Stamp, SiteFault>) -> Status
+    requires room { vec_len text.old + LINE_ROOM ≤ vec_capacity text.old }
+    ensures status { result ≡ (stamp_reply outcome).0 }
+    ensures body { text.new.items ≡ text.old.items ++ (stamp_reply outcome).1 }
+    ensures kept { vec_capacity text.old ≤ vec_capacity text.new }
+{
+    match outcome {
+        Ok(stamp) => {
+            append_stamp(text, stamp);
+            Status::Ok
+        }
+        Err(fault) => report_fault(text, fault),
+    }
+}
+
+/// Tells what became of a message: `{"taken":3}`, or, where memory was refused for an update, 503 with the number of
+/// those that were taken for the place. Takes no memory.
+pub fn report_taken(text: &mut Vec<u8>, outcome: Result<Taken, SiteFault>) -> Status
+    requires room { vec_len text.old + LINE_ROOM ≤ vec_capacity text.old }
+    ensures status { result ≡ (taken_reply outcome).0 }
+    ensures body { text.new.items ≡ text.old.items ++ (taken_reply outcome).1 }
+    ensures kept { vec_capacity text.old ≤ vec_capacity text.new }
+{
+    match outcome {
+        Ok(Taken::All(count)) => {
+            append_taken(text, count);
+            Status::Ok
+        }
+        Ok(Taken::Short(count)) => {
+            append_fault(text, 1, Some(count), None);
+            Status::ServiceUnavailable
+        }
+        Err(fault) => report_fault(text, fault),
+    }
+}
+
+/// Returns the status of a body that was appended; where memory was refused for it, that is told in its place.
+fn told_or_short(text: &mut Vec<u8>, appended: Result<(), NoMemory>) -> Status
+    requires room { OnErr appended (vec_len text.old + LINE_ROOM ≤ vec_capacity text.old) }
+    ensures ok { OnOk appended ((result ≡ Status.Ok) × (text.new.items ≡ text.old.items)) }
+    ensures err { OnErr appended ((result ≡ (fault_reply SiteFault.NoMemory).0)
+        × (text.new.items ≡ text.old.items ++ (fault_reply SiteFault.NoMemory).1)) }
+    ensures kept { vec_capacity text.old ≤ vec_capacity text.new }
+{
+    match appended {
+        Ok(()) => Status::Ok,
+        Err(_) => report_fault(text, SiteFault::NoMemory),
+    }
+}
+
+/// Tells what became of a request that was to be decided:
+/// `{"cycle":[],"decision":"Allow","errors":[],"reason":["p"]}`.
+pub fn report_answer(
+    alloc: Global,
+    text: &mut Vec<u8>,
+    outcome: &Result<Answer, SiteFault>,
+) -> Status
+    requires room { vec_len text.old + LINE_ROOM ≤ vec_capacity text.old }
+    ensures reply { (body : List ℕ) × (text.new.items ≡ text.old.items ++ body)
+        × IsReplyOrNoMemory (answer_reply outcome.now) result body }
+    ensures kept { vec_capacity text.old ≤ vec_capacity text.new }
+{
+    match outcome {
+        Ok(answer) => {
+            let appended = append_answer(alloc, text, answer);
+            told_or_short(text, appended)
+        }
+        Err(fault) => report_fault(text, *fault),
+    }
+}
+
+/// Tells a policy's text and stamp, `{"count":1,"site":"00001","text":"permit(principal, action, resource);"}`, or that
+/// there is no such policy (60).
+pub fn report_found(alloc: Global, text: &mut Vec<u8>, found: &Option<(&str, Stamp)>) -> Status
+    requires room { vec_len text.old + LINE_ROOM ≤ vec_capacity text.old }
+    ensures reply { (body : List ℕ) × (text.new.items ≡ text.old.items ++ body)
+        × IsReplyOrNoMemory (found_reply (option_map (λ f. (f.0.now, f.1)) found.now)) result body }
+    ensures kept { vec_capacity text.old ≤ vec_capacity text.new }
+{
+    match found {
+        Some((policy, stamp)) => {
+            let appended = append_found(alloc, text, policy, *stamp);
+            told_or_short(text, appended)
+        }
+        None => report_fault(text, SiteFault::NotThere),
+    }
+}
+
+/// Tells a message as it was written, or why it was not.
+pub fn report_message(text: &mut Vec<u8>, outcome: &Result<Items<u8>, SiteFault>) -> Status
+    requires room { vec_len text.old + LINE_ROOM ≤ vec_capacity text.old }
+    ensures reply { (body : List ℕ) × (text.new.items ≡ text.old.items ++ body)
+        × IsReplyOrNoMemory (message_reply outcome.now) result body }
+    ensures kept { vec_capacity text.old ≤ vec_capacity text.new }
+{
+    match outcome {
+        Ok(bytes) => {
+            let appended = append_bytes(text, bytes.as_slice());
+            told_or_short(text, appended)
+        }
+        Err(fault) => report_fault(text, *fault),
+    }
+}

@@ -1,0 +1,38 @@
+//! The parts of a target.
+ghost use Rattle.std.specs.Prelude.{◌≡◌, option_map};
+ghost use Rattle.std.specs.List.{list_any};
+ghost use Rattle.http_routes.specs.Routes.{path_of, segment_of, is_slash};
+
+/// The bytes that the path of a policy begins with: its id follows.
+const POLICIES: &[u8] = b"/v1/policies/";
+
+/// Returns the target up to its query.
+#[tactic(auto, unfolding(crate::specs::Routes::path_of))]
+pub(crate) fn path_of(target: &[u8]) -> &[u8]
+    ensures { result.now ≡ path_of target.now }
+{
+    for at in 0..target.len() {
+        if target[at] == b'?' {
+            return &target[..at];
+        }
+    }
+    target
+}
+
+/// Returns whether a slash is among the bytes, so that they are no one segment.
+fn has_slash(bytes: &[u8]) -> bool
+    ensures { result ≡ list_any is_slash bytes.now }
+{
+    bytes.contains(&b'/')
+}
+
+/// Returns the segment that names a policy, where the path is that of one.
+#[tactic(auto, unfolding(crate::specs::Routes::segment_of, crate::specs::Routes::policies))]
+pub(crate) fn segment_of(path: &[u8]) -> Option<&[u8]>
+    ensures { option_map (λ s. s.now) result ≡ segment_of path.now }
+{
+    match path.strip_prefix(POLICIES) {
+        Some(rest) if !has_slash(rest) => Some(rest),
+        _ => None,
+    }
+}

@@ -1,0 +1,115 @@
+//! Routes by method and target.
+ghost use Rattle.std.specs.Prelude.{◌≡◌, IfOk, OnErr, IsTrue};
+ghost use Rattle.percent_encoding.specs.Percent.{percent_decode};
+ghost use Rattle.http_routes.specs.Routes.{id_in, id_of, only, plain_route, policy_route, route_stated, has_id};
+
+use crate::path::{path_of, segment_of};
+use crate::route::{PolicyId, Route};
+use percent_encoding::percent_decode;
+use plain::{NoMemory, Text};
+use std::alloc::Global;
+
+/// Returns the bytes that a segment stands for.
+fn decoded(alloc: Global, segment: &[u8]) -> Result<Vec<u8>, NoMemory>
+    ensures { IfOk result (λ b. b.items ≡ percent_decode segment.now) }
+{
+    let mut bytes = Vec::with_capacity(alloc, segment.len())?;
+    percent_decode(segment).append_to(&mut bytes)?;
+    Ok(bytes)
+}
+
+/// Returns the id that bytes are. Takes no memory.
+#[tactic(auto, unfolding(crate::specs::Routes::id_in))]
+fn id_in(bytes: Vec<u8>) -> PolicyId
+    ensures { result ≡ id_in bytes.items }
+{
+    match String::from_utf8(bytes) {
+        Ok(text) => PolicyId::Named(Text::from_string(text)),
+        Err(_) => PolicyId::NotUtf8,
+    }
+}
+
+/// Returns the id that a segment stands for.
+fn id_of(alloc: Global, segment: &[u8]) -> Result<PolicyId, NoMemory>
+    ensures { IfOk result (λ id. id ≡ id_of segment.now) }
+{
+    let bytes = decoded(alloc, segment)?;
+    Ok(id_in(bytes))
+}
+
+/// Returns the route of a path that has one method.
+#[tactic(auto, unfolding(crate::specs::Routes::only))]
+fn only(wanted: &[u8], method: &[u8], route: Route) -> Route
+    ensures { result ≡ only wanted.now method.now route }
+{
+    if method == wanted {
+        route
+    } else {
+        Route::OtherMethod
+    }
+}
+
+/// Returns the route of a path that names no policy.
+#[tactic(auto, unfolding(crate::specs::Routes::plain_route))]
+fn plain_route(method: &[u8], path: &[u8]) -> Route
+    ensures { result ≡ plain_route method.now path.now }
+{
+    if path == b"/v1/authorize".as_slice() {
+        return only(b"POST", method, Route::Authorize);
+    }
+    if path == b"/v1/entities".as_slice() {
+        return only(b"PUT", method, Route::PutEntity);
+    }
+    if path == b"/v1/entities/delete".as_slice() {
+        return only(b"POST", method, Route::DeleteEntity);
+    }
+    if path == b"/v1/state".as_slice() {
+        return only(b"GET", method, Route::State);
+    }
+    if path == b"/v1/summary".as_slice() {
+        return only(b"GET", method, Route::Summary);
+    }
+    if path == b"/v1/delta".as_slice() {
+        return only(b"POST", method, Route::Delta);
+    }
+    if path == b"/v1/merge".as_slice() {
+        return only(b"POST", method, Route::Merge);
+    }
+    Route::Unknown
+}
+
+/// Returns the route of the policy that a segment names. Memory is asked for where the method is one that a policy has.
+#[tactic(auto, unfolding(crate::specs::Routes::policy_route))]
+fn policy_route(alloc: Global, method: &[u8], segment: &[u8]) -> Result<Route, NoMemory>
+    ensures route { IfOk result (λ r. r ≡ policy_route method.now segment.now) }
+    ensures memory { OnErr result (IsTrue (has_id (policy_route method.now segment.now))) }
+{
+    if method == b"GET".as_slice() {
+        return Ok(Route::GetPolicy(id_of(alloc, segment)?));
+    }
+    if method == b"PUT".as_slice() {
+        return Ok(Route::PutPolicy(id_of(alloc, segment)?));
+    }
+    if method == b"DELETE".as_slice() {
+        return Ok(Route::DeletePolicy(id_of(alloc, segment)?));
+    }
+    Ok(Route::OtherMethod)
+}
+
+/// Returns what a request with this method and this target asks for. The path is the target up to its first question
+/// mark, and nothing else is cut or decoded but the id of a policy, which is one segment, the empty one too: there a
+/// percent sign with two hexadecimal digits is the byte that they are, and any other percent sign stands for itself
+/// (RFC 3986, section 2.1). Methods are told apart by their exact bytes (RFC 9110, section 9.1).
+///
+/// Fails only where memory is refused for the id of a policy: what has no id takes no memory.
+#[tactic(auto, unfolding(crate::specs::Routes::route_stated))]
+pub fn route_of(alloc: Global, method: &[u8], target: &[u8]) -> Result<Route, NoMemory>
+    ensures route { IfOk result (λ r. r ≡ route_stated method.now target.now) }
+    ensures memory { OnErr result (IsTrue (has_id (route_stated method.now target.now))) }
+{
+    let path = path_of(target);
+    match segment_of(path) {
+        Some(segment) => policy_route(alloc, method, segment),
+        None => Ok(plain_route(method, path)),
+    }
+}

@@ -1,0 +1,43 @@
+//! Replies of a site, each reported by a status and a body.
+ghost use Rattle.std.specs.Prelude.{◌≤◌, ◌+◌, vec_len, Ok};
+ghost use Rattle.std.specs.Vec.{vec_capacity};
+ghost use Rattle.http_streams.specs.declared.TheConstants.{REPLY_ROOM};
+ghost use Rattle.http_service.specs.inner.Dealing.{Tells};
+
+use http_replies::{
+    Found, Reply, Status, report_answer, report_fault, report_found, report_message, report_put,
+    report_stamp, report_taken,
+};
+use std::alloc::Global;
+
+/// Reports a policy that was looked up.
+fn report_policy(alloc: Global, text: &mut Vec<u8>, found: &Option<Found>) -> Status
+    requires room { vec_len text.old + REPLY_ROOM ≤ vec_capacity text.old }
+    ensures reply { Tells (Reply.Found (Ok found.now)) result text.old.items text.new.items }
+    ensures kept { vec_capacity text.old ≤ vec_capacity text.new }
+{
+    match found {
+        Some(policy) => {
+            let shown = Some((policy.text.as_str(), policy.stamp));
+            report_found(alloc, text, &shown)
+        }
+        None => report_found(alloc, text, &None),
+    }
+}
+
+/// Reports a reply. If there is no memory for the answer to a question, that is reported in its place.
+pub(crate) fn report_reply(alloc: Global, text: &mut Vec<u8>, reply: &Reply) -> Status
+    requires room { vec_len text.old + REPLY_ROOM ≤ vec_capacity text.old }
+    ensures reply { Tells reply.now result text.old.items text.new.items }
+    ensures kept { vec_capacity text.old ≤ vec_capacity text.new }
+{
+    match reply {
+        Reply::Put(outcome) => report_put(text, *outcome),
+        Reply::Stamped(outcome) => report_stamp(text, *outcome),
+        Reply::Taken(outcome) => report_taken(text, *outcome),
+        Reply::Answered(outcome) => report_answer(alloc, text, outcome),
+        Reply::Found(Ok(found)) => report_policy(alloc, text, found),
+        Reply::Found(Err(fault)) => report_fault(text, *fault),
+        Reply::Written(outcome) => report_message(text, outcome),
+    }
+}

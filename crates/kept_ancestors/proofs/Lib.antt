@@ -1,3 +1,0 @@
-mod Leading
-mod Pairs
-mod Whole

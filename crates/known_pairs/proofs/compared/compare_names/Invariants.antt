@@ -1,7 +1,0 @@
-use Rattle.std.proofs.Common.{◌≡◌, length, drop}
-use Rattle.known_pairs.specs.Order.{names_cmp}
-use Rattle.known_pairs.proofs.compared.compare_names.Given as goal
-
-abbrev pub invariant-loop-at : goal.invariant-loop-at
-invariant-loop-at l =
-    (l.others ≡ l.twos) × (length l.ones ≡ length l.twos) × (names_cmp l.ones l.twos ≡ names_cmp (drop l.at l.ones) (drop l.at l.twos))

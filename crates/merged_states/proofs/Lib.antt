@@ -1,4 +1,0 @@
-pub mod StoreLemmas
-pub mod MessageLemmas
-pub mod MergeLemmas
-pub mod OutcomeLemmas

@@ -1,0 +1,123 @@
+-- States and deltas as messages, written and read.
+-- Rules of this product: {"entries":[{"body":text or null,"count":n,"name":N,"site":text}, ..],"kind":K,"schema":label,
+-- "version":2}, K being "state" or "delta" and N {"entity":{"id":..,"type":..}} or {"policy":id}. Each key must stand,
+-- `body` with null for nothing, and there are no others. They are written compact, keys and names ascending, and read
+-- in any spelling of JSON, entries in any order and names as often as they stand. Version 1, with numbers of sites, is
+-- read and never written.
+use Rattle.std.specs.Prelude.{◌||◌, Bool, ℕ, List, [], ◌∷◌, map, codes, is_some, Option, Some, None}
+use Rattle.std.specs.Prelude.{Result, Ok, if◌then◌else◌}
+use Rattle.std.specs.Str.{bytes_eq}
+use Rattle.serde_json.specs.Data.{Data, null, number, unsigned, string, array, object, Items, no_members, member}
+use Rattle.serde_json.specs.Find.{get, as_null, as_str, as_array}
+use Rattle.serde_json.specs.View.{items_of}
+use Rattle.serde_json.specs.Written.{compact_text}
+use Rattle.json_words.specs.Each.{each, list_of}
+use Rattle.json_words.specs.ReadsAs.{◌>>=◌, or_fault, demand}
+use Rattle.json_words.specs.Json.{json_of, text_at}
+use Rattle.json_words.specs.Keys.{has_only}
+use Rattle.values.specs.declared.name.Name.{Name}
+use Rattle.stamped_store.specs.Store.{Store, Update, updates, issued}
+use Rattle.message_format.specs.declared.fault.MessageFault.{MessageFault}
+use Rattle.message_format.specs.declared.fault.MessageFault.TheVariants.{NotJson, BadShape, OtherSchema}
+use Rattle.message_format.specs.declared.version.MessageVersion.{MessageVersion}
+use Rattle.message_format.specs.Summaries.{name_json, version_in, stamped_in}
+
+-- ---- written
+
+abbrev pub body_json : Option (List ℕ) → Data
+body_json None = null
+body_json (Some text) = string text
+
+abbrev pub entry_json : Update → Data
+entry_json u = object (member (codes "body") (body_json u.1.body)
+    (member (codes "count") (number (unsigned u.1.count))
+    (member (codes "name") (name_json u.0)
+    (member (codes "site") (string u.1.site) no_members))))
+
+-- updates as a message of this kind
+abbrev pub message_json : List ℕ → List ℕ → List Update → Data
+message_json kind label us = object (member (codes "entries") (array (items_of (map entry_json us)))
+    (member (codes "kind") (string kind)
+    (member (codes "schema") (string label)
+    (member (codes "version") (number (unsigned 2)) no_members))))
+
+-- a store whole, as its updates in the order of the names; and the part of a store that is sent as a delta
+abbrev pub state_json : List ℕ → Store → Data
+state_json label s = message_json (codes "state") label (updates s)
+
+abbrev pub delta_json : List ℕ → Store → Data
+delta_json label s = message_json (codes "delta") label (updates s)
+
+-- the bytes: compact, keys ascending
+unfoldable pub state_text : List ℕ → Store → List ℕ
+state_text label s = compact_text (state_json label s)
+
+unfoldable pub delta_text : List ℕ → Store → List ℕ
+delta_text label s = compact_text (delta_json label s)
+
+-- ---- read
+
+-- null is no body, a text is one
+unfoldable pub text_in : Data → Result (Option (List ℕ)) MessageFault
+text_in d = do
+  text ← or_fault BadShape (as_str d)
+  Ok (Some text)
+
+unfoldable pub body_in : Data → Result (Option (List ℕ)) MessageFault
+body_in d = if is_some (as_null d) then Ok None else text_in d
+
+-- an update: a name, a stamp, and a body whose text is not read yet; `stamped_of` tells its name and stamp, and
+-- `entry_of` joins the stamp and the body
+unfoldable pub entry_by : {S E : Type 0} → (Data → Result (Name × S) MessageFault) → (S → Option (List ℕ) → E) → Data
+    → Result (Name × E) MessageFault
+entry_by stamped_of entry_of d = do
+  shape ← demand BadShape (has_only (codes "body" ∷ codes "count" ∷ codes "name" ∷ codes "site" ∷ []) d)
+  found ← or_fault BadShape (get (codes "body") d)
+  body ← body_in found
+  u ← stamped_of d
+  Ok (u.0, entry_of u.1 body)
+
+unfoldable pub entry_in : MessageVersion → Data → Result Update MessageFault
+entry_in version d = entry_by (stamped_in version) issued d
+
+-- all updates, of which `entry_of` tells each
+unfoldable pub entries_of : {U : Type 0} → (Data → Result U MessageFault) → Items → Result (List U) MessageFault
+entries_of entry_of ds = each (λ i d. entry_of d) 0 (list_of ds)
+
+unfoldable pub entries_by : {U : Type 0} → (Data → Result U MessageFault) → Data → Result (List U) MessageFault
+entries_by entry_of d = do
+  found ← or_fault BadShape (get (codes "entries") d)
+  ds ← or_fault BadShape (as_array found)
+  entries_of entry_of ds
+
+unfoldable pub entries_in : MessageVersion → Data → Result (List Update) MessageFault
+entries_in version d = entries_by (entry_in version) d
+
+-- a state or a delta: both say what updates there are
+abbrev pub is_kind : List ℕ → Bool
+is_kind kind = bytes_eq kind (codes "state") || bytes_eq kind (codes "delta")
+
+-- what a message states behind its version: the whole shape, all entries included, goes before the schema
+unfoldable pub updates_by : {U : Type 0} → (Data → Result (List U) MessageFault) → List ℕ → Data
+    → Result (List U) MessageFault
+updates_by entries label d = do
+  shape ← demand BadShape (has_only (codes "entries" ∷ codes "kind" ∷ codes "schema" ∷ codes "version" ∷ []) d)
+  kind ← or_fault BadShape (text_at (codes "kind") d)
+  updating ← demand BadShape (is_kind kind)
+  schema ← or_fault BadShape (text_at (codes "schema") d)
+  us ← entries d
+  same ← demand OtherSchema (bytes_eq schema label)
+  Ok us
+
+-- the version goes before the rest of the shape
+unfoldable pub updates_in : List ℕ → Data → Result (List Update) MessageFault
+updates_in label d = do
+  version ← version_in d
+  updates_by (entries_in version) label d
+
+-- the updates that bytes state under the schema of this label, in their order, or the first fault before any entry is
+-- judged
+unfoldable pub updates_stated : List ℕ → List ℕ → Result (List Update) MessageFault
+updates_stated label bytes = do
+  d ← or_fault NotJson (json_of bytes)
+  updates_in label d

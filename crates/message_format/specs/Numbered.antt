@@ -1,0 +1,46 @@
+-- States and deltas of version 1, in which sites are numbers. Rules of this product: such a message differs from one of
+-- version 2 in its `version`, 1, and in each `site`, a number from 1 to 65,535. It is read as the raise of the updates
+-- that it states, each number replaced by its five digits, and never written.
+use Rattle.std.specs.Prelude.{◌≡◌, ℕ, List, map, codes, Option, Some, Result, Ok}
+use Rattle.serde_json.specs.Data.{Data, number, unsigned, string, array, object, no_members, member}
+use Rattle.serde_json.specs.View.{items_of}
+use Rattle.json_words.specs.Json.{json_of}
+use Rattle.stamped_store.specs.EntryOrder.{EntryAt}
+use Rattle.stamped_store.specs.Raised.{NumberedUpdate}
+use Rattle.message_format.specs.declared.fault.MessageFault.{MessageFault}
+use Rattle.message_format.specs.Summaries.{StampAt, name_json, number_at, numbered_in, stamped_by}
+use Rattle.message_format.specs.Messages.{body_json, entry_by, entries_by, updates_by}
+
+-- ---- as it is written down
+
+abbrev pub numbered_entry_json : NumberedUpdate → Data
+numbered_entry_json n = object (member (codes "body") (body_json n.1.body)
+    (member (codes "count") (number (unsigned n.1.count))
+    (member (codes "name") (name_json n.0)
+    (member (codes "site") (number (unsigned n.1.site)) no_members))))
+
+-- numbered updates as a message of this kind
+abbrev pub numbered_message_json : List ℕ → List ℕ → List NumberedUpdate → Data
+numbered_message_json kind label ns = object (member (codes "entries") (array (items_of (map numbered_entry_json ns)))
+    (member (codes "kind") (string kind)
+    (member (codes "schema") (string label)
+    (member (codes "version") (number (unsigned 1)) no_members))))
+
+-- ---- in any spelling
+
+-- the entry of a stamp and a body
+abbrev pub numbered_entry : StampAt ℕ → Option (List ℕ) → EntryAt ℕ
+numbered_entry s body = record { count = s.count; site = s.site; body = body }
+
+unfoldable pub numbered_entry_in : Data → Result NumberedUpdate MessageFault
+numbered_entry_in d = entry_by (stamped_by numbered_in) numbered_entry d
+
+unfoldable pub numbered_entries_in : Data → Result (List NumberedUpdate) MessageFault
+numbered_entries_in d = entries_by numbered_entry_in d
+
+-- the bytes are a message of version 1 under the schema of this label, with these updates in this order
+pub record IsVersion1Message (label bytes : List ℕ) (ns : List NumberedUpdate) : Type 0 where
+  pub value : Data
+  pub json : json_of bytes ≡ Some value
+  pub version : number_at (codes "version") value ≡ Ok 1
+  pub stated : updates_by numbered_entries_in label value ≡ Ok ns

@@ -1,0 +1,4 @@
+pub mod SummaryWriting
+pub mod Reading
+pub mod Writing
+pub mod Walking

@@ -1,0 +1,41 @@
+//! Messages between sites: what a store is written as, and what is read from another site.
+//!
+//! A summary has the names of a store with the stamps of their entries, by which another site tells what is news to
+//! this one. A state is a store whole, a delta the part of it that is news to whoever has a summary.
+//!
+//! What the texts of a message may be read as is not this crate's business: a type that implements [`Bodies`] reads
+//! them, and says what they are and why they are refused.
+#![tactic(auto)]
+
+mod bodies;
+mod fault;
+mod laws;
+mod members;
+mod reading;
+mod stated;
+mod summary;
+mod summary_laws;
+mod summary_reading;
+mod summary_writing;
+mod update;
+mod version;
+mod writing;
+
+pub use bodies::{Bodies, BodyFault};
+pub use entity_uids::{Policy, ReadFault, names_read_back, parse_policy, texts_have_one_reading};
+pub use fault::MessageFault;
+pub use json_values::{Scratch, read_json_by};
+pub use laws::{
+    messages_are_raised, messages_have_one_outcome, messages_read_back, valid_messages_are_read,
+};
+pub use members::{Lent, write_number, write_text};
+pub use reading::read_message;
+pub use stamped_store::laws::updates_have_one_store;
+pub use stamped_store::{PolicyStore, Readings};
+pub use summary::Summary;
+pub use summary_laws::{stamps_read_back, summaries_read_back};
+pub use summary_reading::{judge_stamp, read_stamped, read_summary, read_version};
+pub use summary_writing::write_summary;
+pub use update::Update;
+pub use version::MessageVersion;
+pub use writing::{write_delta, write_state};

@@ -1,0 +1,201 @@
+//! Reading a state or a delta, with the first fault.
+ghost use Rattle.std.specs.Prelude.{◌≡◌, List, IfOk, IfErr, map};
+ghost use Rattle.stamped_store.specs.Store.{issued, policy_name, entity_name};
+ghost use Rattle.stamped_store.specs.Raised.{NumberedUpdate, raise};
+ghost use Rattle.message_format.specs.declared.fault.MessageFault.TheVariants as MessageFault;
+ghost use Rattle.message_format.specs.declared.bodies.BodyFault.TheVariants as BodyFault;
+ghost use Rattle.plain.specs.Refused.{OrNoMemory};
+ghost use Rattle.message_format.specs.Numbered.{IsVersion1Message};
+ghost use Rattle.message_format.specs.Updates.{plain_updates, IsFaultAt, IsMessageFault};
+ghost use Rattle.message_format.specs.Updates.{fault_at as message_fault, IsMessage, IsBodyRefused, IsUnreadable};
+ghost use Rattle.message_format.specs.inner.Reading.{stated_update, IsBodyReadAs, IsReadAs, IsTaken, AreTaken, Stops};
+
+use crate::fault::MessageFault;
+use crate::laws::messages_are_raised;
+use crate::stated::{Stated, read_stated};
+use crate::summary_laws::stamps_read_back;
+use crate::summary_reading::judge_stamp;
+use crate::{Bodies, BodyFault, Update};
+use json_values::Scratch;
+use plain::{Text, beside};
+use stamped_store::{Entry, ReadText, Stamp};
+use std::alloc::Global;
+use std::collections::VecDeque;
+use values::{EntityUid, Name};
+
+/// Returns the body of a policy: nothing, or a text that is read.
+fn policy_body<P: Drop, E: Drop, B: Bodies<P, E>>(
+    alloc: Global,
+    bodies: &B,
+    id: &Text,
+    body: Option<Text>,
+) -> Result<Option<ReadText<P>>, BodyFault>
+    ensures read { IfOk result (IsBodyReadAs (B.reads_policy bodies.now id.now) body) }
+    ensures refused { IfErr result
+        (OrNoMemory BodyFault.NoMemory (IsBodyRefused (B.refuses_policy bodies.now id.now) body)) }
+{
+    let Some(text) = body else {
+        return Ok(None);
+    };
+    let read = bodies.read_policy(alloc, id.as_str(), text.as_str())?;
+    Ok(Some(ReadText { text, read }))
+}
+
+/// Returns the body of an entity: nothing, or a text that is read.
+fn entity_body<P: Drop, E: Drop, B: Bodies<P, E>>(
+    alloc: Global,
+    bodies: &B,
+    scratch: &mut Scratch,
+    uid: &EntityUid,
+    body: Option<Text>,
+) -> Result<Option<ReadText<E>>, BodyFault>
+    ensures read { IfOk result (IsBodyReadAs (B.reads_entity bodies.now uid.now) body) }
+    ensures refused { IfErr result
+        (OrNoMemory BodyFault.NoMemory (IsBodyRefused (B.refuses_entity bodies.now uid.now) body)) }
+{
+    let Some(text) = body else {
+        return Ok(None);
+    };
+    let read = bodies.read_entity(alloc, scratch, uid, text.as_str())?;
+    Ok(Some(ReadText { text, read }))
+}
+
+fn read_policy<P: Drop, E: Drop, B: Bodies<P, E>>(
+    alloc: Global,
+    bodies: &B,
+    id: Text,
+    stamp: Stamp,
+    body: Option<Text>,
+) -> Result<Update<P, E>, BodyFault>
+    ensures read { IfOk result
+        (IsReadAs (B.reads_policy bodies.now) (B.reads_entity bodies.now) (policy_name id, issued stamp body)) }
+    ensures refused { IfErr result
+        (OrNoMemory BodyFault.NoMemory (IsBodyRefused (B.refuses_policy bodies.now id) body)) }
+{
+    let body = policy_body(alloc, bodies, &id, body)?;
+    let entry = Entry { stamp, body };
+    Ok(Update::Policy { id, entry })
+}
+
+fn read_entity<P: Drop, E: Drop, B: Bodies<P, E>>(
+    alloc: Global,
+    bodies: &B,
+    scratch: &mut Scratch,
+    uid: EntityUid,
+    stamp: Stamp,
+    body: Option<Text>,
+) -> Result<Update<P, E>, BodyFault>
+    ensures read { IfOk result
+        (IsReadAs (B.reads_policy bodies.now) (B.reads_entity bodies.now) (entity_name uid, issued stamp body)) }
+    ensures refused { IfErr result
+        (OrNoMemory BodyFault.NoMemory (IsBodyRefused (B.refuses_entity bodies.now uid) body)) }
+{
+    let body = entity_body(alloc, bodies, scratch, &uid, body)?;
+    let entry = Entry { stamp, body };
+    Ok(Update::Entity { uid, entry })
+}
+
+/// Returns an update, its text read.
+fn read_update<P: Drop, E: Drop, B: Bodies<P, E>>(
+    alloc: Global,
+    bodies: &B,
+    scratch: &mut Scratch,
+    stated: Stated,
+) -> Result<Update<P, E>, BodyFault>
+    ensures read { IfOk result
+        (IsReadAs (B.reads_policy bodies.now) (B.reads_entity bodies.now) (stated_update stated)) }
+    ensures refused { IfErr result (OrNoMemory BodyFault.NoMemory
+        (IsUnreadable (B.refuses_policy bodies.now) (B.refuses_entity bodies.now) stated.stamped.0 stated.body)) }
+{
+    let Stated { stamped, body } = stated;
+    let (name, stamp) = stamped;
+    match name {
+        Name::Policy(id) => read_policy(alloc, bodies, id, stamp, body),
+        Name::Entity(uid) => read_entity(alloc, bodies, scratch, uid, stamp, body),
+    }
+}
+
+/// Returns the fault of a message for that of a body at a place.
+fn fault_at(place: usize, fault: BodyFault) -> MessageFault
+    ensures { result ≡ message_fault place fault }
+{
+    match fault {
+        BodyFault::NoMemory => MessageFault::NoMemory,
+        BodyFault::Refused(within) => MessageFault::BadEntry(place, within),
+        BodyFault::OtherName => MessageFault::BodyOfOtherName(place),
+    }
+}
+
+/// Returns the update at a place: judged, and then its text read.
+fn read_at<P: Drop, E: Drop, B: Bodies<P, E>>(
+    alloc: Global,
+    bodies: &B,
+    scratch: &mut Scratch,
+    place: usize,
+    stated: Stated,
+) -> Result<Update<P, E>, MessageFault>
+    ensures read { IfOk result
+        (IsTaken (B.reads_policy bodies.now) (B.reads_entity bodies.now) place (stated_update stated)) }
+    ensures refused { IfErr result (OrNoMemory MessageFault.NoMemory
+        (IsFaultAt (B.refuses_policy bodies.now) (B.refuses_entity bodies.now) place (stated_update stated))) }
+{
+    let judged = judge_stamp(place, &stated.stamped);
+    let (stated, ()) = beside(stated, judged)?;
+    match read_update(alloc, bodies, scratch, stated) {
+        Ok(update) => Ok(update),
+        Err(fault) => Err(fault_at(place, fault)),
+    }
+}
+
+/// Returns the updates, each in turn, up to the first fault.
+fn read_all<P: Drop, E: Drop, B: Bodies<P, E>>(
+    alloc: Global,
+    bodies: &B,
+    scratch: &mut Scratch,
+    entries: Vec<Stated>,
+) -> Result<Vec<Update<P, E>>, MessageFault>
+    ensures read { IfOk result (λ us. AreTaken (B.reads_policy bodies.now) (B.reads_entity bodies.now) 0
+        (map stated_update entries.items) us.items) }
+    ensures refused { IfErr result (OrNoMemory MessageFault.NoMemory (Stops (B.reads_policy bodies.now)
+        (B.reads_entity bodies.now) (B.refuses_policy bodies.now) (B.refuses_entity bodies.now) 0
+        (map stated_update entries.items))) }
+{
+    let count = entries.len();
+    let mut updates = Vec::with_capacity(alloc, count)?;
+    let mut rest = VecDeque::from_vec(entries);
+    for place in 0..count {
+        let Some(entry) = rest.pop_front() else {
+            unreachable!();
+        };
+        let update = read_at(alloc, bodies, scratch, place, entry)?;
+        updates.push(update)?;
+    }
+    Ok(updates)
+}
+
+/// Returns the updates of a state or a delta, in their order, under the schema of this label, each with what its text
+/// was read as; names may stand in any order, and more than once. Or the first fault, in this order: bytes that are no
+/// JSON; no object with a whole-number `version`; a version other than 1 and 2; the rest of the shape, all entries
+/// included; another schema; then entry by entry a count out of range, a policy's id that has not 1 to 256 bytes or a
+/// body that is refused (both with the number of the refusal inside), and a body of another entity. A message with any
+/// fault is refused whole. In version 1 each number of a site is read as the site whose name is its five digits. Fails
+/// for memory too.
+pub fn read_message<P: Drop, E: Drop, B: Bodies<P, E>>(
+    alloc: Global,
+    label: &str,
+    bodies: &B,
+    bytes: &[u8],
+) -> Result<Vec<Update<P, E>>, MessageFault>
+    ensures read { IfOk result (λ us. IsMessage (B.reads_policy bodies.now) (B.reads_entity bodies.now)
+        label.now bytes.now us.items) }
+    ensures raised { IfOk result (λ us. (ns : List NumberedUpdate) → IsVersion1Message label.now bytes.now ns
+        → plain_updates us.items ≡ raise ns) }
+    ensures refused { IfErr result (OrNoMemory MessageFault.NoMemory (IsMessageFault (B.reads_policy bodies.now)
+        (B.reads_entity bodies.now) (B.refuses_policy bodies.now) (B.refuses_entity bodies.now) label.now bytes.now)) }
+{
+    messages_are_raised();
+    stamps_read_back();
+    let mut scratch = Scratch::new(alloc);
+    let entries = read_stated(alloc, &mut scratch, label, bytes)?;
+    read_all(alloc, bodies, &mut scratch, entries)
+}

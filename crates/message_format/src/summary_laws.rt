@@ -1,0 +1,56 @@
+//! Laws of messages, by the contracts of functions that do nothing.
+ghost use Rattle.std.specs.Prelude.{◌≡◌, true, Ok, List, ℕ};
+ghost use Rattle.std.specs.Str.{IsUtf8};
+ghost use Rattle.serde_json.specs.Data.{Data};
+ghost use Rattle.values.specs.declared.name.Name.{Name};
+ghost use Rattle.stamped_store.specs.declared.entry.Stamp.{Stamp};
+ghost use Rattle.stamped_store.specs.Deltas.{Summary, summary_of};
+ghost use Rattle.stamped_store.specs.Store.{Store};
+ghost use Rattle.message_format.specs.declared.version.MessageVersion.{MessageVersion};
+ghost use Rattle.message_format.specs.Summaries.{ascend, AreStamped, summary_json, summary_in};
+ghost use Rattle.message_format.specs.Summaries.{summary_text, summary_stated, IsWritten, IsName, IsStamped};
+ghost use Rattle.message_format.specs.NumberedSummaries.{NumberedStamp, HaveNumbers, raise_stamps};
+ghost use Rattle.message_format.specs.NumberedSummaries.{numbered_summary_json};
+ghost use Rattle.message_format.specs.Summaries.{name_json, name_in, stamped_in, judged};
+
+use entity_uids::names_read_back;
+use json_words::compact_texts_read_back;
+use stamped_store::laws::site_names_are_told;
+use values::paths_are_told;
+
+/// The JSON of a summary is read as this summary, and the JSON of a summary of version 1 as the summary in which each
+/// site's number is replaced by its five digits; what is read as a summary has names and stamps in their ranges, its
+/// names ascending; so have the names of a store's summary; the text of a summary that may be written is read as this
+/// summary, and two summaries that are written alike are one.
+pub fn summaries_read_back()
+    ensures back { (label : List ℕ) (m : Summary) → AreStamped m → ascend m ≡ true
+        → summary_in label (summary_json label m) ≡ Ok m }
+    ensures numbered { (label : List ℕ) (ns : List NumberedStamp) → HaveNumbers ns → AreStamped (raise_stamps ns)
+        → ascend (raise_stamps ns) ≡ true
+        → summary_in label (numbered_summary_json label ns) ≡ Ok (raise_stamps ns) }
+    ensures sound { (label bytes : List ℕ) (m : Summary) → summary_stated label bytes ≡ Ok m
+        → AreStamped m × (ascend m ≡ true) }
+    ensures ascending { (s : Store) → ascend (summary_of s) ≡ true }
+    ensures text { (label : List ℕ) (m : Summary) → IsUtf8 label → IsWritten m
+        → summary_stated label (summary_text label m) ≡ Ok m }
+    ensures one_text { (label : List ℕ) (m n : Summary) → IsUtf8 label → IsWritten m → IsWritten n
+        → summary_text label m ≡ summary_text label n → m ≡ n }
+{
+    paths_are_told();
+    site_names_are_told();
+    compact_texts_read_back();
+    names_read_back();
+}
+
+/// The JSON of a name is read as this name; a name with a stamp in their ranges is judged so; and what is read as a
+/// name with a stamp, and is judged so, has both in their ranges.
+pub fn stamps_read_back()
+    ensures names { (n : Name) → IsName n → name_in (name_json n) ≡ Ok n }
+    ensures judged { (place : ℕ) (u : Name × Stamp) → IsStamped u → judged place u ≡ Ok u }
+    ensures sound { (place : ℕ) (version : MessageVersion) (d : Data) (u v : Name × Stamp)
+        → stamped_in version d ≡ Ok u → judged place u ≡ Ok v → IsStamped u }
+{
+    paths_are_told();
+    site_names_are_told();
+    names_read_back();
+}

@@ -1,0 +1,211 @@
+//! Writing a state or a delta.
+ghost use Rattle.std.specs.Prelude.{◌≡◌, [], true, Some, Ok, IfOk, OnOk, codes, map};
+ghost use Rattle.serde_json.specs.Data.{array};
+ghost use Rattle.serde_json.specs.View.{items_of};
+ghost use Rattle.serde_json.specs.Written.{compact_text};
+ghost use Rattle.json_words.specs.Json.{json_of};
+ghost use Rattle.values.specs.Names.{name_cmp};
+ghost use Rattle.stamped_store.specs.Deltas.{delta, is_news as is_news_where};
+ghost use Rattle.stamped_store.specs.EntryOrder.{plain_entry, body_bytes};
+ghost use Rattle.stamped_store.specs.Store.{abstract_store, updates};
+ghost use Rattle.stamped_store.specs.Stored.{value_at};
+ghost use Rattle.message_format.specs.Summaries.{ascend};
+ghost use Rattle.entity_uids.specs.Tokens.{AppendsValue, AppendsMember, AppendsAll};
+ghost use Rattle.message_format.specs.Messages.{body_json, entry_json, message_json, state_json, state_text};
+ghost use Rattle.message_format.specs.Messages.{delta_json, delta_text, updates_stated};
+ghost use Rattle.message_format.specs.Updates.{AreInRange};
+ghost use Rattle.message_format.specs.inner.Walking.{IsFrom, IsWalked};
+ghost use Rattle.message_format.specs.inner.Writing.{news_by};
+
+use crate::laws::messages_read_back;
+use crate::members::{Lent, write_number, write_text};
+use crate::summary::Summary;
+use json::Writer;
+use plain::NoMemory;
+use stamped_store::{Entry, PolicyStore, ReadText, Stamp};
+use std::alloc::Global;
+use std::cmp::Ordering;
+use std::collections::btree_map::Iter;
+use values::Name;
+
+/// Returns the member `body`: a text, or null.
+fn write_body<P>(out: &mut Writer, body: &Option<ReadText<P>>) -> Result<(), NoMemory>
+    ensures { OnOk result (AppendsMember out.old out.new (codes "body") (body_json (body_bytes body.now))) }
+{
+    match body {
+        Some(read) => write_text(out, "body", read.text.as_str()),
+        None => {
+            out.key("body")?;
+            out.null()
+        }
+    }
+}
+
+fn write_entry<N: Lent, P>(out: &mut Writer, name: &N, entry: &Entry<P>) -> Result<(), NoMemory>
+    ensures { OnOk result (AppendsValue out.old out.new (entry_json (N.named name.now, plain_entry entry.now))) }
+{
+    out.begin_object()?;
+    write_body(out, &entry.body)?;
+    write_number(out, "count", entry.stamp.count)?;
+    name.write(out)?;
+    write_text(out, "site", entry.stamp.site.as_str())?;
+    out.end_object()
+}
+
+/// Returns what is left of ascending stamps from a name on, and the stamp of this name.
+fn from_name<'a, N: Lent>(
+    known: &'a [(Name, Stamp)],
+    name: &N,
+) -> (&'a [(Name, Stamp)], Option<Stamp>)
+    requires { ascend known.now ≡ true }
+    ensures left { IsFrom (N.named name.now) known.now result.0.now }
+    ensures stamp { result.1 ≡ value_at name_cmp known.now (N.named name.now) }
+{
+    let mut left = known;
+    while let Some((first, others)) = left.split_first() {
+        match name.compare(&first.0) {
+            Ordering::Less => left = others,
+            Ordering::Equal => return (left, Some(first.1)),
+            Ordering::Greater => return (left, None),
+        }
+    }
+    (left, None)
+}
+
+/// Returns whether an entry is news where this stamp is known.
+fn is_news<P>(known: Option<Stamp>, entry: &Entry<P>) -> bool
+    ensures { result ≡ is_news_where known (Some (plain_entry entry.now)) }
+{
+    match known {
+        None => true,
+        Some(held) => held.cmp(&entry.stamp).is_lt(),
+    }
+}
+
+/// Writes an entry if it is news where this stamp is known.
+fn push_news<N: Lent, P>(
+    out: &mut Writer,
+    known: Option<Stamp>,
+    name: &N,
+    entry: &Entry<P>,
+) -> Result<(), NoMemory>
+    ensures { OnOk result (AppendsAll out.old out.new (news_by known (N.named name.now, plain_entry entry.now))) }
+{
+    if !is_news(known, entry) {
+        return Ok(());
+    }
+    write_entry(out, name, entry)
+}
+
+/// Writes those of ascending entries that are news, and tells what is left of the stamps behind their names.
+fn push_all<'a, N: Lent + Drop, P: Drop>(
+    out: &mut Writer,
+    entries: Iter<'_, N, Entry<P>>,
+    known: &'a [(Name, Stamp)],
+) -> Result<&'a [(Name, Stamp)], NoMemory>
+    requires { ascend known.now ≡ true }
+    ensures ascending { IfOk result (λ left. ascend left.now ≡ true) }
+    ensures walked { IfOk result
+        (λ left. IsWalked N.named known.now left.now out.old out.new entries.entry entries.entry []) }
+{
+    let mut left = known;
+    for (name, entry) in entries {
+        let (from, stamp) = from_name(left, name);
+        left = from;
+        push_news(out, stamp, name, entry)?;
+    }
+    Ok(left)
+}
+
+/// Returns the entries of a store that are news, in the order of the names: one walk over the names of both.
+fn write_entries<P: Drop, E: Drop>(
+    out: &mut Writer,
+    store: &PolicyStore<P, E>,
+    known: &[(Name, Stamp)],
+) -> Result<(), NoMemory>
+    requires { ascend known.now ≡ true }
+    ensures { OnOk result (AppendsValue out.old out.new
+        (array (items_of (map entry_json (updates (delta (abstract_store store.now) known.now)))))) }
+{
+    out.begin_array()?;
+    let left = push_all(out, store.policies(), known)?;
+    push_all(out, store.entities(), left)?;
+    out.end_array()
+}
+
+fn write_whole<P: Drop, E: Drop>(
+    out: &mut Writer,
+    kind: &str,
+    label: &str,
+    store: &PolicyStore<P, E>,
+    known: &[(Name, Stamp)],
+) -> Result<(), NoMemory>
+    requires { ascend known.now ≡ true }
+    ensures { OnOk result (AppendsValue out.old out.new
+        (message_json kind.now label.now (updates (delta (abstract_store store.now) known.now)))) }
+{
+    out.begin_object()?;
+    out.key("entries")?;
+    write_entries(out, store, known)?;
+    write_text(out, "kind", kind)?;
+    write_text(out, "schema", label)?;
+    write_number(out, "version", 2)?;
+    out.end_object()
+}
+
+/// Returns the message as bytes.
+fn write_message<P: Drop, E: Drop>(
+    alloc: Global,
+    kind: &str,
+    label: &str,
+    store: &PolicyStore<P, E>,
+    known: &[(Name, Stamp)],
+) -> Result<Vec<u8>, NoMemory>
+    requires { ascend known.now ≡ true }
+    ensures text { IfOk result (λ b. b.items ≡ compact_text
+        (message_json kind.now label.now (updates (delta (abstract_store store.now) known.now)))) }
+    ensures json { IfOk result (λ b. json_of b.items
+        ≡ Some (message_json kind.now label.now (updates (delta (abstract_store store.now) known.now)))) }
+{
+    let mut out = Writer::new(Vec::new(alloc));
+    write_whole(&mut out, kind, label, store, known)?;
+    Ok(out.into_inner())
+}
+
+/// Returns a store whole, as a state under the schema of this label: compact, keys and names ascending. Where each name
+/// and stamp is one that a message may have, it is read back as the updates that it was written of. Fails for memory
+/// alone.
+///
+/// The bytes are written straight from the store, and take no memory but their own.
+pub fn write_state<P: Drop, E: Drop>(
+    alloc: Global,
+    label: &str,
+    store: &PolicyStore<P, E>,
+) -> Result<Vec<u8>, NoMemory>
+    ensures text { IfOk result (λ b. b.items ≡ state_text label.now (abstract_store store.now)) }
+    ensures json { IfOk result (λ b. json_of b.items ≡ Some (state_json label.now (abstract_store store.now))) }
+    ensures reads_back { IfOk result (λ b. AreInRange (updates (abstract_store store.now))
+        → updates_stated label.now b.items ≡ Ok (updates (abstract_store store.now))) }
+{
+    messages_read_back();
+    write_message(alloc, "state", label, store, &[])
+}
+
+/// Returns the part of a store that is news to whoever has this summary, as a delta under the schema of this label: the
+/// entries whose names have no stamp there or a smaller one. Written, and read back, as a state is. One walk over the
+/// names of both, which takes memory for what is news alone. Fails for memory alone.
+pub fn write_delta<P: Drop, E: Drop>(
+    alloc: Global,
+    label: &str,
+    store: &PolicyStore<P, E>,
+    since: &Summary,
+) -> Result<Vec<u8>, NoMemory>
+    ensures text { IfOk result (λ b. b.items ≡ delta_text label.now (delta (abstract_store store.now) since.now)) }
+    ensures json { IfOk result
+        (λ b. json_of b.items ≡ Some (delta_json label.now (delta (abstract_store store.now) since.now))) }
+    ensures reads_back { IfOk result (λ b. AreInRange (updates (delta (abstract_store store.now) since.now))
+        → updates_stated label.now b.items ≡ Ok (updates (delta (abstract_store store.now) since.now))) }
+{
+    messages_read_back();
+    write_message(alloc, "delta", label, store, since.stamps())
+}

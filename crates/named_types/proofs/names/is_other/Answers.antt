@@ -1,5 +1,0 @@
-use Rattle.std.proofs.Common.{rules}
-use Rattle.named_types.proofs.names.is_other.Goals as goal
-
-pub returns : goal.returns
-returns c = search rules

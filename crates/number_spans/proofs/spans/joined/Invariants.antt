@@ -1,7 +1,0 @@
-use Rattle.std.proofs.Common.{◌≡◌, ◌||◌, ℕ, drop}
-use Rattle.number_spans.specs.Spans.{has_number}
-use Rattle.number_spans.proofs.spans.joined.Given as goal
-
--- what was joined, and what is left, have the numbers of all
-abbrev pub invariant-loop-span : goal.invariant-loop-span
-invariant-loop-span l = (n : ℕ) → (has_number l.found.items n || has_number (drop l.span-index l.span-items) n) ≡ has_number l.fn.spans.items n

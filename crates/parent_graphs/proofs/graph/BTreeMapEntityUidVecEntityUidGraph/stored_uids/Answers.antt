@@ -1,5 +1,0 @@
-use Rattle.std.proofs.Common.{rules}
-use Rattle.parent_graphs.proofs.graph.BTreeMapEntityUidVecEntityUidGraph.stored_uids.Goals as goal
-
-pub returns-clause-all : goal.returns-clause-all
-returns-clause-all c = search rules

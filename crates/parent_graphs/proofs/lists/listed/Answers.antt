@@ -1,9 +1,0 @@
-use Rattle.std.proofs.Common.{rules}
-use Rattle.parent_graphs.proofs.Sets.{ascending_names}
-use Rattle.parent_graphs.proofs.lists.listed.Goals as goal
-
-pub returns-clause-ascending : goal.returns-clause-ascending
-returns-clause-ascending c = ascending_names _ c.len-ascending.ensures.ordered
-
-pub returns-clause-same : goal.returns-clause-same
-returns-clause-same c = search rules

@@ -1,5 +1,0 @@
-use Rattle.std.proofs.Common.{rules}
-use Rattle.parent_graphs.proofs.numbers.is_marked.Goals as goal
-
-pub returns-then-number-marks : goal.returns-then-number-marks
-returns-then-number-marks c = search rules

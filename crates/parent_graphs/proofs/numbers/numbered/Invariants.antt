@@ -1,7 +1,0 @@
-use Rattle.std.proofs.Common.{◌≡◌, length}
-use Rattle.parent_graphs.specs.Hierarchy.{names}
-use Rattle.parent_graphs.specs.inner.Numbering.{AreNumbered}
-use Rattle.parent_graphs.proofs.numbers.numbered.Given as goal
-
-abbrev pub invariant-loop-uid : goal.invariant-loop-uid
-invariant-loop-uid g l = record { len : length l.edges.items ≡ l.uid-index; done : AreNumbered (g.G.ParentsOf.parents l.graph) (names l.uids) l.uid-index l.edges.items }

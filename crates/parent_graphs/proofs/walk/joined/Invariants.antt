@@ -1,9 +1,0 @@
-use Rattle.std.proofs.Common.{◌≤◌, vec_len, length}
-use Rattle.parent_graphs.specs.inner.Walking.{JoinsDownTo}
-use Rattle.parent_graphs.proofs.walk.joined.Given as goal
-
-abbrev pub invariant-loop-last : goal.invariant-loop-last
-invariant-loop-last l = record { joins : JoinsDownTo l.place l.fn.bounds.items l.fn.last l.bounds.items l.last; fewer : length l.bounds.items ≤ length l.fn.bounds.items }
-
-abbrev pub decreases-loop-last : goal.decreases-loop-last
-decreases-loop-last l = vec_len l.bounds

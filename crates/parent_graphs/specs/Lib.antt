@@ -1,5 +1,0 @@
-pub mod Decided
-pub mod Deciding
-pub mod Hierarchy
-pub mod Search
-pub mod inner

@@ -1,9 +1,0 @@
-use Rattle.std.proofs.lemmas.Result.{IfOk-weaker}
-use Rattle.validator.specs.schema.Views.{schema_view}
-use Rattle.policy_checks.proofs.TellingLemmas.{are_checked}
-use Rattle.policy_checks.proofs.checking.check_texts.Goals as goal
-
-pub returns-clause-checked : goal.returns-clause-checked
-returns-clause-checked c =
-    IfOk-weaker c.check_file.result _ _ (λ told. are_checked c.args.schema.now c.args.policies.now told.0.items told.1 (schema_view c.in_ok-schema.schema) c.in_ok-schema.ensures.read)
-    c.check_file.ensures.told

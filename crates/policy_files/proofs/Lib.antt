@@ -1,9 +1,0 @@
-pub mod Cutting
-pub mod Splitting
-pub mod Alone
-pub mod Endless
-pub mod Counting
-pub mod Alike
-pub mod Deriving
--- crates below, passed on to those above
-pub use Rattle.policy_syntax.proofs.of_policy_tokens

@@ -1,9 +1,0 @@
-//! The texts of the policies in a file, each on its own.
-#![tactic(auto)]
-
-mod cuts;
-mod laws;
-
-pub use cuts::policy_texts;
-pub use laws::{files_are_cut_by_policies, texts_stand_alone};
-pub use policy_syntax::{LexFault, lexing_is_unique, reading_is_unique};

@@ -1,0 +1,19 @@
+use Rattle.std.proofs.Common.{◌≡◌, ◌⊎◌, ap, sym, subst, ◌∙◌}
+use Rattle.grammar_desugaring.specs.grammar_tokens.declared.fault.SyntaxFault.TheVariants as syntax
+use Rattle.grammar_policies.specs.grammar_expressions.Expressions.{nesting_limit}
+use Rattle.grammar_desugaring.specs.grammar_tokens.Lang.{at_any}
+use Rattle.grammar_desugaring.specs.grammar_tokens.Reads.{IsRefusedWithin}
+use Rattle.grammar_policies.specs.Grammar as grammar
+use Rattle.policy_grammar.specs.Texts.{most_file_bytes, IsUnread}
+use Rattle.plain.specs.Refused.{OrNoMemory}
+use Rattle.policy_grammar.specs.declared.fault.ReadFault.TheVariants as fault
+use Rattle.policy_grammar.specs.inner.TreeParts.{refusal_of}
+use Rattle.policy_grammar.proofs.Unread.{unread}
+use Rattle.policy_grammar.proofs.trees.policy_trees.Goals as goal
+
+pub returns-clause-err : goal.returns-clause-err
+returns-clause-err c =
+    subst (OrNoMemory fault.NoMemory (IsUnread (grammar.policies nesting_limit) (at_any grammar.policies) most_file_bytes c.args.text.now))
+    (sym (c.refusal.ensures ∙ ap (λ ts. refusal_of c.args.text.now ts c.in-Err.fault) c.deref-in-Err.ensures.value))
+    (unread (grammar.policies nesting_limit) (at_any grammar.policies) most_file_bytes c.args.text.now c.in_ok-tokens.tokens.items c.in_ok-tokens.ensures.ok c.in-Err.fault
+    (subst (λ ts. (c.in-Err.fault ≡ syntax.NoMemory) ⊎ IsRefusedWithin (grammar.policies nesting_limit) (at_any grammar.policies) ts c.in-Err.fault) c.deref.ensures.value c.in-Err.ensures.reads))

@@ -1,0 +1,48 @@
+-- The refusals by number and place. The numbers are a rule of this product.
+use Rattle.std.specs.Prelude.{ℕ, Option, Some, None}
+use Rattle.grammar_desugaring.specs.grammar_tokens.declared.lex_fault.LexFault.{LexFault}
+use Rattle.grammar_desugaring.specs.grammar_tokens.declared.lex_fault.LexFault.TheVariants as lex
+use Rattle.grammar_desugaring.specs.declared.fault.DesugarFault.{DesugarFault}
+use Rattle.grammar_desugaring.specs.declared.fault.DesugarFault.TheVariants as desugar
+use Rattle.policy_grammar.specs.declared.fault.ReadFault.{ReadFault}
+use Rattle.policy_grammar.specs.declared.fault.ReadFault.TheVariants.{NoMemory, BadToken, Unexpected, NumberRange}
+use Rattle.policy_grammar.specs.declared.fault.ReadFault.TheVariants.{UnknownCall, Arity, RepeatedKey, Slot, TooDeep}
+use Rattle.policy_grammar.specs.declared.fault.ReadFault.TheVariants.{TooLong, BadId}
+
+abbrev pub code_of : ReadFault → ℕ
+code_of NoMemory = 1
+code_of (BadToken at) = 10
+code_of (Unexpected at) = 11
+code_of (NumberRange at) = 12
+code_of (UnknownCall at) = 13
+code_of (Arity at) = 14
+code_of (RepeatedKey at) = 15
+code_of (Slot at) = 16
+code_of (TooDeep at) = 17
+code_of TooLong = 18
+code_of BadId = 19
+
+-- TooLong and BadId are told at the text's start.
+abbrev pub place_of : ReadFault → Option ℕ
+place_of NoMemory = None
+place_of (BadToken at) = Some at
+place_of (Unexpected at) = Some at
+place_of (NumberRange at) = Some at
+place_of (UnknownCall at) = Some at
+place_of (Arity at) = Some at
+place_of (RepeatedKey at) = Some at
+place_of (Slot at) = Some at
+place_of (TooDeep at) = Some at
+place_of TooLong = Some 0
+place_of BadId = Some 0
+
+abbrev pub of_lexing : LexFault → ReadFault
+of_lexing lex.NoMemory = NoMemory
+of_lexing (lex.BadToken at) = BadToken at
+
+-- a fault of a condition, or an annotation that stands again
+abbrev pub of_desugaring : DesugarFault → ReadFault
+of_desugaring (desugar.NumberRange at) = NumberRange at
+of_desugaring (desugar.UnknownCall at) = UnknownCall at
+of_desugaring (desugar.Arity at) = Arity at
+of_desugaring (desugar.RepeatedKey at) = RepeatedKey at

@@ -1,0 +1,29 @@
+-- What the parts of the reader tell one another.
+use Rattle.std.specs.Prelude.{ℕ, ◌≤◌, ◌<◌, List, length, slice_get}
+use Rattle.std.specs.List.{AllByRecursion}
+use Rattle.grammar_desugaring.specs.grammar_tokens.declared.token.Token.{Token}
+use Rattle.grammar_desugaring.specs.grammar_tokens.Lexing.{IsLexed, IsSpelledIn, IsBadAt}
+use Rattle.grammar_desugaring.specs.grammar_tokens.declared.fault.SyntaxFault.{SyntaxFault}
+use Rattle.grammar_desugaring.specs.grammar_tokens.declared.fault.SyntaxFault.TheVariants as syntax
+use Rattle.policy_grammar.specs.declared.fault.ReadFault.{ReadFault}
+use Rattle.policy_grammar.specs.declared.fault.ReadFault.TheVariants as fault
+use Rattle.policy_grammar.specs.Texts.{byte_of}
+
+-- the tokens of a text that is not too long
+pub record LexedIn (most : ℕ) (text : List ℕ) (tokens : List Token) : Type 0 where
+  pub short : length text ≤ most
+  pub lexed : IsLexed text tokens
+  pub spelled : AllByRecursion (IsSpelledIn text) tokens
+
+-- why there are none
+abbrev pub IsUnlexed : ℕ → List ℕ → ReadFault → Type 0
+IsUnlexed most text fault.TooLong = most < length text
+IsUnlexed most text (fault.BadToken at) = (length text ≤ most) × IsBadAt text at
+IsUnlexed most text _ = ⊥
+
+-- the refusal that a token's index tells, by the byte at which that token starts
+abbrev pub refusal_of : List ℕ → List Token → SyntaxFault → ReadFault
+refusal_of text tokens syntax.NoMemory = fault.NoMemory
+refusal_of text tokens (syntax.Unexpected place) = fault.Unexpected (byte_of text (slice_get tokens place))
+refusal_of text tokens (syntax.Slot place) = fault.Slot (byte_of text (slice_get tokens place))
+refusal_of text tokens (syntax.TooDeep place) = fault.TooDeep (byte_of text (slice_get tokens place))

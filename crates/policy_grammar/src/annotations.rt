@@ -1,0 +1,44 @@
+//! Which annotation stands a second time in its policy, and where first.
+ghost use Rattle.std.specs.Prelude.{◌≡◌, IfOk};
+ghost use Rattle.grammar_policies.specs.WellFormed.{WellFormedPolicy};
+ghost use Rattle.grammar_desugaring.specs.Refused.{least};
+ghost use Rattle.grammar_desugaring.specs.Repeats.{repeat_faults, abstract_names};
+ghost use Rattle.grammar_desugaring.specs.BuiltFrom.{IsBuiltFrom};
+ghost use Rattle.policy_grammar.specs.Annotations.{annotation_keys};
+
+use grammar_desugaring::{DesugarFault, NameAt, first_duplicate, spelling};
+use grammar_policies::PolicyTree;
+use plain::NoMemory;
+use std::alloc::Global;
+
+/// Returns the annotations of a policy, each at its `@`.
+fn names_of_annotations<'a>(
+    alloc: Global,
+    text: &'a str,
+    tree: &PolicyTree,
+) -> Result<Vec<NameAt<'a>>, NoMemory>
+    requires { IsBuiltFrom text.now (λ tokens. WellFormedPolicy tokens tree.now) }
+    ensures { IfOk result (λ marks. abstract_names marks.items ≡ annotation_keys text.entry.now tree.now) }
+{
+    let mut marks = Vec::new(alloc);
+    for annotation in tree.annotations.as_slice() {
+        marks.push(NameAt {
+            name: spelling(text, annotation.key),
+            at: annotation.at.start,
+        })?;
+    }
+    Ok(marks)
+}
+
+/// Returns the fault of an annotation that stands again in its policy, the one at the least place.
+pub fn repeated_annotation(
+    alloc: Global,
+    text: &str,
+    tree: &PolicyTree,
+) -> Result<Option<DesugarFault>, NoMemory>
+    requires { IsBuiltFrom text.now (λ tokens. WellFormedPolicy tokens tree.now) }
+    ensures { IfOk result (λ fault. fault ≡ least (repeat_faults (annotation_keys text.now tree.now))) }
+{
+    let keys = names_of_annotations(alloc, text, tree)?;
+    first_duplicate(alloc, &keys)
+}

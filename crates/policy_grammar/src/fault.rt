@@ -1,0 +1,128 @@
+//! Why a text is not read as policies.
+ghost use Rattle.std.specs.Prelude.{◌≡◌};
+ghost use Rattle.policy_grammar.specs.declared.fault.ReadFault.TheVariants.{NoMemory};
+ghost use Rattle.policy_grammar.specs.Faults.{code_of, place_of, of_lexing, of_desugaring};
+
+use grammar_desugaring::{DesugarFault, LexFault};
+use std::alloc::{AllocError, AllocFailed};
+use thiserror::Error;
+
+/// Why a text is not read. Each place is a byte's, counted from 0.
+#[derive(Clone, Copy, PartialEq, Eq, Debug, Error)]
+pub enum ReadFault {
+    /// An allocation was refused.
+    #[error("policy 1: out of memory")]
+    NoMemory,
+    /// Here stands neither a blank nor a comment nor a token: among others a string that is not closed, or that has a
+    /// bad escape.
+    #[error("policy 10: invalid token at byte {0}")]
+    BadToken(usize),
+    /// The first token with which nothing goes on, or the text's length where it ends too early.
+    #[error("policy 11: unexpected token at byte {0}")]
+    Unexpected(usize),
+    /// A number outside signed 64 bits. A minus before it joins it.
+    #[error("policy 12: number outside signed 64 bits at byte {0}")]
+    NumberRange(usize),
+    /// The name of a call that no function, or no method, has.
+    #[error("policy 13: unknown function or method at byte {0}")]
+    UnknownCall(usize),
+    /// The name of a known call with another count of arguments.
+    #[error("policy 14: wrong number of arguments at byte {0}")]
+    Arity(usize),
+    /// A key of a record, an annotation (its `@`) or a policy's name in a file (the policy's first token) that stands
+    /// a second time.
+    #[error("policy 15: repeated key, annotation or policy id at byte {0}")]
+    RepeatedKey(usize),
+    /// In place of `Unexpected` where that token is `?principal` or `?resource`.
+    #[error("policy 16: template slot at byte {0}; templates are not supported")]
+    Slot(usize),
+    /// The token that would open a level of nesting too many; or, at place 0, a policy's core
+    /// expression is higher than 1,000, or has over 1,000,000 forms.
+    #[error("policy 17: nested too deeply, or too large, at byte {0}")]
+    TooDeep(usize),
+    /// Over 262,144 bytes; a file over 8,388,608.
+    #[error("policy 18: text longer than 262,144 bytes, or file longer than 8,388,608")]
+    TooLong,
+    /// In a file: a policy's name of no byte, or of over 256.
+    #[error("policy 19: policy id of 0 bytes, or of over 256")]
+    BadId,
+}
+
+impl ReadFault {
+    /// Returns the number by which the refusal is told.
+    pub fn code(self) -> u8
+        ensures { result ≡ code_of self }
+    {
+        match self {
+            ReadFault::NoMemory => 1,
+            ReadFault::BadToken(_) => 10,
+            ReadFault::Unexpected(_) => 11,
+            ReadFault::NumberRange(_) => 12,
+            ReadFault::UnknownCall(_) => 13,
+            ReadFault::Arity(_) => 14,
+            ReadFault::RepeatedKey(_) => 15,
+            ReadFault::Slot(_) => 16,
+            ReadFault::TooDeep(_) => 17,
+            ReadFault::TooLong => 18,
+            ReadFault::BadId => 19,
+        }
+    }
+
+    /// Returns the byte at which it shows; None for want of memory.
+    pub fn place(self) -> Option<usize>
+        ensures { result ≡ place_of self }
+    {
+        match self {
+            ReadFault::NoMemory => None,
+            ReadFault::BadToken(at)
+            | ReadFault::Unexpected(at)
+            | ReadFault::NumberRange(at)
+            | ReadFault::UnknownCall(at)
+            | ReadFault::Arity(at)
+            | ReadFault::RepeatedKey(at)
+            | ReadFault::Slot(at)
+            | ReadFault::TooDeep(at) => Some(at),
+            ReadFault::TooLong | ReadFault::BadId => Some(0),
+        }
+    }
+}
+
+impl From<AllocError> for ReadFault {
+    ghost from_gives = { λ _ e. e ≡ NoMemory };
+
+    fn from(_error: AllocError) -> ReadFault {
+        ReadFault::NoMemory
+    }
+}
+
+impl<T: Drop> From<AllocFailed<T>> for ReadFault {
+    ghost from_gives = { λ _ e. e ≡ NoMemory };
+
+    fn from(_error: AllocFailed<T>) -> ReadFault {
+        ReadFault::NoMemory
+    }
+}
+
+impl From<LexFault> for ReadFault {
+    ghost from_gives = { λ error e. e ≡ of_lexing error };
+
+    fn from(error: LexFault) -> ReadFault {
+        match error {
+            LexFault::NoMemory => ReadFault::NoMemory,
+            LexFault::BadToken(at) => ReadFault::BadToken(at),
+        }
+    }
+}
+
+impl From<DesugarFault> for ReadFault {
+    ghost from_gives = { λ fault e. e ≡ of_desugaring fault };
+
+    fn from(fault: DesugarFault) -> ReadFault {
+        match fault {
+            DesugarFault::NumberRange(at) => ReadFault::NumberRange(at),
+            DesugarFault::UnknownCall(at) => ReadFault::UnknownCall(at),
+            DesugarFault::Arity(at) => ReadFault::Arity(at),
+            DesugarFault::RepeatedKey(at) => ReadFault::RepeatedKey(at),
+        }
+    }
+}

@@ -1,0 +1,109 @@
+//! Whole texts as trees: a uid, a policy, a file of policies.
+ghost use Rattle.std.specs.Prelude.{◌≡◌, IfOk, IfErr, slice_get};
+ghost use Rattle.std.specs.List.{AllByRecursion};
+ghost use Rattle.grammar_policies.specs.grammar_expressions.Expressions.{nesting_limit};
+ghost use Rattle.grammar_desugaring.specs.grammar_tokens.Lang.{at_any};
+ghost use Rattle.grammar_policies.specs.Grammar as grammar;
+ghost use Rattle.grammar_policies.specs.WellFormed.{WellFormedUid, WellFormedPolicy};
+ghost use Rattle.grammar_desugaring.specs.BuiltFrom.{IsBuiltFrom};
+ghost use Rattle.policy_grammar.specs.declared.fault.ReadFault.TheVariants as ReadFault;
+ghost use Rattle.plain.specs.Refused.{OrNoMemory};
+ghost use Rattle.policy_grammar.specs.Texts.{most_policy_bytes, most_file_bytes, Derives, IsUnread, byte_of};
+ghost use Rattle.policy_grammar.specs.inner.TreeParts.{LexedIn, IsUnlexed, refusal_of};
+
+use crate::fault::ReadFault;
+use grammar_desugaring::{Token, tokens};
+use grammar_policies::{PolicyTree, SyntaxFault, UidTree, read_policies, read_policy, read_uid};
+use std::alloc::Global;
+
+/// The most bytes of a policy text, or of one uid.
+pub const MOST_POLICY_BYTES: usize = 262_144;
+
+/// The most bytes of a file of policies.
+pub const MOST_FILE_BYTES: usize = 8_388_608;
+
+/// The most bytes of a uid's text.
+const MOST_UID_BYTES: usize = MOST_POLICY_BYTES;
+
+/// Returns the tokens of a text that is not too long.
+fn tokens_of(alloc: Global, text: &str, most: usize) -> Result<Vec<Token>, ReadFault>
+    ensures ok { IfOk result (λ tokens. LexedIn most text.now tokens.items) }
+    ensures err { IfErr result (OrNoMemory ReadFault.NoMemory (IsUnlexed most text.now)) }
+{
+    if text.len() > most {
+        return Err(ReadFault::TooLong);
+    }
+    let found = tokens(alloc, text)?;
+    Ok(found)
+}
+
+/// Returns the byte at which the token at an index starts, or the text's length behind the last.
+fn byte(text: &str, tokens: &[Token], place: usize) -> usize
+    ensures { result ≡ byte_of text.now (slice_get tokens.now place) }
+{
+    match tokens.get(place) {
+        Some(token) => token.start,
+        None => text.len(),
+    }
+}
+
+/// Returns the refusal of tokens as one of their text.
+fn refusal(text: &str, tokens: &[Token], fault: SyntaxFault) -> ReadFault
+    ensures { result ≡ refusal_of text.now tokens.now fault }
+{
+    match fault {
+        SyntaxFault::NoMemory => ReadFault::NoMemory,
+        SyntaxFault::Unexpected(place) => ReadFault::Unexpected(byte(text, tokens, place)),
+        SyntaxFault::Slot(place) => ReadFault::Slot(byte(text, tokens, place)),
+        SyntaxFault::TooDeep(place) => ReadFault::TooDeep(byte(text, tokens, place)),
+    }
+}
+
+/// Returns the tree of a uid's text: `TooLong`, then `BadToken`, `Unexpected` or `Slot`, is why there is none.
+pub fn uid_tree(alloc: Global, text: &str) -> Result<UidTree, ReadFault>
+    ensures derives { IfOk result (Derives grammar.uid most_policy_bytes text.now) }
+    ensures stands { IfOk result (λ tree. IsBuiltFrom text.now (λ tokens. WellFormedUid tokens tree)) }
+    ensures err { IfErr result
+        (OrNoMemory ReadFault.NoMemory (IsUnread grammar.uid grammar.uid most_policy_bytes text.now)) }
+{
+    let tokens = tokens_of(alloc, text, MOST_UID_BYTES)?;
+    match read_uid(alloc, &tokens) {
+        Ok(tree) => Ok(tree),
+        Err(fault) => Err(refusal(text, &tokens, fault)),
+    }
+}
+
+/// Returns the tree of a policy's text: `TooLong`, then `BadToken`, `Unexpected`, `Slot` or `TooDeep`, is why there is
+/// none.
+///
+/// Source: Cedar reference guide 4.0, "Grammar specification for Cedar policy syntax".
+pub fn policy_tree(alloc: Global, text: &str) -> Result<PolicyTree, ReadFault>
+    ensures derives { IfOk result (Derives (grammar.policy nesting_limit) most_policy_bytes text.now) }
+    ensures stands { IfOk result (λ tree. IsBuiltFrom text.now (λ tokens. WellFormedPolicy tokens tree)) }
+    ensures err { IfErr result
+        (OrNoMemory ReadFault.NoMemory
+        (IsUnread (grammar.policy nesting_limit) (at_any grammar.policy) most_policy_bytes text.now)) }
+{
+    let tokens = tokens_of(alloc, text, MOST_POLICY_BYTES)?;
+    match read_policy(alloc, &tokens) {
+        Ok(tree) => Ok(tree),
+        Err(fault) => Err(refusal(text, &tokens, fault)),
+    }
+}
+
+/// Returns the trees of a file's policies: refused as [`policy_tree`], and too long only past the limit of a file.
+pub fn policy_trees(alloc: Global, text: &str) -> Result<Vec<PolicyTree>, ReadFault>
+    ensures derives { IfOk result
+        (λ trees. Derives (grammar.policies nesting_limit) most_file_bytes text.now trees.items) }
+    ensures stands { IfOk result
+        (λ trees. IsBuiltFrom text.now (λ tokens. AllByRecursion (WellFormedPolicy tokens) trees.items)) }
+    ensures err { IfErr result
+        (OrNoMemory ReadFault.NoMemory
+        (IsUnread (grammar.policies nesting_limit) (at_any grammar.policies) most_file_bytes text.now)) }
+{
+    let tokens = tokens_of(alloc, text, MOST_FILE_BYTES)?;
+    match read_policies(alloc, &tokens) {
+        Ok(trees) => Ok(trees),
+        Err(fault) => Err(refusal(text, &tokens, fault)),
+    }
+}

@@ -1,4 +1,0 @@
-pub mod Idents
-pub mod Lexing
-pub mod Strings
-pub mod inner

@@ -1,0 +1,172 @@
+-- How the events of a run are put together.
+use Rattle.std.proofs.Common.{◌≡◌, ℕ, Bool, true, false, List, [], ◌∷◌, Option, None, Some, Ok, Err, refl, subst}
+use Rattle.program_lines.specs.declared.fault.LineFault.{LineFault}
+use Rattle.program.specs.declared.device.FileFault.{FileFault}
+use Rattle.program.specs.declared.device.FileFault.TheVariants.{Missing, Failed, NoMemory}
+use Rattle.program.specs.declared.device.Stream.{Stream}
+use Rattle.program.specs.declared.device.Stream.TheVariants.{Answers, Faults}
+use Rattle.program.specs.Events.{Event, read, stored, wrote, printed, connected, listened, Runs}
+use Rattle.program.specs.Reports.{ended, status_after, IsReported, IsFileReported, IsFailureReported, IsPrinted}
+use Rattle.program.specs.Courses.{Course, Reads, ReadsIfNamed, ReadsIfThere, GoesOnIfThere, Stores, Connects, Listens, Announces, WarnsIf}
+use Rattle.program.specs.inner.Loads.{IsFound, IsUnreadIfNamed}
+use Rattle.program.specs.inner.Ways.{IsUnread, IsUnreadThere, found_as}
+
+pub failed_there : Failed ≡ Missing → ⊥
+failed_there e = absurd cc
+
+pub memory_there : NoMemory ≡ Missing → ⊥
+memory_there e = absurd cc
+
+module _ {L H : Type 0} (does : H → Event L → H → Type 0) where
+  -- a line is written
+  pub told : (old new : H) (stream : Stream) (line : List ℕ) (done : Bool) (status end : ℕ)
+      → does old (wrote stream (ended line) done) new → end ≡ status_after done status
+      → Runs does old new (λ events. IsReported stream line status events end)
+  told old new stream line done status end step is = (wrote stream (ended line) done ∷ [], (new, step, refl), (done, refl, is))
+
+  -- help or a fault of the words is written
+  pub printed_as : (old new : H) (stream : Stream) (fault : LineFault) (done : Bool) (status end : ℕ)
+      → does old (printed stream fault done) new → end ≡ status_after done status
+      → Runs does old new (λ events. IsPrinted stream fault status events end)
+  printed_as old new stream fault done status end step is = (printed stream fault done ∷ [], (new, step, refl), (done, refl, is))
+
+  -- the same, described in another way
+  pub runs_as : (old new : H) (P Q : List (Event L) → Type 0) → ((events : List (Event L)) → P events → Q events) → Runs does old new P → Runs does old new Q
+  runs_as old new P Q f run = (run.0, run.1, f run.0 run.2)
+
+  -- one event more, before the others
+  step_on : (old next new : H) (event : Event L) (P : List (Event L) → Type 0) → does old event next → Runs does next new P
+      → Runs does old new (λ events. (rest : List (Event L)) × (events ≡ event ∷ rest) × P rest)
+  step_on old next new event P step run = (event ∷ run.0, (next, step, run.1), (run.0, refl, run.2))
+
+  -- a file is read, and the run goes on
+  pub reads_on : (old next new : H) (name bytes : List ℕ) (goes_on : List ℕ → Course L) (end : ℕ)
+      → does old (read name (Ok bytes)) next → Runs does next new (λ events. goes_on bytes events end)
+      → Runs does old new (λ events. Reads name goes_on events end)
+  reads_on old next new name bytes goes_on end step run =
+      (read name (Ok bytes) ∷ run.0, (next, step, run.1), (Ok bytes, run.0, refl, run.2))
+
+  -- a file was not read
+  pub reads_none : (old new : H) (name : List ℕ) (goes_on : List ℕ → Course L) (end : ℕ)
+      → Runs does old new (λ events. IsUnread name events end)
+      → Runs does old new (λ events. Reads name goes_on events end)
+  reads_none old new name goes_on end run = (run.0, run.1, (Err run.2.0, run.2.1, run.2.2, run.2.3))
+
+  -- the same, of a file that need not be named
+  pub named_on : (old next new : H) (name found : Option (List ℕ)) (goes_on : Option (List ℕ) → Course L) (end : ℕ)
+      → IsFound does name found old next → Runs does next new (λ events. goes_on found events end)
+      → Runs does old new (λ events. ReadsIfNamed name goes_on events end)
+  named_on old next new None None goes_on end step run = subst (λ (h : H). Runs does h new (λ events. goes_on None events end)) step run
+  named_on old next new None (Some bytes) goes_on end step run = absurd step
+  named_on old next new (Some name) None goes_on end step run = absurd step
+  named_on old next new (Some name) (Some bytes) goes_on end step run = reads_on old next new name bytes (λ held. goes_on (Some held)) end step run
+
+  pub named_none : (old new : H) (name : Option (List ℕ)) (goes_on : Option (List ℕ) → Course L) (end : ℕ)
+      → Runs does old new (λ events. IsUnreadIfNamed name events end)
+      → Runs does old new (λ events. ReadsIfNamed name goes_on events end)
+  named_none old new None goes_on end run = absurd run.2
+  named_none old new (Some name) goes_on end run = reads_none old new name (λ held. goes_on (Some held)) end run
+
+  -- why a file was not read is told
+  pub unread : (old next new : H) (name : List ℕ) (fault : FileFault) (end : ℕ) → does old (read name (Err fault)) next
+      → Runs does next new (λ events. IsFileReported name fault events end) → Runs does old new (λ events. IsUnread name events end)
+  unread old next new name fault end step run =
+      (read name (Err fault) ∷ run.0, (next, step, run.1), (fault, run.0, refl, run.2))
+
+  pub unread_there : (old next new : H) (name : List ℕ) (fault : FileFault) (end : ℕ) → (fault ≡ Missing → ⊥) → does old (read name (Err fault)) next
+      → Runs does next new (λ events. IsFileReported name fault events end) → Runs does old new (λ events. IsUnreadThere name events end)
+  unread_there old next new name fault end there step run =
+      (read name (Err fault) ∷ run.0, (next, step, run.1), (fault, run.0, there, refl, run.2))
+
+  pub unread_as : (old next new : H) (name : List ℕ) (field fault : FileFault) (end : ℕ) → field ≡ fault → (fault ≡ Missing → ⊥)
+      → does old (read name (Err field)) next → Runs does next new (λ events. IsFileReported name fault events end)
+      → Runs does old new (λ events. IsUnreadThere name events end)
+  unread_as old next new name field fault end is there step run =
+      unread_there old next new name fault end there (subst (λ (f : FileFault). does old (read name (Err f)) next) is step) run
+
+  -- a file that need not be there is read, or is not there, and the run goes on
+  pub there_on : (old next new : H) (name : List ℕ) (found : Option (List ℕ)) (goes_on : Option (List ℕ) → Course L) (end : ℕ)
+      → does old (read name (found_as found)) next → Runs does next new (λ events. goes_on found events end)
+      → Runs does old new (λ events. ReadsIfThere name goes_on events end)
+  there_on old next new name None goes_on end step run =
+      (read name (Err Missing) ∷ run.0, (next, step, run.1), (Err Missing, run.0, refl, run.2))
+  there_on old next new name (Some bytes) goes_on end step run =
+      (read name (Ok bytes) ∷ run.0, (next, step, run.1), (Ok bytes, run.0, refl, run.2))
+
+  unread_goes : (name : List ℕ) (goes_on : Option (List ℕ) → Course L) (fault : FileFault) (events : List (Event L)) (end : ℕ)
+      → (fault ≡ Missing → ⊥) → IsFileReported name fault events end → GoesOnIfThere name goes_on (Err fault) events end
+  unread_goes name goes_on Missing events end there told = absurd (there refl)
+  unread_goes name goes_on Failed events end there told = told
+  unread_goes name goes_on NoMemory events end there told = told
+
+  pub there_none : (old new : H) (name : List ℕ) (goes_on : Option (List ℕ) → Course L) (end : ℕ)
+      → Runs does old new (λ events. IsUnreadThere name events end)
+      → Runs does old new (λ events. ReadsIfThere name goes_on events end)
+  there_none old new name goes_on end run =
+      (run.0, run.1, (Err run.2.0, run.2.1, run.2.3, unread_goes name goes_on run.2.0 run.2.1 end run.2.2 run.2.4))
+
+  -- a file is written, and the run goes on, or it was not
+  pub stores_on : (old next new : H) (name bytes : List ℕ) (done : Unit {0}) (goes_on : Course L) (end : ℕ)
+      → does old (stored name bytes (Ok done)) next → Runs does next new (λ events. goes_on events end)
+      → Runs does old new (λ events. Stores name bytes goes_on events end)
+  stores_on old next new name bytes done goes_on end step run =
+      (stored name bytes (Ok done) ∷ run.0, (next, step, run.1), (Ok done, run.0, refl, run.2))
+
+  pub stores_none : (old next new : H) (name bytes : List ℕ) (fault : FileFault) (goes_on : Course L) (end : ℕ)
+      → does old (stored name bytes (Err fault)) next → Runs does next new (λ events. IsFileReported name fault events end)
+      → Runs does old new (λ events. Stores name bytes goes_on events end)
+  stores_none old next new name bytes fault goes_on end step run =
+      (stored name bytes (Err fault) ∷ run.0, (next, step, run.1), (Err fault, run.0, refl, run.2))
+
+  -- a connection is opened, and the run goes on, or it could not be
+  pub connects_on : (old next new : H) (address : List ℕ) (link : L) (goes_on : L → Course L) (end : ℕ)
+      → does old (connected address (Some link)) next → Runs does next new (λ events. goes_on link events end)
+      → Runs does old new (λ events. Connects address goes_on events end)
+  connects_on old next new address link goes_on end step run =
+      (connected address (Some link) ∷ run.0, (next, step, run.1), (Some link, run.0, refl, run.2))
+
+  pub connects_none : (old next new : H) (address : List ℕ) (goes_on : L → Course L) (end : ℕ)
+      → does old (connected address None) next → Runs does next new (λ events. IsFailureReported address events end)
+      → Runs does old new (λ events. Connects address goes_on events end)
+  connects_none old next new address goes_on end step run =
+      (connected address None ∷ run.0, (next, step, run.1), (None, run.0, refl, run.2))
+
+  -- an address is listened at, and the run goes on, or it could not be
+  pub listens_on : (old next new : H) (address : List ℕ) (goes_on : Course L) (end : ℕ)
+      → does old (listened address true) next → Runs does next new (λ events. goes_on events end)
+      → Runs does old new (λ events. Listens address goes_on events end)
+  listens_on old next new address goes_on end step run =
+      (listened address true ∷ run.0, (next, step, run.1), (true, run.0, refl, run.2))
+
+  pub listens_none : (old next new : H) (address : List ℕ) (goes_on : Course L) (end : ℕ)
+      → does old (listened address false) next → Runs does next new (λ events. IsFailureReported address events end)
+      → Runs does old new (λ events. Listens address goes_on events end)
+  listens_none old next new address goes_on end step run =
+      (listened address false ∷ run.0, (next, step, run.1), (false, run.0, refl, run.2))
+
+  -- a line is written, and the run goes on, or the stream failed
+  pub announces_on : (old next new : H) (line : List ℕ) (goes_on : Course L) (end : ℕ)
+      → does old (wrote Answers (ended line) true) next → Runs does next new (λ events. goes_on events end)
+      → Runs does old new (λ events. Announces line goes_on events end)
+  announces_on old next new line goes_on end step run =
+      (wrote Answers (ended line) true ∷ run.0, (next, step, run.1), (true, run.0, refl, run.2))
+
+  pub announces_none : (old new : H) (line : List ℕ) (goes_on : Course L) (end : ℕ)
+      → does old (wrote Answers (ended line) false) new → end ≡ 3
+      → Runs does old new (λ events. Announces line goes_on events end)
+  announces_none old new line goes_on end step is =
+      (wrote Answers (ended line) false ∷ [], (new, step, refl), (false, [], refl, (refl, is)))
+
+  -- a warning is written, whether or not the stream takes it, and the run goes on
+  pub warns_on : (old next new : H) (due done : Bool) (line : List ℕ) (goes_on : Course L) (end : ℕ) → due ≡ true
+      → does old (wrote Faults (ended line) done) next → Runs does next new (λ events. goes_on events end)
+      → Runs does old new (λ events. WarnsIf due line goes_on events end)
+  warns_on old next new false done line goes_on end due step run = absurd (cc)
+  warns_on old next new true done line goes_on end due step run =
+      (wrote Faults (ended line) done ∷ run.0, (next, step, run.1), (done, run.0, refl, run.2))
+
+  -- none is due
+  pub warns_not : (old new : H) (due : Bool) (line : List ℕ) (goes_on : Course L) (end : ℕ) → due ≡ false
+      → Runs does old new (λ events. goes_on events end) → Runs does old new (λ events. WarnsIf due line goes_on events end)
+  warns_not old new false line goes_on end due run = run
+  warns_not old new true line goes_on end due run = absurd (cc)

@@ -1,0 +1,275 @@
+-- Connections that are served one after another, and what a site begins with.
+use Rattle.std.proofs.Common.{◌≡◌, ◌∙◌, inl, inr, ℕ, zero, suc, ◌+◌, ◌*◌, ◌<◌, min, Bool, List, [], ◌∷◌, ◌++◌, length}
+use Rattle.std.proofs.Common.{Option, None, Some}
+use Rattle.std.proofs.Common.{Result, Ok, Err, IsErr}
+use Rattle.std.proofs.Common.{IfOk, IfErr, refl, sym, ap, subst, arith, append_assoc, append-nil}
+use Rattle.state_exchanges.specs.http_devices.declared.devices.Source.{Ghosts as Source}
+use Rattle.state_exchanges.specs.http_devices.declared.devices.Sink.{Ghosts as Sink}
+use Rattle.state_exchanges.specs.http_streams.declared.serve.StreamFault.{StreamFault}
+use Rattle.http_service.specs.decision_texts.declared.refusal.Refusal.{Refusal}
+use Rattle.http_service.specs.decision_texts.Refusals.{no_memory}
+use Rattle.site_loading.specs.schema.Schemas.{StatedSchema, IsSchemaOf}
+use Rattle.site_loading.specs.schema.Views.{schema_view}
+use Rattle.std.specs.FinMap.{len-empty, len-entries}
+use Rattle.values.specs.Names.{name_cmp}
+use Rattle.program_lines.specs.stamped_store.EntryOrder.{PlainEntry}
+use Rattle.program_lines.specs.stamped_store.Store.{store_of, updates}
+use Rattle.state_exchanges.specs.message_format.Updates.{plain_updates}
+use Rattle.site_loading.specs.site_steps.Seen.{Seen, schema_of, store_in}
+use Rattle.site_loading.specs.site_steps.declared.fault.SiteFault.{SiteFault}
+use Rattle.site_loading.specs.site_steps.declared.fault.SiteFault.TheVariants.{NoMemory, Policy, Check as Unfit, Entity}
+use Rattle.site_loading.specs.site_steps.declared.fault.SiteFault.TheVariants.{Message, NotThere, WouldCycle, ClockFull}
+use Rattle.site_loading.specs.site_steps.declared.fault.SiteFault.TheVariants.{Request}
+use Rattle.http_service.specs.site_steps.Runs.{IsMessageOf, IsNoMessageOf}
+use Rattle.program.specs.declared.device.Link.{Link}
+use Rattle.program.specs.declared.device.NetworkFailed.{NetworkFailed}
+use Rattle.program.specs.declared.device.Stream.TheVariants.{Faults}
+use Rattle.program.specs.Events.{Event, accepted, closed, paused, served, wrote, Does, Runs}
+use Rattle.program.specs.Reports.{ended}
+use Rattle.program.specs.Beginning.{BeginsWith, IsBegun, IsNotBegun, IsStateRefused, site_refusal}
+use Rattle.program.specs.Serving.{failing_line, pause_after, IsFailure, AreFailures, IsGivenUp, IsServedOver}
+use Rattle.program.specs.Serving.{IsNextServed, AreServed, AreAllServed}
+use Rattle.program.specs.inner.Begun.{IsBegunUnder, TakesState}
+use Rattle.program.specs.inner.Served.{IsFailureNoted, IsTried, IsAwaited, IsServingEnded, AreServedOrFewer}
+
+-- ---- connections
+
+module _ {R W : Type 0} (reader : Source R) (writer : Sink W) where
+  served_on : (address : List ℕ) (n : ℕ) (old mid new : Seen) (events more : List (Event (Link R W)))
+      → AreServed reader writer address n old events mid → IsNextServed reader writer address mid more new
+      → AreServed reader writer address (suc n) old (events ++ more) new
+  served_on address zero old mid new events more so next = (
+    more,
+    [],
+    new,
+    subst (λ (s : Seen). IsNextServed reader writer address s more new) so.1 next,
+    (refl, refl),
+    ap (λ (es : List (Event (Link R W))). es ++ more) so.0 ∙ sym (append-nil more),
+  )
+  served_on address (suc n) old mid new events more so next = (
+    so.0,
+    so.1 ++ more,
+    so.2,
+    so.3,
+    served_on address n so.2 mid new so.1 more so.4 next,
+    ap (λ (es : List (Event (Link R W))). es ++ more) so.5 ∙ append_assoc so.0 so.1 more,
+  )
+
+suc_is : (n : ℕ) → suc n ≡ n + 1
+suc_is n = omega arith
+
+module _ {L : Type 0} where
+  noted : (address : List ℕ) (before : ℕ) (rest : List (Event L)) → IsFailureNoted address before rest
+      → IsFailure address before (accepted None ∷ rest)
+  noted address zero rest so = (so.0, ap (λ (es : List (Event L)). accepted None ∷ es) so.1)
+  noted address (suc before) rest so = ap (λ (es : List (Event L)). accepted None ∷ es) so
+
+pub longer_pause : (before pause next : ℕ) → pause ≡ pause_after before → next ≡ min (2 * pause) 1000 → next ≡ pause_after (before + 1)
+longer_pause before pause next pause_is next_is =
+    next_is ∙ ap (λ (p : ℕ). min (2 * p) 1000) pause_is ∙ ap pause_after (suc_is before)
+
+module _ {L H : Type 0} (does : H → Event L → H → Type 0) where
+  does_append : (xs ys : List (Event L)) (old mid new : H) → Does does xs old mid → Does does ys mid new → Does does (xs ++ ys) old new
+  does_append [] ys old mid new first second = subst (λ (h : H). Does does ys h new) first second
+  does_append (x ∷ xs) ys old mid new first second = (first.0, first.1, does_append xs ys first.0 mid new first.2 second)
+
+  -- the first failure is warned of
+  pub first_noted : (address : List ℕ) (before : ℕ) (old mid new : H) (done : Bool) (millis : ℕ) → before ≡ 0 → millis ≡ pause_after before
+      → does old (wrote Faults (ended (failing_line address)) done) mid → does mid (paused millis) new
+      → Runs does old new (λ events. IsFailureNoted address before events)
+  first_noted address zero old mid new done millis is millis_is warned waited = (
+    wrote Faults (ended (failing_line address)) done ∷ paused millis ∷ [],
+    (mid, warned, (new, waited, refl)),
+    (done, ap (λ (m : ℕ). wrote Faults (ended (failing_line address)) done ∷ paused m ∷ []) millis_is),
+  )
+  first_noted address (suc before) old mid new done millis is millis_is warned waited = absurd cc
+
+  -- the others are not
+  pub other_noted : (address : List ℕ) (before : ℕ) (old new : H) (millis : ℕ) → 0 < before → millis ≡ pause_after before
+      → does old (paused millis) new → Runs does old new (λ events. IsFailureNoted address before events)
+  other_noted address zero old new millis less millis_is waited = absurd (omega arith)
+  other_noted address (suc before) old new millis less millis_is waited =
+      (paused millis ∷ [], (new, waited, refl), ap (λ (m : ℕ). paused m ∷ []) millis_is)
+
+  -- none could be accepted, which was noted
+  pub failure_tried : (address : List ℕ) (before : ℕ) (old mid new : H) (failed : NetworkFailed) → does old (accepted None) mid
+      → Runs does mid new (λ events. IsFailureNoted address before events)
+      → Runs does old new (λ events. IsTried address before (Err failed) events)
+  failure_tried address before old mid new failed came so =
+      (accepted None ∷ so.0, (mid, came, so.1), noted address before so.0 so.2)
+
+  -- no failure yet
+  pub none_failed : (address : List ℕ) (old : H) → Runs does old old (λ events. AreFailures address 0 events)
+  none_failed address old = ([], refl, refl)
+
+  -- one more
+  pub one_failed : (address : List ℕ) (n : ℕ) (old mid new : H) → Runs does old mid (λ events. AreFailures address n events)
+      → Runs does mid new (λ events. IsFailure address n events) → Runs does old new (λ events. AreFailures address (n + 1) events)
+  one_failed address n old mid new so next = (
+    so.0 ++ next.0,
+    does_append so.0 next.0 old mid new so.1 next.1,
+    subst (λ (k : ℕ). AreFailures address k (so.0 ++ next.0)) (suc_is n) (so.0, next.0, so.2, next.2, refl),
+  )
+
+  -- behind them a connection came
+  pub link_awaited : (address : List ℕ) (n : ℕ) (old mid new : H) (link : L) → Runs does old mid (λ events. AreFailures address n events)
+      → Runs does mid new (λ events. events ≡ accepted (Some link) ∷ []) → Runs does old new (λ events. IsAwaited address (Ok link) events)
+  link_awaited address n old mid new link so next = (
+    so.0 ++ next.0,
+    does_append so.0 next.0 old mid new so.1 next.1,
+    (n, so.0, so.2, ap (λ (es : List (Event L)). so.0 ++ es) next.2),
+  )
+
+  -- it was given up
+  pub given_up : (address : List ℕ) (n : ℕ) (old new : H) (failed : NetworkFailed) → n ≡ 18446744073709551615
+      → Runs does old new (λ events. AreFailures address n events) → Runs does old new (λ events. IsAwaited address (Err failed) events)
+  given_up address n old new failed is so = (so.0, so.1, (n, is, so.2))
+
+module _ {R W H : Type 0} (does : H → Event (Link R W) → H → Type 0) (reader : Source R) (writer : Sink W) where
+  -- so many connections were served, from one site to another
+  abbrev pub IsServedSoFar : List ℕ → H → H → Seen → Seen → ℕ → Type 0
+  IsServedSoFar address old new before after n = Runs does old new (λ events. AreServed reader writer address n before events after)
+
+  -- a connection came, was served and let go
+  pub next_served : (address : List ℕ) (old mid last new : H) (before after : Seen) (link left : Link R W)
+      (end : Result (Unit {0}) StreamFault) → Runs does old mid (λ events. IsAwaited address (Ok link) events)
+      → IsServedOver reader writer before link end left after → does mid (closed left) last → does last (served end) new
+      → Runs does old new (λ events. IsNextServed reader writer address before events after)
+  next_served address old mid last new before after link left end came answered gone noted = (
+    came.0 ++ closed left ∷ served end ∷ [],
+    does_append does came.0 (closed left ∷ served end ∷ []) old mid new came.1 (last, gone, (new, noted, refl)),
+    (
+      came.2.0,
+      came.2.1,
+      link,
+      left,
+      end,
+      came.2.2,
+      ap (λ (es : List (Event (Link R W))). es ++ closed left ∷ served end ∷ []) came.2.3
+          ∙ append_assoc came.2.1 (accepted (Some link) ∷ []) (closed left ∷ served end ∷ []),
+      answered,
+    ),
+  )
+
+  -- none yet
+  pub none_served : (address : List ℕ) (old : H) (site : Seen) → IsServedSoFar address old old site site 0
+  none_served address old site = ([], refl, (refl, refl))
+
+  -- one more
+  pub one_served : (address : List ℕ) (old mid new : H) (before between after : Seen) (n : ℕ)
+      → IsServedSoFar address old mid before between n
+      → Runs does mid new (λ events. IsNextServed reader writer address between events after)
+      → IsServedSoFar address old new before after (n + 1)
+  one_served address old mid new before between after n so next = (
+    so.0 ++ next.0,
+    does_append does so.0 next.0 old mid new so.1 next.1,
+    subst (λ (k : ℕ). AreServed reader writer address k before (so.0 ++ next.0) after) (suc_is n)
+        (served_on reader writer address n before between after so.0 next.0 so.2 next.2),
+  )
+
+  -- all of them
+  pub all_served : (address : List ℕ) (old new : H) (before after : Seen) (n most : ℕ) → n ≡ most
+      → IsServedSoFar address old new before after n → IsServedSoFar address old new before after most
+  all_served address old new before after n most is so =
+      subst (λ (k : ℕ). IsServedSoFar address old new before after k) is so
+
+  -- fewer, and then it was given up
+  pub fewer_served : (address : List ℕ) (old mid new : H) (before between after : Seen) (n most : ℕ) (r : Result (Unit {0}) NetworkFailed)
+      → IsErr r → n < most → IsServedSoFar address old mid before between n
+      → Runs does mid new (λ events. IsGivenUp address events × (after ≡ between))
+      → Runs does old new (λ events. AreServedOrFewer reader writer address most before r events after)
+  fewer_served address old mid new before between after n most (Ok done) is less so next = absurd cc
+  fewer_served address old mid new before between after n most (Err failed) is less so next = (
+    so.0 ++ next.0,
+    does_append does so.0 next.0 old mid new so.1 next.1,
+    (
+      n,
+      so.0,
+      next.0,
+      less,
+      subst (λ (s : Seen). AreServed reader writer address n before so.0 s) (sym next.2.1) so.2,
+      next.2.0,
+      refl,
+    ),
+  )
+
+  -- either is all of a run that serves
+  pub serving_ended : (address : List ℕ) (old mid new : H) (before after : Seen) (most end : ℕ) (r : Result (Unit {0}) NetworkFailed)
+      → Runs does old mid (λ events. AreServedOrFewer reader writer address most before r events after)
+      → Runs does mid new (λ events. IsServingEnded address r events end)
+      → Runs does old new (λ events. AreAllServed reader writer address most before events end)
+  serving_ended address old mid new before after most end (Ok done) so told = (
+    so.0 ++ told.0,
+    does_append does so.0 told.0 old mid new so.1 told.1,
+    inl (
+      (
+        after,
+        subst (λ (es : List (Event (Link R W))). AreServed reader writer address most before es after)
+            (sym (ap (λ (es : List (Event (Link R W))). so.0 ++ es) told.2.0 ∙ append-nil so.0)) so.2,
+      ),
+      told.2.1,
+    ),
+  )
+  serving_ended address old mid new before after most end (Err failed) so told = (
+    so.0 ++ told.0,
+    does_append does so.0 told.0 old mid new so.1 told.1,
+    inr (after, so.0, told.0, so.2, told.2, refl),
+  )
+
+-- ---- what a site begins with
+
+none_long : {A : Type 0} (xs : List A) → length xs ≡ 0 → xs ≡ []
+none_long [] e = refl
+none_long (x ∷ xs) e = absurd cc
+
+state_refused : (s : StatedSchema) (bytes : List ℕ) (fault : SiteFault) → IsNoMessageOf s bytes fault → (site_refusal fault ≡ no_memory → ⊥)
+    → IsStateRefused s (Some bytes) (site_refusal fault)
+state_refused s bytes NoMemory none other = absurd (other refl)
+state_refused s bytes (Message f) none other = (f, none, refl)
+state_refused s bytes (Policy f) none other = absurd none
+state_refused s bytes (Unfit f) none other = absurd none
+state_refused s bytes (Entity f) none other = absurd none
+state_refused s bytes NotThere none other = absurd none
+state_refused s bytes WouldCycle none other = absurd none
+state_refused s bytes ClockFull none other = absurd none
+state_refused s bytes (Request f) none other = absurd none
+
+pub refused_as_told : (s : StatedSchema) (bytes : List ℕ) (fault : SiteFault) (r : Refusal) → r ≡ site_refusal fault → IsNoMessageOf s bytes fault
+    → (r ≡ no_memory → ⊥) → IsStateRefused s (Some bytes) r
+refused_as_told s bytes fault r is none other =
+    subst (IsStateRefused s (Some bytes)) (sym is) (state_refused s bytes fault none (λ e. other (is ∙ e)))
+
+none_of_empty : updates (store_of []) ≡ []
+none_of_empty = none_long (updates (store_of [])) (sym (len-entries (store_of [])) ∙ len-empty name_cmp PlainEntry)
+
+begun_by : (s : StatedSchema) (name : List ℕ) (bytes : List ℕ) (before after : Seen) → schema_of before ≡ s → before.name ≡ name
+    → store_in before ≡ store_of [] → TakesState before bytes after → IsBegunUnder s name (Some bytes) after
+begun_by s name bytes before after schema_is name_is store_is takes = record {
+  schema_is = ap schema_view takes.3.0 ∙ schema_is;
+  name_is = takes.3.1 ∙ name_is;
+  begins = (
+    takes.0,
+    subst (λ (t : StatedSchema). IsMessageOf t bytes takes.0) schema_is takes.1,
+    takes.2 ∙ ap (λ us. store_of (us ++ plain_updates takes.0)) (ap updates store_is ∙ none_of_empty),
+  );
+}
+
+-- over a result
+pub begun_over : (s : StatedSchema) (name : List ℕ) (bytes : List ℕ) (before : Seen) (r : Result Seen Refusal) → schema_of before ≡ s
+    → before.name ≡ name → store_in before ≡ store_of [] → IfOk r (TakesState before bytes) → IfOk r (IsBegunUnder s name (Some bytes))
+begun_over s name bytes before (Ok after) schema_is name_is store_is takes = begun_by s name bytes before after schema_is name_is store_is takes
+begun_over s name bytes before (Err r) schema_is name_is store_is takes = tt
+
+pub begun_as : (schema : List ℕ) (s : StatedSchema) (name : List ℕ) (state : Option (List ℕ)) (r : Result Seen Refusal) → IsSchemaOf schema s
+    → IfOk r (IsBegunUnder s name state) → IfOk r (IsBegun schema name state)
+begun_as schema s name state (Ok site) is begun = record {
+  schema_is = subst (IsSchemaOf schema) (sym begun.schema_is) is;
+  name_is = begun.name_is;
+  begins = subst (λ (t : StatedSchema). BeginsWith t state (store_in site)) (sym begun.schema_is) begun.begins;
+}
+begun_as schema s name state (Err r) is begun = tt
+
+pub not_begun_as : (schema : List ℕ) (s : StatedSchema) (state : Option (List ℕ)) (r : Result Seen Refusal) → IsSchemaOf schema s
+    → IfErr r (λ f. (f ≡ no_memory → ⊥) → IsStateRefused s state f) → IfErr r (λ f. (f ≡ no_memory → ⊥) → IsNotBegun schema state f)
+not_begun_as schema s state (Ok site) is refused = tt
+not_begun_as schema s state (Err r) is refused = λ other. inr (s, is, refused other)

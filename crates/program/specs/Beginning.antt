@@ -1,0 +1,44 @@
+-- What a site begins with. A rule of this product: the schema is judged first; then a message, a state or a delta, is
+-- refused whole, or the site takes its updates.
+use Rattle.std.specs.Prelude.{◌≡◌, ◌⊎◌, ℕ, List, [], Option, None, Some}
+use Rattle.http_service.specs.policy_grammar.declared.policy.Policy.{Policy}
+use Rattle.site_loading.specs.schema.Schemas.{StatedSchema, IsSchemaOf}
+use Rattle.http_service.specs.entity_data.declared.entity.Entity.{Entity}
+use Rattle.program_lines.specs.stamped_store.Store.{Store, store_of}
+use Rattle.state_exchanges.specs.message_format.declared.fault.MessageFault.{MessageFault}
+use Rattle.state_exchanges.specs.message_format.declared.update.Update.{Update as SentUpdate}
+use Rattle.state_exchanges.specs.message_format.Updates.{plain_updates}
+use Rattle.http_service.specs.decision_texts.declared.refusal.Refusal.{Refusal}
+use Rattle.program_drills.specs.schema_decisions.Checks.{IsSchemaRefused}
+use Rattle.site_loading.specs.site_steps.Faults.{code_of, place_of, within_of}
+use Rattle.site_loading.specs.site_steps.Seen.{Seen, schema_of, store_in}
+use Rattle.site_loading.specs.site_steps.declared.fault.SiteFault.{SiteFault}
+use Rattle.site_loading.specs.site_steps.declared.fault.SiteFault.TheVariants.{Message}
+use Rattle.http_service.specs.site_steps.Runs.{IsMessageOf, IsNoMessageOf}
+
+-- the fault of a site as it is told
+abbrev pub site_refusal : SiteFault → Refusal
+site_refusal f = record { code = code_of f; place = place_of f; within = within_of f }
+
+-- nothing, or the updates of a message
+abbrev pub BeginsWith : StatedSchema → Option (List ℕ) → Store → Type 0
+BeginsWith s None m = m ≡ store_of []
+BeginsWith s (Some bytes) m = (us : List (SentUpdate Policy Entity)) × IsMessageOf s bytes us
+    × (m ≡ store_of (plain_updates us))
+
+-- the site of this name and this schema, with the updates of the state, if there is one
+pub record IsBegun (schema : List ℕ) (name : List ℕ) (state : Option (List ℕ)) (site : Seen) : Type 0 where
+  pub schema_is : IsSchemaOf schema (schema_of site)
+  pub name_is : site.name ≡ name
+  pub begins : BeginsWith (schema_of site) state (store_in site)
+
+-- the state is no message of the schema, for this first fault
+abbrev pub IsStateRefused : StatedSchema → Option (List ℕ) → Refusal → Type 0
+IsStateRefused s None r = ⊥
+IsStateRefused s (Some bytes) r =
+    (f : MessageFault) × IsNoMessageOf s bytes (Message f) × (r ≡ site_refusal (Message f))
+
+-- the schema is refused, or the state under it
+abbrev pub IsNotBegun : List ℕ → Option (List ℕ) → Refusal → Type 0
+IsNotBegun schema state r = IsSchemaRefused schema r
+    ⊎ ((s : StatedSchema) × IsSchemaOf schema s × IsStateRefused s state r)

@@ -1,0 +1,39 @@
+-- What a run does that puts files of policies and entities into a site.
+-- Rules of this product: the files are read before anything is judged, first the schema, then the state to begin with,
+-- then the policies, then the entities, each if it is named; a site begins as one that is served, and its state after
+-- the puts is told; where anything is refused, no state is.
+use Rattle.std.specs.Prelude.{◌⊎◌, ℕ, List, Option}
+use Rattle.http_service.specs.decision_texts.declared.refusal.Refusal.{Refusal}
+use Rattle.site_loading.specs.site_steps.Seen.{Seen, schema_of, store_in}
+use Rattle.site_loading.specs.Loads as loads
+use Rattle.program.specs.Beginning.{IsBegun, IsNotBegun}
+use Rattle.program.specs.Courses.{Course, Reads, ReadsIfNamed, IsLineOrRefusal}
+
+-- the line is the state of the site that begins so and takes the files
+pub record IsLoaded (schema name : List ℕ) (state policies entities : Option (List ℕ)) (line : List ℕ) : Type 0 where
+  pub site : Seen
+  pub begun : IsBegun schema name state site
+  pub loaded : loads.IsLoadedState (schema_of site) name (store_in site) policies entities line
+
+-- the schema or the state is refused, or else one of the files or of the puts
+pub data IsLoadRefused (schema name : List ℕ) (state policies entities : Option (List ℕ)) (refusal : Refusal) : Type 0
+  where
+    by_beginning : IsNotBegun schema state refusal → IsLoadRefused schema name state policies entities refusal
+    by_load : (site : Seen) → IsBegun schema name state site
+        → loads.IsRefused (schema_of site) name (store_in site) policies entities refusal
+        → IsLoadRefused schema name state policies entities refusal
+
+module _ {L : Type 0} where
+  -- the state is told, or the refusal
+  abbrev pub IsLoadedOrRefused : List ℕ → List ℕ → Option (List ℕ) → Option (List ℕ) → Option (List ℕ) → Course L
+  IsLoadedOrRefused schema name state policies entities =
+      IsLineOrRefusal (IsLoaded schema name state policies entities) (IsLoadRefused schema name state policies entities)
+
+  -- the files of these names are read, in this order, and then put
+  abbrev pub IsLoadRun : List ℕ → List ℕ → Option (List ℕ) → Option (List ℕ) → Option (List ℕ) → Course L
+  IsLoadRun schema_name site state_name policies_name entities_name =
+      Reads schema_name (λ schema.
+      ReadsIfNamed state_name (λ state.
+      ReadsIfNamed policies_name (λ policies.
+      ReadsIfNamed entities_name (λ entities.
+      IsLoadedOrRefused schema site state policies entities))))

@@ -1,0 +1,90 @@
+-- What a run is that pulls from another site. A rule of this product: the files are read and the connection is opened
+-- before anything is judged, and the state's file is written last, where nothing was refused.
+use Rattle.std.specs.Prelude.{◌≡◌, ◌≢◌, ◌⊎◌, ℕ, List, ◌∷◌, Option, Result, Ok, Err}
+use Rattle.site_loading.specs.schema.Schemas.{StatedSchema}
+use Rattle.program_lines.specs.stamped_store.Store.{Store}
+use Rattle.http_service.specs.decision_texts.declared.refusal.Refusal.{Refusal}
+use Rattle.http_service.specs.decision_texts.Refusals.{no_memory}
+use Rattle.state_exchanges.specs.http_devices.declared.devices.Source.{Ghosts as Source}
+use Rattle.state_exchanges.specs.http_devices.declared.devices.Sink.{Ghosts as Sink}
+use Rattle.state_exchanges.specs.declared.fault.NetworkFault.TheVariants as network
+use Rattle.state_exchanges.specs.declared.fault.PullFault.{PullFault}
+use Rattle.state_exchanges.specs.declared.fault.PullFault.TheVariants.{Network, Refused}
+use Rattle.state_exchanges.specs.declared.pulling.Pulled.{Pulled}
+use Rattle.state_exchanges.specs.Messages.{IsMessageRefused}
+use Rattle.state_exchanges.specs.Requests.{IsReady, request_for}
+use Rattle.state_exchanges.specs.Exchanges.{IsAnswered, IsRequestBegun, IsUnanswered}
+use Rattle.state_exchanges.specs.Pulls.{IsPulled, IsRefusedFirst}
+use Rattle.program.specs.declared.device.Link.{Link}
+use Rattle.program.specs.Events.{Event, closed}
+use Rattle.program.specs.Reports.{IsAnswerReported, IsFailureReported, IsMemoryReported, IsRefusalReported}
+use Rattle.program.specs.Reports.{taken_report_line}
+use Rattle.program.specs.Courses.{Course, Reads, ReadsIfThere, Connects, Stores}
+
+-- what came of a pull is told: the new state is written, and then how many updates came, where there is memory for that
+-- line; or the address where the network failed; or why texts or message were refused
+abbrev pub IsPullTold : {L : Type 0} → List ℕ → List ℕ → Result Pulled PullFault → Course L
+IsPullTold address name (Ok pulled) events end =
+    Stores name pulled.state.items (IsAnswerReported (taken_report_line pulled.taken)) events end
+    ⊎ IsMemoryReported events end
+IsPullTold address name (Err (Network fault)) events end = IsFailureReported address events end
+IsPullTold address name (Err (Refused refusal)) events end = IsRefusalReported refusal events end
+    ⊎ IsMemoryReported events end
+
+module _ {R W : Type 0} (reader : Source R) (writer : Sink W) where
+  -- no read failed
+  abbrev pub NoReadFailed : Link R W → Link R W → Type 0
+  NoReadFailed link left = reader.failed left.reader ≡ reader.failed link.reader
+
+  -- no write failed
+  abbrev pub NoWriteFailed : Link R W → Link R W → Type 0
+  NoWriteFailed link left = writer.failed left.writer ≡ writer.failed link.writer
+
+  -- over a connection this request was written, and what was read begins with a reply of status 200 and this body
+  abbrev pub IsAsked : List ℕ → Link R W → List ℕ → Link R W → Type 0
+  IsAsked request link body left =
+      IsAnswered reader.left reader.reads writer.holds request link.reader left.reader link.writer left.writer 200 body
+
+  -- nothing was read or written; or of the request for what is news to the state a first part was written, or all of it
+  abbrev pub IsNotMoreThanAsked : List ℕ → Option (List ℕ) → List ℕ → Link R W → Link R W → Type 0
+  IsNotMoreThanAsked schema state address link left = (left ≡ link)
+      ⊎ ((s : StatedSchema) × (m : Store) × IsReady schema state s m
+      × IsRequestBegun reader.left writer.holds (request_for address s m) link.reader left.reader link.writer
+      left.writer)
+
+  -- the texts are refused, and nothing was read or written; or the request was, and the message that came is refused
+  abbrev pub IsPullRefused : List ℕ → Option (List ℕ) → List ℕ → Refusal → Link R W → Link R W → Type 0
+  IsPullRefused schema state address refusal link left = (IsRefusedFirst schema state refusal × (left ≡ link))
+      ⊎ ((s : StatedSchema) × (m : Store) × (body : List ℕ) × IsReady schema state s m
+      × IsAsked (request_for address s m) link body left × IsMessageRefused s body refusal)
+
+  -- What came of a pull over a connection: the request for what is news to the state was written, and the message that
+  -- came in reply was joined; or texts or message are refused, or memory was; or no reply of status 200 came.
+  abbrev pub IsPull : List ℕ → Option (List ℕ) → List ℕ → Link R W → Result Pulled PullFault → Link R W → Type 0
+  IsPull schema state address link (Ok pulled) left = (s : StatedSchema) × (m : Store) × (body : List ℕ)
+      × IsReady schema state s m × IsAsked (request_for address s m) link body left
+      × IsPulled s m body pulled.state.items pulled.taken
+      × NoReadFailed link left × NoWriteFailed link left
+  IsPull schema state address link (Err (Refused refusal)) left =
+      (refusal ≢ no_memory → IsPullRefused schema state address refusal link left)
+      × IsNotMoreThanAsked schema state address link left
+      × NoReadFailed link left × NoWriteFailed link left
+  IsPull schema state address link (Err (Network fault)) left = (s : StatedSchema) × (m : Store)
+      × IsReady schema state s m
+      × IsUnanswered reader.left reader.reads reader.failed reader.fails writer.holds writer.failed writer.fails
+      (request_for address s m) link.reader left.reader link.writer left.writer fault
+      × (fault ≢ network.Read → NoReadFailed link left)
+      × (fault ≢ network.Write → NoWriteFailed link left)
+
+  -- what is news is pulled over the connection that was opened, which is let go, and what came of it is told
+  abbrev pub IsPulledOver : List ℕ → Option (List ℕ) → List ℕ → List ℕ → Link R W → Course (Link R W)
+  IsPulledOver schema state address name link events end = (came : Result Pulled PullFault) × (left : Link R W)
+      × IsPull schema state address link came left
+      × ((rest : List (Event (Link R W))) × (events ≡ closed left ∷ rest) × IsPullTold address name came rest end)
+
+  -- first the schema, then the state, if there is one; then the connection
+  abbrev pub IsPullRun : List ℕ → List ℕ → List ℕ → Course (Link R W)
+  IsPullRun schema_name address state_name =
+      Reads schema_name (λ schema.
+      ReadsIfThere state_name (λ state.
+      Connects address (IsPulledOver schema state address state_name)))

@@ -1,0 +1,103 @@
+-- What a run is that serves a site. A rule of this product: schema and state are judged before anything of the network
+-- is used; connections come one after another, and each is served, over itself, from what the one before left. Where
+-- none could be accepted, that is warned of and tried again, each time after a pause, and changes nothing else.
+use Rattle.std.specs.Prelude.{◌≡◌, ◌⊎◌, ℕ, zero, suc, ◌*◌, ◌<◌, min, Bool, List, [], ◌∷◌, ◌++◌, Option, None, Some}
+use Rattle.std.specs.Prelude.{Result, codes}
+use Rattle.state_exchanges.specs.http_devices.declared.devices.Source.{Ghosts as Source}
+use Rattle.state_exchanges.specs.http_devices.declared.devices.Sink.{Ghosts as Sink}
+use Rattle.state_exchanges.specs.http_streams.declared.serve.StreamFault.{StreamFault}
+use Rattle.program_lines.specs.stamped_store.Stamping.{has_stamps_of}
+use Rattle.site_loading.specs.site_steps.Seen.{Seen, store_in}
+use Rattle.http_service.specs.Serving.{IsServed}
+use Rattle.program.specs.declared.device.Link.{Link}
+use Rattle.program.specs.declared.device.Stream.TheVariants.{Faults}
+use Rattle.program.specs.Events.{Event, accepted, closed, paused, served, wrote}
+use Rattle.program.specs.Reports.{ended, IsFailureReported}
+use Rattle.program.specs.Courses.{Course, Reads, ReadsIfNamed, Listens, Announces, WarnsIf, IsRefusedFor}
+use Rattle.program.specs.Beginning.{IsBegun, IsNotBegun}
+
+-- the number of connections that is given; where none is, no run comes to the end of it
+abbrev pub most_of : Option ℕ → ℕ
+most_of None = 18446744073709551615
+most_of (Some number) = number
+
+-- what is told of a site that begins with stamps of its own name
+abbrev pub own_stamps_line : List ℕ → List ℕ
+own_stamps_line name = codes "warning: the state has stamps of this name, which is to be used once: " ++ name
+
+-- what is told where connections begin to fail before they stand
+abbrev pub failing_line : List ℕ → List ℕ
+failing_line address = codes "warning: accept failed, trying again: " ++ address
+
+-- the milliseconds of the pause behind a failure, with so many others right before it: 1, 2, 4, .., 512, 1000, 1000, ..
+abbrev pub pause_after : ℕ → ℕ
+pause_after zero = 1
+pause_after (suc before) = min (2 * pause_after before) 1000
+
+module _ {L : Type 0} where
+  -- no connection could be accepted, with so many such failures right before; the first is warned of, whether or not
+  -- the stream takes that; then the run pauses
+  abbrev pub IsFailure : List ℕ → ℕ → List (Event L) → Type 0
+  IsFailure address zero events = (done : Bool)
+      × (events ≡ accepted None ∷ wrote Faults (ended (failing_line address)) done ∷ paused (pause_after zero) ∷ [])
+  IsFailure address (suc before) events = events ≡ accepted None ∷ paused (pause_after (suc before)) ∷ []
+
+  -- so many such failures, one right after another
+  abbrev pub AreFailures : List ℕ → ℕ → List (Event L) → Type 0
+  AreFailures address zero events = events ≡ []
+  AreFailures address (suc before) events = (first last : List (Event L)) × AreFailures address before first
+      × IsFailure address before last × (events ≡ first ++ last)
+
+  -- 2^64 - 1 of them, behind which it is given up: by their pauses alone no run comes to this in 10^11 years
+  abbrev pub IsGivenUp : List ℕ → List (Event L) → Type 0
+  IsGivenUp address events = (number : ℕ) × (number ≡ 18446744073709551615) × AreFailures address number events
+
+module _ {R W : Type 0} (reader : Source R) (writer : Sink W) where
+  -- a connection that came was served by the site: what was read was answered, and its serving ended so
+  abbrev pub IsServedOver : Seen → Link R W → Result (Unit {0}) StreamFault → Link R W → Seen → Type 0
+  IsServedOver old link end left new = IsServed reader.left reader.failed reader.reads reader.fails writer.holds
+      writer.failed writer.fails link.reader left.reader link.writer left.writer old new end
+
+  -- one connection came, behind as many failures as there were, was served, over itself, and let go
+  abbrev pub IsNextServed : List ℕ → Seen → List (Event (Link R W)) → Seen → Type 0
+  IsNextServed address old events new = (number : ℕ) × (failures : List (Event (Link R W))) × (link left : Link R W)
+      × (end : Result (Unit {0}) StreamFault) × AreFailures address number failures
+      × (events ≡ failures ++ accepted (Some link) ∷ closed left ∷ served end ∷ [])
+      × IsServedOver old link end left new
+
+  -- so many connections one after another, each served from the site that the one before left
+  abbrev pub AreServed : List ℕ → ℕ → Seen → List (Event (Link R W)) → Seen → Type 0
+  AreServed address zero old events new = (events ≡ []) × (new ≡ old)
+  AreServed address (suc n) old events new = (first rest : List (Event (Link R W))) × (mid : Seen)
+      × IsNextServed address old first mid × AreServed address n mid rest new × (events ≡ first ++ rest)
+
+  -- fewer were served, and then none could be accepted, as often as that is tried
+  abbrev pub AreCutShort : List ℕ → ℕ → Seen → List (Event (Link R W)) → Seen → Type 0
+  AreCutShort address most old events new = (n : ℕ) × (first rest : List (Event (Link R W))) × (n < most)
+      × AreServed address n old first new × IsGivenUp address rest × (events ≡ first ++ rest)
+
+  -- so many are served, nothing else is done, and then the run ends with 0; or none could be accepted any more, which
+  -- is told as a failure of the network is
+  abbrev pub AreAllServed : List ℕ → ℕ → Seen → Course (Link R W)
+  AreAllServed address most site events end = (((last : Seen) × AreServed address most site events last) × (end ≡ 0))
+      ⊎ ((last : Seen) × (first rest : List (Event (Link R W))) × AreCutShort address most site first last
+      × IsFailureReported address rest end × (events ≡ first ++ rest))
+
+  -- a site of this name that has begun says where it listens once it does, and serves; and where it begins with stamps
+  -- of its name, warns of that first
+  abbrev pub IsServedAt : List ℕ → List ℕ → ℕ → Seen → Course (Link R W)
+  IsServedAt name address most site = WarnsIf (has_stamps_of name (store_in site)) (own_stamps_line name)
+      (Listens address (Announces (codes "listening " ++ address) (AreAllServed address most site)))
+
+  -- the site begins and is served, or the texts are refused
+  abbrev pub IsServedFrom : List ℕ → List ℕ → Option (List ℕ) → List ℕ → Option ℕ → Course (Link R W)
+  IsServedFrom schema name state address connections events end =
+      ((site : Seen) × IsBegun schema name state site × IsServedAt name address (most_of connections) site events end)
+      ⊎ IsRefusedFor (IsNotBegun schema state) events end
+
+  -- first the schema, then the state, if one is named
+  abbrev pub IsServeRun : List ℕ → List ℕ → Option (List ℕ) → List ℕ → Option ℕ → Course (Link R W)
+  IsServeRun schema_name name state_name address connections =
+      Reads schema_name (λ schema.
+      ReadsIfNamed state_name (λ state.
+      IsServedFrom schema name state address connections))

@@ -1,0 +1,56 @@
+-- What is left of a run that serves, once the schema is read, and what each step of it comes to.
+use Rattle.std.specs.Prelude.{◌≡◌, ℕ, zero, suc, Bool, List, [], ◌∷◌, ◌++◌, Option, Some, Result, Ok, Err}
+use Rattle.state_exchanges.specs.http_devices.declared.devices.Source.{Ghosts as Source}
+use Rattle.state_exchanges.specs.http_devices.declared.devices.Sink.{Ghosts as Sink}
+use Rattle.site_loading.specs.site_steps.Seen.{Seen}
+use Rattle.program.specs.declared.device.Link.{Link}
+use Rattle.program.specs.declared.device.NetworkFailed.{NetworkFailed}
+use Rattle.program.specs.declared.device.Stream.TheVariants.{Faults}
+use Rattle.program.specs.Events.{Event, accepted, paused, wrote}
+use Rattle.program.specs.Reports.{ended, IsFailureReported}
+use Rattle.program.specs.Courses.{Course, Reads, ReadsIfNamed}
+use Rattle.program.specs.Serving.{failing_line, pause_after, IsFailure, AreFailures, IsGivenUp, IsNextServed}
+use Rattle.program.specs.Serving.{AreServed, AreCutShort, IsServedFrom}
+
+module _ {L : Type 0} where
+  -- what a failure brings, with so many right before: a warning of the first, and a pause
+  abbrev pub IsFailureNoted : List ℕ → ℕ → List (Event L) → Type 0
+  IsFailureNoted address zero events = (done : Bool)
+      × (events ≡ wrote Faults (ended (failing_line address)) done ∷ paused (pause_after zero) ∷ [])
+  IsFailureNoted address (suc before) events = events ≡ paused (pause_after (suc before)) ∷ []
+
+  -- a connection came, or none could be accepted, with so many failures right before
+  abbrev pub IsTried : List ℕ → ℕ → Result L NetworkFailed → List (Event L) → Type 0
+  IsTried address before (Ok link) events = events ≡ accepted (Some link) ∷ []
+  IsTried address before (Err failed) events = IsFailure address before events
+
+  -- a connection came, behind as many failures as there were, or it was given up
+  abbrev pub IsAwaited : List ℕ → Result L NetworkFailed → List (Event L) → Type 0
+  IsAwaited address (Ok link) events = (number : ℕ) × (failures : List (Event L)) × AreFailures address number failures
+      × (events ≡ failures ++ accepted (Some link) ∷ [])
+  IsAwaited address (Err failed) events = IsGivenUp address events
+
+  -- nothing is left to do where so many were served; where fewer came, that is told
+  abbrev pub IsServingEnded : List ℕ → Result (Unit {0}) NetworkFailed → Course L
+  IsServingEnded address (Ok done) events end = (events ≡ []) × (end ≡ 0)
+  IsServingEnded address (Err failed) events end = IsFailureReported address events end
+
+module _ {R W : Type 0} (reader : Source R) (writer : Sink W) where
+  -- a connection was served, or none came
+  abbrev pub IsNextOrNone : List ℕ → Seen → Result (Unit {0}) NetworkFailed → List (Event (Link R W)) → Seen → Type 0
+  IsNextOrNone address old (Ok done) events new = IsNextServed reader writer address old events new
+  IsNextOrNone address old (Err failed) events new = IsGivenUp address events × (new ≡ old)
+
+  -- so many were served, or fewer came
+  abbrev pub AreServedOrFewer : List ℕ → ℕ → Seen → Result (Unit {0}) NetworkFailed → List (Event (Link R W)) → Seen
+      → Type 0
+  AreServedOrFewer address most old (Ok done) events new = AreServed reader writer address most old events new
+  AreServedOrFewer address most old (Err failed) events new = AreCutShort reader writer address most old events new
+
+  abbrev pub IsServeNamed : List ℕ → List ℕ → List ℕ → Option ℕ → List ℕ → Course (Link R W)
+  IsServeNamed name state_name address connections schema =
+      Reads state_name (λ state. IsServedFrom reader writer schema name (Some state) address connections)
+
+  abbrev pub IsServeUnder : List ℕ → Option (List ℕ) → List ℕ → Option ℕ → List ℕ → Course (Link R W)
+  IsServeUnder name state_name address connections schema =
+      ReadsIfNamed state_name (λ state. IsServedFrom reader writer schema name state address connections)

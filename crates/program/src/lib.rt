@@ -1,0 +1,25 @@
+//! The commands of the program: its files, its streams and its connections, over any machine.
+#![tactic(auto)]
+
+mod begin;
+mod commands;
+mod device;
+mod drills;
+mod host;
+mod loads;
+mod reading;
+mod report;
+mod running;
+mod serving;
+mod states;
+mod system;
+
+pub use device::{FileFault, Link, NetworkFailed, Stream, StreamFailed};
+pub use host::Host;
+pub use http_service::decide_texts;
+pub use program_drills::{check_texts, decide_under, drill_text};
+pub use program_lines::{Line, LineFault, line_of};
+pub use report::report_words;
+pub use running::run;
+pub use state_exchanges::{merge_texts, pull_over};
+pub use system::SystemHost;

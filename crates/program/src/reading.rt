@@ -1,0 +1,35 @@
+//! Files that a run reads.
+ghost use Rattle.std.specs.Prelude.{Ok, MatchResult, option_map};
+ghost use Rattle.std.specs.Process.{exit_status};
+ghost use Rattle.program.specs.Events.{read, Runs};
+ghost use Rattle.program.specs.inner.Ways.{found_as, IsUnread, IsUnreadThere};
+
+use crate::device::FileFault;
+use crate::host::Host;
+use crate::report::report_file;
+use std::process::ExitCode;
+
+/// Returns what a file holds; where it is not read, that is told, and this is the status of the run.
+pub(crate) fn read_file<H: Host>(host: &mut H, name: &str) -> Result<Vec<u8>, ExitCode>
+    ensures { MatchResult result (λ bytes. H.does host.old (read name.now (Ok bytes.items)) host.new)
+        (λ end. Runs H.does host.old host.new (λ events. IsUnread name.now events (exit_status end))) }
+{
+    match host.read(name) {
+        Ok(bytes) => Ok(bytes),
+        Err(fault) => Err(report_file(host, name, fault)),
+    }
+}
+
+/// Returns the same, of a file that need not be there.
+pub(crate) fn read_if_there<H: Host>(host: &mut H, name: &str) -> Result<Option<Vec<u8>>, ExitCode>
+    ensures { MatchResult result
+        (λ found. H.does host.old (read name.now (found_as (option_map (λ bytes. bytes.items) found))) host.new)
+        (λ end. Runs H.does host.old host.new (λ events. IsUnreadThere name.now events (exit_status end))) }
+{
+    match host.read(name) {
+        Ok(bytes) => Ok(Some(bytes)),
+        Err(FileFault::Missing) => Ok(None),
+        Err(FileFault::Failed) => Err(report_file(host, name, FileFault::Failed)),
+        Err(FileFault::NoMemory) => Err(report_file(host, name, FileFault::NoMemory)),
+    }
+}

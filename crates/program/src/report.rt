@@ -1,0 +1,137 @@
+//! What a run writes at its end, and the status that it ends with.
+ghost use Rattle.std.specs.Prelude.{◌≡◌, ◌⊎◌, ◌++◌, is_ok, if◌then◌else◌};
+ghost use Rattle.std.specs.Process.{exit_status};
+ghost use Rattle.http_service.specs.decision_texts.Refusals.{error_line};
+ghost use Rattle.program.specs.Events.{Runs};
+ghost use Rattle.program.specs.Reports.{IsReported, IsAnswerReported, IsRefusalReported, IsMemoryReported};
+ghost use Rattle.program.specs.Reports.{IsFileReported};
+ghost use Rattle.program.specs.Reports.{IsFailureReported, IsFaultReported, IsPrinted, AreLinesReported};
+ghost use Rattle.program.specs.Reports.{status_after};
+
+use crate::device::{FileFault, Stream, StreamFailed};
+use crate::host::Host;
+use http_service::{Refusal, error_line};
+use program_lines::LineFault;
+use std::alloc::Global;
+use std::process::ExitCode;
+
+/// An answer was given, or help.
+pub(crate) const ANSWERED: u8 = 0;
+
+/// The texts are refused, or a policy of them is.
+const REFUSED: u8 = 1;
+
+/// The words are no command line.
+const LINE_FAULT: u8 = 2;
+
+/// A file could not be read or written, the network failed, or a stream did.
+pub(crate) const FAILED: u8 = 3;
+
+/// The line that tells of want of memory; it takes none.
+const NO_MEMORY_LINE: &[u8; 47] = b"{\"error\":{\"code\":1,\"place\":null,\"within\":null}}";
+
+/// Returns the status of a run whose last writing came to this.
+pub(crate) fn status_of(written: Result<(), StreamFailed>, status: u8) -> ExitCode
+    ensures { exit_status result ≡ status_after (is_ok written) status }
+{
+    match written {
+        Ok(()) => ExitCode::from(status),
+        Err(StreamFailed) => ExitCode::from(FAILED),
+    }
+}
+
+/// Writes the last line of a run.
+fn tell<H: Host>(host: &mut H, stream: Stream, label: &str, line: &[u8], status: u8) -> ExitCode
+    ensures { Runs H.does host.old host.new
+        (λ events. IsReported stream (label.now ++ line.now) status events (exit_status result)) }
+{
+    let written = host.write_line(stream, label, line);
+    status_of(written, status)
+}
+
+/// Writes the line of an answer.
+pub(crate) fn report_answer<H: Host>(host: &mut H, line: &[u8]) -> ExitCode
+    ensures { Runs H.does host.old host.new (λ events. IsAnswerReported line.now events (exit_status result)) }
+{
+    tell(host, Stream::Answers, "", line, ANSWERED)
+}
+
+/// Returns the status of a run that tells of policies.
+fn check_status(some_refused: bool) -> u8
+    ensures { result ≡ if some_refused then 1 else 0 }
+{
+    if some_refused { REFUSED } else { ANSWERED }
+}
+
+/// Writes the lines of policies, if there are any.
+pub(crate) fn report_lines<H: Host>(host: &mut H, lines: &[u8], some_refused: bool) -> ExitCode
+    ensures { Runs H.does host.old host.new
+        (λ events. AreLinesReported lines.now some_refused events (exit_status result)) }
+{
+    let status = check_status(some_refused);
+    if lines.is_empty() {
+        return ExitCode::from(status);
+    }
+    tell(host, Stream::Answers, "", lines, status)
+}
+
+/// Writes that memory was refused.
+pub(crate) fn report_memory<H: Host>(host: &mut H) -> ExitCode
+    ensures { Runs H.does host.old host.new (λ events. IsMemoryReported events (exit_status result)) }
+{
+    tell(host, Stream::Faults, "", NO_MEMORY_LINE, REFUSED)
+}
+
+/// Writes the line of a refusal, or where memory for it is refused, the line that tells of that.
+pub(crate) fn report_refusal<H: Host>(alloc: Global, host: &mut H, refusal: Refusal) -> ExitCode
+    ensures { Runs H.does host.old host.new
+        (λ events. IsRefusalReported refusal events (exit_status result)
+        ⊎ IsMemoryReported events (exit_status result)) }
+{
+    match error_line(alloc, refusal) {
+        Ok(line) => tell(host, Stream::Faults, "", &line, REFUSED),
+        Err(_) => report_memory(host),
+    }
+}
+
+/// Writes the name of what failed, a file or an address.
+pub(crate) fn report_failure<H: Host>(host: &mut H, name: &str) -> ExitCode
+    ensures { Runs H.does host.old host.new (λ events. IsFailureReported name.now events (exit_status result)) }
+{
+    tell(host, Stream::Faults, "fault: ", name.as_bytes(), FAILED)
+}
+
+/// Writes why a file was not read or written.
+pub(crate) fn report_file<H: Host>(host: &mut H, name: &str, fault: FileFault) -> ExitCode
+    ensures { Runs H.does host.old host.new (λ events. IsFileReported name.now fault events (exit_status result)) }
+{
+    match fault {
+        FileFault::Missing => report_failure(host, name),
+        FileFault::Failed => report_failure(host, name),
+        FileFault::NoMemory => report_memory(host),
+    }
+}
+
+/// Writes the text of a fault of the words, or the help that was asked for.
+fn report_text<H: Host>(host: &mut H, stream: Stream, fault: &LineFault, status: u8) -> ExitCode
+    ensures { Runs H.does host.old host.new
+        (λ events. IsPrinted stream fault.now status events (exit_status result)) }
+{
+    let written = host.print(stream, fault);
+    status_of(written, status)
+}
+
+/// Writes why words are no command, or the help that was asked for, and answers the status: 0 for help, 2 for a fault
+/// of the words, 1 for want of memory, and 3 where the stream fails.
+pub fn report_words<H: Host>(host: &mut H, fault: &LineFault) -> ExitCode
+    ensures { Runs H.does host.old host.new (λ events. IsFaultReported fault.now events (exit_status result)) }
+{
+    match fault {
+        LineFault::Help(_) => report_text(host, Stream::Answers, fault, ANSWERED),
+        LineFault::Words(_) => report_text(host, Stream::Faults, fault, LINE_FAULT),
+        LineFault::Site => report_text(host, Stream::Faults, fault, LINE_FAULT),
+        LineFault::Incomplete => report_text(host, Stream::Faults, fault, LINE_FAULT),
+        LineFault::NotText => report_text(host, Stream::Faults, fault, LINE_FAULT),
+        LineFault::NoMemory => report_memory(host),
+    }
+}

@@ -1,0 +1,80 @@
+//! A run, from the words of the command line to the status.
+ghost use Rattle.std.specs.Prelude.{map, string_bytes};
+ghost use Rattle.std.specs.Process.{exit_status};
+ghost use Rattle.program_lines.specs.Lines.{HasSites};
+ghost use Rattle.program.specs.Events.{Runs};
+ghost use Rattle.program.specs.Runs.{IsLineRun, IsRun};
+
+use crate::commands::{run_check, run_decide};
+use crate::drills::run_drill;
+use crate::host::Host;
+use crate::loads::run_load;
+use crate::report::report_words;
+use crate::serving::run_serve;
+use crate::states::{run_merge, run_pull};
+use program_lines::{Line, line_of};
+use std::alloc::Global;
+use std::process::ExitCode;
+
+/// Carries out a command. The name that `pull` is given is for the record alone: nothing is stamped.
+fn run_line<H: Host>(alloc: Global, host: &mut H, line: &Line<'_>) -> ExitCode
+    requires { HasSites line.now }
+    ensures { Runs H.does host.old host.new (λ events.
+        IsLineRun H.Reader.Source H.Writer.Sink line.now events (exit_status result)) }
+{
+    match line {
+        Line::Check { schema, policies } => run_check(alloc, host, schema, policies),
+        Line::Decide {
+            schema,
+            policies,
+            entities,
+            request,
+        } => run_decide(alloc, host, *schema, policies, entities, request),
+        Line::Load {
+            schema,
+            site,
+            policies,
+            entities,
+            state,
+        } => run_load(alloc, host, schema, *site, *state, *policies, *entities),
+        Line::Serve {
+            schema,
+            site,
+            listen,
+            state,
+            connections,
+        } => run_serve(alloc, host, schema, *site, *state, listen, *connections),
+        Line::Pull {
+            schema,
+            site: _,
+            from,
+            state,
+        } => run_pull(alloc, host, schema, from, state),
+        Line::Merge {
+            schema,
+            first,
+            second,
+        } => run_merge(alloc, host, schema, first, second),
+        Line::Drill {
+            schema,
+            sites,
+            script,
+        } => run_drill(alloc, host, schema, *sites, script),
+    }
+}
+
+/// Does what the words ask for, the first of which is the program's own name: checks policies, decides one request,
+/// puts files into a site and tells its state, serves one, pulls from one, merges two states, plays a script, writes
+/// help or the version, or what is wrong with the words.
+///
+/// The status is 0 for an answer or help, 1 for a refusal, also of one policy among those that are checked, 2 for words
+/// that are no command, and 3 where a file can't be read or written, the network fails, or a stream does.
+pub fn run<H: Host>(alloc: Global, host: &mut H, words: &[String]) -> ExitCode
+    ensures { Runs H.does host.old host.new (λ events.
+        IsRun H.Reader.Source H.Writer.Sink (map string_bytes words.now) events (exit_status result)) }
+{
+    match line_of(alloc, words) {
+        Ok(line) => run_line(alloc, host, &line),
+        Err(fault) => report_words(host, &fault),
+    }
+}

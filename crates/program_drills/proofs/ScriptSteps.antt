@@ -1,0 +1,152 @@
+-- A script, one line more at each turn.
+use Rattle.std.proofs.Common.{◌≡◌, ◌∙◌, ℕ, suc, ◌+◌, ◌≤◌, List, [], ◌∷◌, ◌++◌, length, Option, Some, None, Result, Ok}
+use Rattle.std.proofs.Common.{Err, refl, sym, ap, arith}
+use Rattle.std.specs.List.{AllZip}
+use Rattle.std.proofs.lemmas.List.{append_assoc, append-nil, length-append}
+use Rattle.json_words.specs.ReadsAs.{◌>>=◌}
+use Rattle.schema_decisions.specs.decision_texts.declared.refusal.Refusal.{Refusal}
+use Rattle.schema_decisions.specs.decision_texts.Refusals.{bad_shape}
+use Rattle.site.specs.declared.event.Deed.{Deed}
+use Rattle.site.specs.declared.event.Deed.TheVariants as deed
+use Rattle.site.specs.declared.event.Event.{Event}
+use Rattle.program_drills.specs.declared.made.Made.{Made}
+use Rattle.program_drills.specs.Lines.{lines}
+use Rattle.program_drills.specs.Said.{Asked, plain, put_entity, authorize, Said, said_of, after_deed, after_asked}
+use Rattle.program_drills.specs.Said.{IsDeedOf, IsEventOf}
+use Rattle.program_drills.specs.Scripts.{said_from, none_made, script_of, AreEventsOf, IsScriptRefused}
+use Rattle.program_drills.specs.inner.Reading.{IsLineRead, onto, IsReadUpTo}
+
+-- what is made once a deed is done is what is made once it is asked for
+after_same : (made : Made) (asked : Asked) (d : Deed) → IsDeedOf asked d → after_deed made d ≡ after_asked made asked
+after_same made (plain asked) d is = ap (after_deed made) is
+after_same made (put_entity json) d is = ap (after_deed made) is.1
+after_same made (authorize json) d is = ap (after_deed made) is.1
+
+messages_after : (made : Made) (d : Deed) → (after_deed made d).messages ≤ made.messages + 1
+messages_after made (deed.PutPolicy id text) = omega arith
+messages_after made (deed.DeletePolicy id) = omega arith
+messages_after made (deed.PutEntity bytes) = omega arith
+messages_after made (deed.DeleteEntity uid) = omega arith
+messages_after made (deed.Authorize bytes) = omega arith
+messages_after made deed.Summary = omega arith
+messages_after made deed.Offer = omega arith
+messages_after made (deed.OfferDelta k) = omega arith
+messages_after made (deed.Deliver k) = omega arith
+
+summaries_after : (made : Made) (d : Deed) → (after_deed made d).summaries ≤ made.summaries + 1
+summaries_after made (deed.PutPolicy id text) = omega arith
+summaries_after made (deed.DeletePolicy id) = omega arith
+summaries_after made (deed.PutEntity bytes) = omega arith
+summaries_after made (deed.DeleteEntity uid) = omega arith
+summaries_after made (deed.Authorize bytes) = omega arith
+summaries_after made deed.Summary = omega arith
+summaries_after made deed.Offer = omega arith
+summaries_after made (deed.OfferDelta k) = omega arith
+summaries_after made (deed.Deliver k) = omega arith
+
+pub zip_more : {A B : Type 0} (R : A → B → Type 0) (xs : List A) (ys : List B) (x : A) (y : B) → AllZip R xs ys → R x y
+    → AllZip R (xs ++ x ∷ []) (ys ++ y ∷ [])
+zip_more R [] [] x y all r = (r, tt)
+zip_more R [] (b ∷ ys) x y all r = absurd all
+zip_more R (a ∷ xs) [] x y all r = absurd all
+zip_more R (a ∷ xs) (b ∷ ys) x y all r = (all.0, zip_more R xs ys x y all.1 r)
+
+onto_none : (r : Result (List Said) ℕ) → r ≡ onto [] r
+onto_none (Ok more) = refl
+onto_none (Err k) = refl
+
+onto_more : (said : List Said) (s : Said) (r : Result (List Said) ℕ)
+    → onto said (r >>= λ more. Ok (s ∷ more)) ≡ onto (said ++ s ∷ []) r
+onto_more said s (Ok more) = ap Ok (sym (append_assoc said (s ∷ []) more))
+onto_more said s (Err k) = refl
+
+-- nothing is read yet
+pub none_read : (n : ℕ) (script : List ℕ) → IsReadUpTo n script none_made script []
+none_read n script = record {
+  said = [];
+  is = onto_none (script_of n script);
+  each = tt;
+  messages = omega arith;
+  summaries = omega arith;
+}
+
+-- what the line says, then what those behind it say
+said_next : (n : ℕ) (made : Made) (k : ℕ) (line : List ℕ) (ls : List (List ℕ)) (s : Said) → said_of n made line ≡ Some s
+    → said_from n made k (line ∷ ls) ≡ (said_from n (after_asked made s.asked) (suc k) ls >>= λ more. Ok (s ∷ more))
+unfolding said_from
+said_next n made k line ls s is = rw is refl
+
+said_never : (n : ℕ) (made : Made) (k : ℕ) (line : List ℕ) (ls : List (List ℕ)) → said_of n made line ≡ None
+    → said_from n made k (line ∷ ls) ≡ Err k
+unfolding said_from
+said_never n made k line ls is = rw is refl
+
+said_end : (n : ℕ) (made : Made) (k : ℕ) → said_from n made k (lines []) ≡ Ok []
+unfolding said_from
+said_end n made k = refl
+
+read_said : (said : Option Said) (e : Event) → IsLineRead said (Some e) → (s : Said) × (said ≡ Some s) × IsEventOf s e
+read_said None e is = absurd is
+read_said (Some s) e is = (s, refl, is)
+
+read_never : (said : Option Said) → IsLineRead said None → said ≡ None
+read_never None is = refl
+read_never (Some s) is = absurd is
+
+-- one line more
+pub read_more : (n : ℕ) (script : List ℕ) (made : Made) (rest line behind : List ℕ) (events : List Event) (e : Event) (now : Made)
+    → IsReadUpTo n script made rest events → lines rest ≡ line ∷ lines behind → IsLineRead (said_of n made line) (Some e)
+    → now ≡ after_deed made e.deed → IsReadUpTo n script now behind (events ++ e ∷ [])
+read_more n script made rest line behind events e now was parts read is =
+    let found = read_said (said_of n made line) e read in
+    let s : Said = found.0 in
+    let after : after_asked made s.asked ≡ now = sym (after_same made s.asked e.deed found.2.1) ∙ sym is in
+    let count : length (events ++ e ∷ []) ≡ suc (length events) = length-append events (e ∷ []) ∙ omega arith in
+    let more = messages_after made e.deed in
+    let sums = summaries_after made e.deed in
+    let was_messages = was.messages in
+    let was_summaries = was.summaries in
+    record {
+      said = was.said ++ s ∷ [];
+      is =
+          was.is ∙ ap (λ (ls : List (List ℕ)). onto was.said (said_from n made (length events) ls)) parts
+          ∙ ap (onto was.said) (said_next n made (length events) line (lines behind) s found.1)
+          ∙ onto_more was.said s (said_from n (after_asked made s.asked) (suc (length events)) (lines behind))
+          ∙ ap (λ (m : Made). onto (was.said ++ s ∷ []) (said_from n m (suc (length events)) (lines behind))) after
+          ∙ ap (λ (k : ℕ). onto (was.said ++ s ∷ []) (said_from n now k (lines behind))) (sym count);
+      each = zip_more IsEventOf was.said events s e was.each found.2;
+      messages = rw (count, is) (omega (arith, more, was_messages));
+      summaries = rw (count, is) (omega (arith, sums, was_summaries));
+    }
+
+nothing_left : (rest : List ℕ) → length rest ≡ 0 → rest ≡ []
+nothing_left [] none = refl
+nothing_left (b ∷ bs) none = absurd (omega (arith, none))
+
+-- all lines are read
+pub all_read : (n : ℕ) (script : List ℕ) (made : Made) (rest : List ℕ) (events : List Event) → IsReadUpTo n script made rest events
+    → length rest ≡ 0 → AreEventsOf n script events
+all_read n script made rest events was none = record {
+  said = was.said;
+  is =
+      was.is ∙ ap (λ (l : List ℕ). onto was.said (said_from n made (length events) (lines l))) (nothing_left rest none)
+      ∙ ap (onto was.said) (said_end n made (length events)) ∙ ap Ok (append-nil was.said);
+  each = was.each;
+}
+
+-- or the next one says nothing
+pub next_refused : (n : ℕ) (script : List ℕ) (made : Made) (rest line behind : List ℕ) (events : List Event) (r : Refusal)
+    → IsReadUpTo n script made rest events → lines rest ≡ line ∷ lines behind → IsLineRead (said_of n made line) None
+    → r ≡ bad_shape (Some (length events)) → IsScriptRefused n script r
+next_refused n script made rest line behind events r was parts read told = record {
+  place = length events;
+  is =
+      was.is ∙ ap (λ (ls : List (List ℕ)). onto was.said (said_from n made (length events) ls)) parts
+      ∙ ap (onto was.said) (said_never n made (length events) line (lines behind) (read_never (said_of n made line) read));
+  told = told;
+}
+
+-- what is no event is none
+pub is_unread : (said : Option Said) (o : Option Event) → IsLineRead said o → ((e : Event) → o ≡ Some e → ⊥) → IsLineRead said None
+is_unread said None read none = read
+is_unread said (Some e) read none = absurd (none e refl)

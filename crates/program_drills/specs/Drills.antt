@@ -1,0 +1,45 @@
+-- What a schema and a script come to at so many sites. Rules of this product: the schema is judged first, then the
+-- whole script, and only then is anything played; a line for each event, in their order, then one for each site, with a
+-- line end between each two.
+use Rattle.std.specs.Prelude.{◌≡◌, ◌⊎◌, ℕ, List, ◌++◌, map, Some}
+use Rattle.std.specs.List.{AllZip, join_with_byte}
+use Rattle.schema_decisions.specs.decision_texts.declared.refusal.Refusal.{Refusal}
+use Rattle.schema_decisions.specs.Checks.{IsSchemaRefused}
+use Rattle.schema_decisions.specs.schema.Schemas.{StatedSchema, IsSchemaOf}
+use Rattle.http_replies.specs.site_steps.Seen.{Seen}
+use Rattle.site.specs.Sites.{first_sites}
+use Rattle.site.specs.Played.{IsPlayed}
+use Rattle.site.specs.declared.event.Event.{Event}
+use Rattle.site.specs.declared.event.EventReply.{EventReply}
+use Rattle.program_drills.specs.Lines.{line_end}
+use Rattle.program_drills.specs.Scripts.{AreEventsOf, IsScriptRefused}
+use Rattle.program_drills.specs.Told.{told, state_told}
+
+-- this line is told of an event that was answered so
+abbrev pub IsTold : EventReply → List ℕ → Type 0
+IsTold answer line = told answer ≡ Some line
+
+-- The events lead sites that are empty at the start to a world, with these answers; the text tells of them, and of what
+-- each site holds at the end.
+pub record IsPlayedOut (schema : StatedSchema) (n : ℕ) (events : List Event) (text : List ℕ) : Type 0 where
+  pub answers : List EventReply
+  pub sites : List Seen
+  pub messages : List (List ℕ)
+  pub summaries : List (List ℕ)
+  pub played : IsPlayed schema (first_sites n) events answers sites messages summaries
+  pub lines : List (List ℕ)
+  pub each : AllZip IsTold answers lines
+  pub text_is : text ≡ join_with_byte line_end (lines ++ map state_told sites)
+
+-- both texts are read, and this is told of what is played
+pub record IsDrilled (n : ℕ) (schema script text : List ℕ) : Type 0 where
+  pub stated : StatedSchema
+  pub schema_is : IsSchemaOf schema stated
+  pub events : List Event
+  pub read : AreEventsOf n script events
+  pub out : IsPlayedOut stated n events text
+
+-- the schema is refused, or under it the script
+abbrev pub IsDrillRefused : ℕ → List ℕ → List ℕ → Refusal → Type 0
+IsDrillRefused n schema script refusal = IsSchemaRefused schema refusal
+    ⊎ ((stated : StatedSchema) × IsSchemaOf schema stated × IsScriptRefused n script refusal)

@@ -1,0 +1,39 @@
+-- Scripts: one event a line, all of them read before any is played. A rule of this product: a script with a line that
+-- says no event is refused (30) with the place of the first such line, counted from 0.
+use Rattle.std.specs.Prelude.{◌≡◌, ℕ, suc, List, [], ◌∷◌, Some, Result, Ok, Err}
+use Rattle.std.specs.List.{AllZip}
+use Rattle.json_words.specs.ReadsAs.{◌>>=◌, or_fault}
+use Rattle.schema_decisions.specs.decision_texts.declared.refusal.Refusal.{Refusal}
+use Rattle.schema_decisions.specs.decision_texts.Refusals.{bad_shape}
+use Rattle.site.specs.declared.event.Event.{Event}
+use Rattle.program_drills.specs.declared.made.Made.{Made}
+use Rattle.program_drills.specs.Lines.{lines}
+use Rattle.program_drills.specs.Said.{Said, said_of, after_asked, IsEventOf}
+
+-- What lines say, from the one with this place on, where so much was made before; or the place of the first that says
+-- nothing. Each line may name what the lines before it make.
+unfoldable pub said_from : ℕ → Made → ℕ → List (List ℕ) → Result (List Said) ℕ
+said_from n made place [] = Ok []
+said_from n made place (l ∷ ls) = do
+  said ← or_fault place (said_of n made l)
+  more ← said_from n (after_asked made said.asked) (suc place) ls
+  Ok (said ∷ more)
+
+abbrev pub none_made : Made
+none_made = record { messages = 0; summaries = 0 }
+
+-- what a script says to n sites
+abbrev pub script_of : ℕ → List ℕ → Result (List Said) ℕ
+script_of n script = said_from n none_made 0 (lines script)
+
+-- these are the events of the script, one for each line
+pub record AreEventsOf (n : ℕ) (script : List ℕ) (events : List Event) : Type 0 where
+  pub said : List Said
+  pub is : script_of n script ≡ Ok said
+  pub each : AllZip IsEventOf said events
+
+-- some line says no event, and this is told of the first one
+pub record IsScriptRefused (n : ℕ) (script : List ℕ) (refusal : Refusal) : Type 0 where
+  pub place : ℕ
+  pub is : script_of n script ≡ Err place
+  pub told : refusal ≡ bad_shape (Some place)

@@ -1,0 +1,18 @@
+-- Lines, each with its end.
+use Rattle.std.specs.Prelude.{◌≡◌, ℕ, List, [], ◌∷◌, ◌++◌}
+use Rattle.std.specs.List.{AllZip}
+use Rattle.site.specs.declared.event.EventReply.{EventReply}
+use Rattle.program_drills.specs.Lines.{line_end}
+use Rattle.program_drills.specs.Drills.{IsTold}
+
+abbrev pub ended : List (List ℕ) → List ℕ
+ended [] = []
+ended (l ∷ ls) = (l ++ line_end ∷ []) ++ ended ls
+
+-- behind what there was, a line is told of each answer
+abbrev pub AreTold : List EventReply → List ℕ → List ℕ → Type 0
+AreTold answers before after = (ls : List (List ℕ)) × AllZip IsTold answers ls × (after ≡ before ++ ended ls)
+
+-- and this one of one answer
+abbrev pub IsToldOf : EventReply → List ℕ → List ℕ → Type 0
+IsToldOf answer before after = (line : List ℕ) × IsTold answer line × (after ≡ before ++ line)

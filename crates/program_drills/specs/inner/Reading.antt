@@ -1,0 +1,47 @@
+-- What was read of a line, beside what it says.
+use Rattle.std.specs.Prelude.{◌≡◌, ◌≤◌, ℕ, List, ◌++◌, length, Option, Some, None, Result, Ok, Err}
+use Rattle.std.specs.List.{AllZip}
+use Rattle.serde_json.specs.Data.{Data}
+use Rattle.json_words.specs.Json.{json_of}
+use Rattle.site.specs.declared.event.Deed.{Deed}
+use Rattle.site.specs.declared.event.Event.{Event}
+use Rattle.program_drills.specs.declared.made.Made.{Made}
+use Rattle.program_drills.specs.Lines.{lines}
+use Rattle.program_drills.specs.Said.{Asked, Said, IsDeedOf, IsEventOf}
+use Rattle.program_drills.specs.Scripts.{said_from, script_of}
+
+-- a deed of what is asked for, or none where nothing is
+abbrev pub IsReadAs : Option Asked → Option Deed → Type 0
+IsReadAs None None = Unit {0}
+IsReadAs None (Some d) = ⊥
+IsReadAs (Some asked) None = ⊥
+IsReadAs (Some asked) (Some d) = IsDeedOf asked d
+
+-- an event of what is said, or none where nothing is
+abbrev pub IsLineRead : Option Said → Option Event → Type 0
+IsLineRead None None = Unit {0}
+IsLineRead None (Some e) = ⊥
+IsLineRead (Some said) None = ⊥
+IsLineRead (Some said) (Some e) = IsEventOf said e
+
+-- bytes that state the value, if there is one
+abbrev pub AreBytesOf : Option Data → Option (List ℕ) → Type 0
+AreBytesOf None None = Unit {0}
+AreBytesOf None (Some bytes) = ⊥
+AreBytesOf (Some d) None = ⊥
+AreBytesOf (Some d) (Some bytes) = json_of bytes ≡ Some d
+
+-- ---- the whole script
+
+-- what was said before, in front of what is left
+abbrev pub onto : List Said → Result (List Said) ℕ → Result (List Said) ℕ
+onto said (Ok more) = Ok (said ++ more)
+onto said (Err place) = Err place
+
+-- the lines up to `rest` are read: they say these events, and make so much
+pub record IsReadUpTo (n : ℕ) (script : List ℕ) (made : Made) (rest : List ℕ) (events : List Event) : Type 0 where
+  pub said : List Said
+  pub is : script_of n script ≡ onto said (said_from n made (length events) (lines rest))
+  pub each : AllZip IsEventOf said events
+  pub messages : made.messages ≤ length events
+  pub summaries : made.summaries ≤ length events

@@ -1,0 +1,10 @@
+-- A script that is played under a schema that was read.
+use Rattle.std.specs.Prelude.{ℕ, List}
+use Rattle.schema_decisions.specs.schema.Schemas.{StatedSchema}
+use Rattle.site.specs.declared.event.Event.{Event}
+use Rattle.program_drills.specs.Scripts.{AreEventsOf}
+use Rattle.program_drills.specs.Drills.{IsPlayedOut}
+
+abbrev pub IsDrilledUnder : StatedSchema → ℕ → List ℕ → List ℕ → Type 0
+IsDrilledUnder schema n script text =
+    (events : List Event) × AreEventsOf n script events × IsPlayedOut schema n events text

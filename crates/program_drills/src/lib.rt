@@ -1,0 +1,12 @@
+//! Scripts of events, played at sites of one run: read whole, played, and told line by line.
+#![tactic(auto)]
+
+mod drilling;
+mod made;
+mod one_line;
+mod reporting;
+mod split;
+mod whole;
+
+pub use drilling::drill_text;
+pub use schema_decisions::{check_texts, decide_under};

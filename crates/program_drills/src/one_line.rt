@@ -1,0 +1,207 @@
+//! What a line of a script says.
+ghost use Rattle.std.specs.Prelude.{◌≡◌, ◌≤◌, ◌+◌, ◌<◌, IfOk, OnSome, Some, None, option_and_then, option_map, codes};
+ghost use Rattle.serde_json.specs.Data.{depth};
+ghost use Rattle.serde_json.specs.Find.{get};
+ghost use Rattle.serde_json.specs.Read.{max_depth};
+ghost use Rattle.serde_json.specs.View.{view};
+ghost use Rattle.json_words.specs.Json.{json_of, text_at};
+ghost use Rattle.schema_decisions.specs.entity_uids.Uids.{uid_in};
+ghost use Rattle.program_drills.specs.Said.{asked_by, authorize, delivered, delta_offered, entity_deleted, number_in};
+ghost use Rattle.program_drills.specs.Said.{policy_deleted, policy_put, put_entity, said_in, said_of, within};
+ghost use Rattle.program_drills.specs.inner.Reading.{IsReadAs, IsLineRead, AreBytesOf};
+
+use crate::made::Made;
+use json_words::{read_json, text_at, write_json};
+use plain::{Items, NoMemory, Text};
+use schema_decisions::read_uid;
+use serde_json::Value;
+use site::{Deed, Event};
+use std::alloc::Global;
+
+/// Returns the number, if it lies in these bounds.
+fn within(least: u64, most: u64, number: Option<u64>) -> Option<u64>
+    ensures { result ≡ within least most number }
+{
+    match number {
+        Some(number) if least <= number && number < most => Some(number),
+        _ => None,
+    }
+}
+
+/// Returns the number at a key, from `least` and below `most`.
+fn number_in(value: &Value, key: &str, least: usize, most: usize) -> Option<usize>
+    ensures { result ≡ number_in key.now least most (view value.now) }
+{
+    let Some(found) = value.get(key) else {
+        return None;
+    };
+    match within(least as u64, most as u64, found.as_u64()) {
+        Some(number) => Some(number as usize),
+        None => None,
+    }
+}
+
+/// Returns the JSON at a key, as bytes that state it.
+fn bytes_at(alloc: Global, value: &Value, key: &str) -> Result<Option<Items<u8>>, NoMemory>
+    requires { depth (view value.now) ≤ max_depth }
+    ensures { IfOk result (AreBytesOf (get key.now (view value.now))) }
+{
+    let Some(found) = value.get(key) else {
+        return Ok(None);
+    };
+    let bytes = write_json(alloc, found)?;
+    Ok(Some(Items::from_vec(bytes)))
+}
+
+/// Returns a policy to be put, if its id and its text are there.
+fn policy_put(alloc: Global, value: &Value) -> Result<Option<Deed>, NoMemory>
+    ensures { IfOk result (IsReadAs
+        (policy_put (text_at (codes "id") (view value.now)) (text_at (codes "text") (view value.now)))) }
+{
+    let Some(id) = text_at(value, "id") else {
+        return Ok(None);
+    };
+    let Some(text) = text_at(value, "text") else {
+        return Ok(None);
+    };
+    let id = Text::from_str(alloc, id)?;
+    let text = Text::from_str(alloc, text)?;
+    Ok(Some(Deed::PutPolicy(id, text)))
+}
+
+/// Returns a policy to be taken away, if its id is there.
+fn policy_deleted(alloc: Global, value: &Value) -> Result<Option<Deed>, NoMemory>
+    ensures { IfOk result (IsReadAs (option_map policy_deleted (text_at (codes "id") (view value.now)))) }
+{
+    let Some(id) = text_at(value, "id") else {
+        return Ok(None);
+    };
+    let id = Text::from_str(alloc, id)?;
+    Ok(Some(Deed::DeletePolicy(id)))
+}
+
+/// Returns an entity to be put, if it is there.
+fn entity_put(alloc: Global, value: &Value) -> Result<Option<Deed>, NoMemory>
+    requires { depth (view value.now) ≤ max_depth }
+    ensures { IfOk result (IsReadAs (option_map put_entity (get (codes "entity") (view value.now)))) }
+{
+    match bytes_at(alloc, value, "entity")? {
+        Some(bytes) => Ok(Some(Deed::PutEntity(bytes))),
+        None => Ok(None),
+    }
+}
+
+/// Returns an entity to be taken away, if there is something for its uid.
+fn entity_deleted(alloc: Global, value: &Value) -> Result<Option<Deed>, NoMemory>
+    ensures { IfOk result (IsReadAs
+        (option_map (λ uid. entity_deleted (uid_in uid)) (get (codes "uid") (view value.now)))) }
+{
+    let Some(named) = value.get("uid") else {
+        return Ok(None);
+    };
+    match read_uid(alloc, named)? {
+        Some(uid) => Ok(Some(Deed::DeleteEntity(uid))),
+        None => Ok(Some(Deed::PutEntity(Items::new(alloc)))),
+    }
+}
+
+/// Returns a request to be decided, if it is there.
+fn authorized(alloc: Global, value: &Value) -> Result<Option<Deed>, NoMemory>
+    requires { depth (view value.now) ≤ max_depth }
+    ensures { IfOk result (IsReadAs (option_map authorize (get (codes "request") (view value.now)))) }
+{
+    match bytes_at(alloc, value, "request")? {
+        Some(bytes) => Ok(Some(Deed::Authorize(bytes))),
+        None => Ok(None),
+    }
+}
+
+/// Returns a delta against a summary that was made, if the number of such a one is there.
+fn delta_offered(value: &Value, made: Made) -> Option<Deed>
+    ensures { IsReadAs (option_map delta_offered (number_in (codes "summary") 0 made.summaries (view value.now)))
+        result }
+{
+    match number_in(value, "summary", 0, made.summaries) {
+        Some(number) => Some(Deed::OfferDelta(number)),
+        None => None,
+    }
+}
+
+/// Returns a message that was made, if the number of such a one is there.
+fn delivered(value: &Value, made: Made) -> Option<Deed>
+    ensures { IsReadAs (option_map delivered (number_in (codes "message") 0 made.messages (view value.now))) result }
+{
+    match number_in(value, "message", 0, made.messages) {
+        Some(number) => Some(Deed::Deliver(number)),
+        None => None,
+    }
+}
+
+/// Returns what a word asks for, with the other members of the line.
+#[tactic(auto, unfolding(crate::specs::Said::asked_by))]
+fn asked_by(alloc: Global, made: Made, word: &str, value: &Value) -> Result<Option<Deed>, NoMemory>
+    requires { depth (view value.now) ≤ max_depth }
+    ensures { IfOk result (IsReadAs (asked_by made word.now (view value.now))) }
+{
+    if word == "put_policy" {
+        return policy_put(alloc, value);
+    }
+    if word == "delete_policy" {
+        return policy_deleted(alloc, value);
+    }
+    if word == "put_entity" {
+        return entity_put(alloc, value);
+    }
+    if word == "delete_entity" {
+        return entity_deleted(alloc, value);
+    }
+    if word == "authorize" {
+        return authorized(alloc, value);
+    }
+    if word == "summary" {
+        return Ok(Some(Deed::Summary));
+    }
+    if word == "offer" {
+        return Ok(Some(Deed::Offer));
+    }
+    if word == "offer_delta" {
+        return Ok(delta_offered(value, made));
+    }
+    if word == "deliver" {
+        return Ok(delivered(value, made));
+    }
+    Ok(None)
+}
+
+/// Returns the event that a JSON value says at one of so many sites, if it says one.
+#[tactic(auto, unfolding(crate::specs::Said::said_in))]
+fn said_in(alloc: Global, count: u16, made: Made, value: &Value) -> Result<Option<Event>, NoMemory>
+    requires { depth (view value.now) ≤ max_depth }
+    ensures { IfOk result (IsLineRead (said_in count made (view value.now))) }
+{
+    let Some(site) = number_in(value, "site", 1, count as usize + 1) else {
+        return Ok(None);
+    };
+    let Some(word) = text_at(value, "do") else {
+        return Ok(None);
+    };
+    match asked_by(alloc, made, word, value)? {
+        Some(deed) => Ok(Some(Event { site, deed })),
+        None => Ok(None),
+    }
+}
+
+/// Returns the event that a line says, if it says one. Fails for memory alone.
+pub(crate) fn said_of(
+    alloc: Global,
+    count: u16,
+    made: Made,
+    line: &[u8],
+) -> Result<Option<Event>, NoMemory>
+    ensures { IfOk result (IsLineRead (said_of count made line.now)) }
+{
+    match read_json(alloc, line)? {
+        Some(value) => said_in(alloc, count, made, &value),
+        None => Ok(None),
+    }
+}

@@ -1,0 +1,17 @@
+//! Lines of bytes.
+ghost use Rattle.std.specs.Prelude.{◌≡◌, ◌<◌, ◌∷◌, length};
+ghost use Rattle.program_drills.specs.Lines.{lines};
+
+/// Returns the first line of bytes that are some, and what stands behind its end.
+pub(crate) fn first_line(bytes: &[u8]) -> (&[u8], &[u8])
+    requires { 0 < length bytes.now }
+    ensures lines { lines bytes.now ≡ result.0.now ∷ lines result.1.now }
+    ensures less { length result.1.now < length bytes.now }
+{
+    for at in 0..bytes.len() {
+        if bytes[at] == b'\n' {
+            return (&bytes[..at], &bytes[at + 1..]);
+        }
+    }
+    (bytes, &bytes[bytes.len()..])
+}

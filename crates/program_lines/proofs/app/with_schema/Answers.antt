@@ -1,0 +1,4 @@
+use Rattle.program_lines.proofs.app.with_schema.Goals as goal
+
+pub returns : goal.returns
+returns c = c.with_needed.ensures

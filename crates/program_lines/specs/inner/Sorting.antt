@@ -1,0 +1,21 @@
+-- What an error of clap's is told as, and what a command lacks.
+use Rattle.std.specs.Prelude.{List, Option, if◌then◌else◌}
+use Rattle.clap.specs.Words.{Row, Text, kind_of}
+use Rattle.clap.specs.declared.error.Error.{Error}
+use Rattle.program_lines.specs.declared.fault.LineFault.{LineFault}
+use Rattle.program_lines.specs.declared.fault.LineFault.TheVariants.{Help, Words, Site, Incomplete, NotText, NoMemory}
+use Rattle.program_lines.specs.Lines.{IsOfNoSite}
+use Rattle.program_lines.specs.Faults.{is_help, is_memory}
+
+abbrev pub sorted : Error → LineFault
+sorted error = if is_help (kind_of error) then Help error
+    else if is_memory (kind_of error) then NoMemory else Words error
+
+-- a command that was named lacks a site's name, or something else
+abbrev pub IsLackOf : Option (Text × List Row) → LineFault → Type 0
+IsLackOf named (Help error) = ⊥
+IsLackOf named (Words error) = ⊥
+IsLackOf named Site = IsOfNoSite named
+IsLackOf named Incomplete = IsOfNoSite named → ⊥
+IsLackOf named NotText = ⊥
+IsLackOf named NoMemory = ⊥

@@ -1,0 +1,287 @@
+//! The commands and their options, as clap knows them.
+ghost use Rattle.std.specs.Prelude.{◌≡◌, false, Ok, IfOk, codes};
+ghost use Rattle.clap.specs.Words.{App, Rule, rule_of, new_app, with_rule, with_subcommand};
+ghost use Rattle.program_lines.specs.Apps.{value_option, value_word, number_option, demanded, site_option, site_app};
+ghost use Rattle.program_lines.specs.Apps.{check_app, decide_app, load_app, serve_app, pull_app};
+ghost use Rattle.program_lines.specs.Apps.{merge_app, drill_app};
+ghost use Rattle.program_lines.specs.Apps.{asks_for_command, with_version};
+ghost use Rattle.program_lines.specs.inner.Known.{IsApp};
+
+use clap::builder::ValueParser;
+use clap::{Arg, ArgAction, Command};
+use plain::{NoMemory, beside};
+use std::alloc::Global;
+
+/// The greatest number of connections that can be asked for.
+pub(crate) const MOST_CONNECTIONS: u64 = 4_294_967_295;
+
+/// The greatest number of sites that a script can be played at.
+pub(crate) const MOST_SITES: u64 = 64;
+
+/// Both of two, or want of memory; generic as well.
+fn both<A: Drop, B: Drop>(
+    first: Result<A, NoMemory>,
+    second: Result<B, NoMemory>,
+) -> Result<(A, B), NoMemory>
+    ensures first { IfOk result (λ pair. first ≡ Ok pair.0) }
+    ensures second { IfOk result (λ pair. second ≡ Ok pair.1) }
+{
+    let first = first?;
+    let second = second?;
+    Ok((first, second))
+}
+
+/// Returns a command with no options yet, whose help ends with an example.
+fn bare<'a>(
+    alloc: Global,
+    name: &'a str,
+    about: &'a str,
+    example: &'a str,
+) -> Result<Command<'a>, NoMemory>
+    ensures { IfOk result (IsApp (new_app name.entry.now)) }
+{
+    Ok(Command::new(alloc, name).about(about).after_help(example))
+}
+
+/// Returns the command with one more option.
+fn with<'a>(command: Result<Command<'a>, NoMemory>, arg: Arg<'a>) -> Result<Command<'a>, NoMemory>
+    requires { arg.global ≡ false }
+    ensures { (app : App) → (rule : Rule) → (rule_of arg.entry ≡ rule) → IfOk command.entry (IsApp app)
+        → IfOk result (IsApp (with_rule app rule)) }
+{
+    let (arg, command) = beside(arg, command)?;
+    command.arg(arg)
+}
+
+/// Returns the command with one more subcommand.
+fn with_command<'a>(
+    command: Result<Command<'a>, NoMemory>,
+    below: Result<Command<'a>, NoMemory>,
+) -> Result<Command<'a>, NoMemory>
+    ensures { (app : App) → (under : App) → IfOk command.entry (IsApp app) → IfOk below.entry (IsApp under)
+        → IfOk result (IsApp (with_subcommand app under.top)) }
+{
+    let (command, below) = both(command, below)?;
+    command.subcommand(below)
+}
+
+/// Returns an option with a value.
+fn value_option<'a>(alloc: Global, name: &'a str, value: &'a str, help: &'a str) -> Arg<'a>
+    ensures rule { rule_of result ≡ value_option name.entry.now }
+    ensures local { result.global ≡ false }
+{
+    Arg::new(alloc, name)
+        .long(name)
+        .value_name(value)
+        .help(help)
+        .action(ArgAction::Set)
+}
+
+/// Returns an option with a number within bounds.
+fn number_option<'a>(alloc: Global, name: &'a str, least: u64, most: u64, help: &'a str) -> Arg<'a>
+    ensures rule { rule_of result ≡ number_option name.entry.now least most }
+    ensures local { result.global ≡ false }
+{
+    value_option(alloc, name, "NUMBER", help).value_parser(ValueParser::unsigned(least, most))
+}
+
+/// Returns the command with one more option that has a value, demanded.
+fn with_needed<'a>(
+    alloc: Global,
+    command: Result<Command<'a>, NoMemory>,
+    name: &'a str,
+    value: &'a str,
+    help: &'a str,
+) -> Result<Command<'a>, NoMemory>
+    ensures { (app : App) → IfOk command.entry (IsApp app)
+        → IfOk result (IsApp (with_rule app (demanded (value_option name.entry.now)))) }
+{
+    let option = value_option(alloc, name, value, help).required(true);
+    with(command, option)
+}
+
+/// Returns the command with the name of a site, demanded.
+fn with_site<'a>(
+    alloc: Global,
+    command: Result<Command<'a>, NoMemory>,
+    help: &'a str,
+) -> Result<Command<'a>, NoMemory>
+    ensures { (app : App) → IfOk command.entry (IsApp app) → IfOk result (IsApp (with_rule app site_option)) }
+{
+    with_needed(alloc, command, "site", "NAME", help)
+}
+
+/// Returns the command with the schema, demanded.
+fn with_schema<'a>(
+    alloc: Global,
+    command: Result<Command<'a>, NoMemory>,
+) -> Result<Command<'a>, NoMemory>
+    ensures { (app : App) → IfOk command.entry (IsApp app)
+        → IfOk result (IsApp (with_rule app (demanded (value_option (codes "schema"))))) }
+{
+    with_needed(alloc, command, "schema", "FILE", "The schema, as JSON")
+}
+
+/// Returns the command with one more file that is named by its place, demanded.
+fn with_word<'a>(
+    alloc: Global,
+    command: Result<Command<'a>, NoMemory>,
+    name: &'a str,
+    value: &'a str,
+    help: &'a str,
+) -> Result<Command<'a>, NoMemory>
+    ensures { (app : App) → IfOk command.entry (IsApp app)
+        → IfOk result (IsApp (with_rule app (demanded (value_word name.entry.now)))) }
+{
+    let word = Arg::new(alloc, name)
+        .value_name(value)
+        .help(help)
+        .action(ArgAction::Set)
+        .required(true);
+    with(command, word)
+}
+
+fn check_command<'a>(alloc: Global) -> Result<Command<'a>, NoMemory>
+    ensures { IfOk result (IsApp check_app) }
+{
+    let about = "Tells of each policy of a file whether it is accepted under a schema";
+    let example = "Example:\n  cedar_site check --schema schema.json policies.cedar";
+    let command = bare(alloc, "check", about, example);
+    let command = with_schema(alloc, command);
+    with_word(
+        alloc,
+        command,
+        "policies",
+        "POLICIES",
+        "The policies, as text",
+    )
+}
+
+fn decide_command<'a>(alloc: Global) -> Result<Command<'a>, NoMemory>
+    ensures { IfOk result (IsApp decide_app) }
+{
+    let about = "Answers one request over a file of policies and a file of entities";
+    let request = "The request, a JSON object";
+    let entities = "The entities, a JSON array";
+    let schema = value_option(alloc, "schema", "FILE", "The schema, as JSON");
+    let example =
+        "Example:\n  cedar_site decide --schema schema.json --policies policies.cedar \\\n      \
+         --entities entities.json --request ben_reads.json";
+    let command = bare(alloc, "decide", about, example);
+    let command = with(command, schema);
+    let command = with_needed(alloc, command, "policies", "FILE", "The policies, as text");
+    let command = with_needed(alloc, command, "entities", "FILE", entities);
+    with_needed(alloc, command, "request", "FILE", request)
+}
+
+fn load_command<'a>(alloc: Global) -> Result<Command<'a>, NoMemory>
+    ensures { IfOk result (IsApp load_app) }
+{
+    let about = "Prints the state of a site that files of policies and entities are put into";
+    let example = "Example:\n  cedar_site load --schema schema.json --site east \\\n      \
+         --policies policies.cedar --entities entities.json > east.json";
+    let name = "The site's name, for the stamps: 1 to 32 ASCII letters, digits, '-', '_' or '.'";
+    let policies = "The policies, as text, each put under its name";
+    let entities = "The entities, a JSON array, put in their order";
+    let begin = "A state or a delta to begin with; it is read and never written";
+    let command = bare(alloc, "load", about, example);
+    let command = with_schema(alloc, command);
+    let command = with_site(alloc, command, name);
+    let policies = value_option(alloc, "policies", "FILE", policies);
+    let command = with(command, policies);
+    let entities = value_option(alloc, "entities", "FILE", entities);
+    let command = with(command, entities);
+    let state = value_option(alloc, "state", "FILE", begin);
+    with(command, state)
+}
+
+fn serve_command<'a>(alloc: Global) -> Result<Command<'a>, NoMemory>
+    ensures { IfOk result (IsApp serve_app) }
+{
+    let about = "Serves a site over HTTP, one connection after another";
+    let address = "Where to listen, as 127.0.0.1:7000";
+    let begin = "A state or a delta to begin with; it is read and never written";
+    let most = "How many connections to serve before the run ends";
+    let name =
+        "The site's name, which no other site has: 1 to 32 ASCII letters, digits, '-', '_' or '.'";
+    let example =
+        "Example:\n  cedar_site serve --schema schema.json --site east --state east.json \\\n      \
+         --listen 127.0.0.1:7000";
+    let command = bare(alloc, "serve", about, example);
+    let command = with_schema(alloc, command);
+    let command = with_site(alloc, command, name);
+    let command = with_needed(alloc, command, "listen", "ADDRESS", address);
+    let command = with(command, value_option(alloc, "state", "FILE", begin));
+    let connections = number_option(alloc, "connections", 0, MOST_CONNECTIONS, most);
+    with(command, connections)
+}
+
+fn pull_command<'a>(alloc: Global) -> Result<Command<'a>, NoMemory>
+    ensures { IfOk result (IsApp pull_app) }
+{
+    let about = "Takes from another site what a state file lacks";
+    let file = "The state, read and then written; where there is none, it is an empty one";
+    let name =
+        "The name of the site whose state it is, for the record alone: a pull stamps nothing";
+    let example =
+        "Example:\n  cedar_site pull --schema schema.json --site west --from 127.0.0.1:7000 --state west.json";
+    let command = bare(alloc, "pull", about, example);
+    let command = with_schema(alloc, command);
+    let command = with_site(alloc, command, name);
+    let from = "Where the other site listens";
+    let command = with_needed(alloc, command, "from", "ADDRESS", from);
+    with_needed(alloc, command, "state", "FILE", file)
+}
+
+fn merge_command<'a>(alloc: Global) -> Result<Command<'a>, NoMemory>
+    ensures { IfOk result (IsApp merge_app) }
+{
+    let about = "Prints the state that holds what two states hold";
+    let example = "Example:\n  cedar_site merge --schema schema.json east.json west.json";
+    let command = bare(alloc, "merge", about, example);
+    let command = with_schema(alloc, command);
+    let command = with_word(alloc, command, "first", "FIRST", "A state or a delta");
+    with_word(alloc, command, "second", "SECOND", "Another one")
+}
+
+fn drill_command<'a>(alloc: Global) -> Result<Command<'a>, NoMemory>
+    ensures { IfOk result (IsApp drill_app) }
+{
+    let about = "Plays a script of events at sites of one run, and prints what comes of each";
+    let count = "How many sites there are, 1 to 64; the script names them by their numbers";
+    let script = "The script: one event a line, each a JSON object";
+    let example = "Example:\n  cedar_site drill --schema schema.json --sites 2 lost_and_late.jsonl";
+    let command = bare(alloc, "drill", about, example);
+    let command = with_schema(alloc, command);
+    let sites = number_option(alloc, "sites", 1, MOST_SITES, count).required(true);
+    let command = with(command, sites);
+    with_word(alloc, command, "script", "SCRIPT", script)
+}
+
+/// What `--version` tells behind the program's name: that of the Cedar language whose policies it reads.
+const VERSION: &str = "4.0";
+
+/// Returns the program's command, which asks for a subcommand and tells its version.
+fn top_command<'a>(alloc: Global) -> Result<Command<'a>, NoMemory>
+    ensures { IfOk result (IsApp (with_version (asks_for_command (new_app (codes "cedar_site"))))) }
+{
+    let about = "Checks policies, decides requests by them, and keeps sites of them alike";
+    let command = Command::new(alloc, "cedar_site")
+        .about(about)
+        .version(VERSION);
+    Ok(command.subcommand_required(true))
+}
+
+/// All commands.
+pub(crate) fn command<'a>(alloc: Global) -> Result<Command<'a>, NoMemory>
+    ensures { IfOk result (IsApp site_app) }
+{
+    let command = top_command(alloc);
+    let command = with_command(command, check_command(alloc));
+    let command = with_command(command, decide_command(alloc));
+    let command = with_command(command, load_command(alloc));
+    let command = with_command(command, serve_command(alloc));
+    let command = with_command(command, pull_command(alloc));
+    let command = with_command(command, merge_command(alloc));
+    with_command(command, drill_command(alloc))
+}

@@ -1,0 +1,314 @@
+//! The command line.
+ghost use Rattle.std.specs.Prelude.{◌≡◌, ◌↔◌, IsTrue, [], IfOk, IfErr, OnOk, MatchOption, map, option_map};
+ghost use Rattle.std.specs.Prelude.{string_bytes, codes};
+ghost use Rattle.clap.specs.Words.{fault_of, found_of, rows_of, subcommand_rows_of};
+ghost use Rattle.program_lines.specs.Apps.{site_app};
+ghost use Rattle.program_lines.specs.Lines.{HasSites, IsLineOf, IsNamed, IsNoLine, IsOfNoSite, Says};
+ghost use Rattle.program_lines.specs.Faults.{IsFaultOf};
+ghost use Rattle.program_lines.specs.inner.Lacking.{IsNone};
+ghost use Rattle.program_lines.specs.inner.Sorting.{IsLackOf};
+
+use crate::app::command;
+use crate::fault::{LineFault, sorted};
+use crate::options::{connections_in, has_no_site, option_text, site_in, sites_in};
+use clap::ArgMatches;
+use stamped_store::SiteName;
+use std::alloc::Global;
+
+/// What the words ask for. Each option that a command demands is there, as a field of its own.
+#[derive(Clone, Copy)]
+pub enum Line<'a> {
+    /// Tell what each policy of a file comes to under a schema: the names of two files.
+    Check {
+        schema: &'a str,
+        policies: &'a str,
+    },
+    /// Decide one request: the names of three files, and perhaps of a schema.
+    Decide {
+        schema: Option<&'a str>,
+        policies: &'a str,
+        entities: &'a str,
+        request: &'a str,
+    },
+    /// Put files into the site of this name and tell its state: a schema's file, perhaps files with policies and with
+    /// entities, and perhaps one with a state to begin with.
+    Load {
+        schema: &'a str,
+        site: SiteName,
+        policies: Option<&'a str>,
+        entities: Option<&'a str>,
+        state: Option<&'a str>,
+    },
+    /// Serve the site of this name at an address: a schema's file, perhaps a file with a state to begin with, and
+    /// perhaps how many connections there are to be.
+    Serve {
+        schema: &'a str,
+        site: SiteName,
+        listen: &'a str,
+        state: Option<&'a str>,
+        connections: Option<u32>,
+    },
+    /// Take from the site at an address what the site of this name lacks: a schema's file, and a file with its state,
+    /// which is then written. The name is for the record alone: nothing is stamped.
+    Pull {
+        schema: &'a str,
+        site: SiteName,
+        from: &'a str,
+        state: &'a str,
+    },
+    /// Merge two states: the names of a schema's file and of theirs.
+    Merge {
+        schema: &'a str,
+        first: &'a str,
+        second: &'a str,
+    },
+    /// Play a script at so many sites, 1 to 64: the names of a schema's file and of the script.
+    Drill {
+        schema: &'a str,
+        sites: u16,
+        script: &'a str,
+    },
+}
+
+/// Returns the name of the command that was met, and its options.
+fn met<'m, 'a>(matches: &'m ArgMatches<'a>) -> Option<(&'a str, &'m ArgMatches<'a>)>
+    ensures { option_map (λ p. (p.0.now, rows_of (found_of p.1.now))) result ≡ subcommand_rows_of matches.now }
+{
+    matches.subcommand()
+}
+
+/// `check`, if it has both of its files.
+fn check_in<'a>(options: &ArgMatches<'a>) -> Option<Line<'a>>
+    ensures { MatchOption result (IsNone (IsLineOf (codes "check") (rows_of (found_of options.now))))
+        (IsLineOf (codes "check") (rows_of (found_of options.now))) }
+{
+    let Some(schema) = option_text(options, "schema") else {
+        return None;
+    };
+    let Some(policies) = option_text(options, "policies") else {
+        return None;
+    };
+    Some(Line::Check { schema, policies })
+}
+
+/// `decide`, if it has each of the files that it demands.
+fn decide_in<'a>(options: &ArgMatches<'a>) -> Option<Line<'a>>
+    ensures { MatchOption result (IsNone (IsLineOf (codes "decide") (rows_of (found_of options.now))))
+        (IsLineOf (codes "decide") (rows_of (found_of options.now))) }
+{
+    let schema = option_text(options, "schema");
+    let Some(policies) = option_text(options, "policies") else {
+        return None;
+    };
+    let Some(entities) = option_text(options, "entities") else {
+        return None;
+    };
+    let Some(request) = option_text(options, "request") else {
+        return None;
+    };
+    Some(Line::Decide {
+        schema,
+        policies,
+        entities,
+        request,
+    })
+}
+
+/// `load`, if it has what it demands, a site's name among it.
+fn load_in<'a>(options: &ArgMatches<'a>) -> Option<Line<'a>>
+    ensures { MatchOption result (IsNone (IsLineOf (codes "load") (rows_of (found_of options.now))))
+        (IsLineOf (codes "load") (rows_of (found_of options.now))) }
+{
+    let Some(schema) = option_text(options, "schema") else {
+        return None;
+    };
+    let Some(site) = site_in(options) else {
+        return None;
+    };
+    let policies = option_text(options, "policies");
+    let entities = option_text(options, "entities");
+    let state = option_text(options, "state");
+    Some(Line::Load {
+        schema,
+        site,
+        policies,
+        entities,
+        state,
+    })
+}
+
+/// `serve`, if it has each of the options that it demands, a site's name among them, and its number lies in its bounds.
+fn serve_in<'a>(options: &ArgMatches<'a>) -> Option<Line<'a>>
+    ensures { MatchOption result (IsNone (IsLineOf (codes "serve") (rows_of (found_of options.now))))
+        (IsLineOf (codes "serve") (rows_of (found_of options.now))) }
+{
+    let Some(schema) = option_text(options, "schema") else {
+        return None;
+    };
+    let Some(site) = site_in(options) else {
+        return None;
+    };
+    let Some(listen) = option_text(options, "listen") else {
+        return None;
+    };
+    let Some(connections) = connections_in(options) else {
+        return None;
+    };
+    let state = option_text(options, "state");
+    Some(Line::Serve {
+        schema,
+        site,
+        listen,
+        state,
+        connections,
+    })
+}
+
+/// `pull`, if it has each of its options, a site's name among them.
+fn pull_in<'a>(options: &ArgMatches<'a>) -> Option<Line<'a>>
+    ensures { MatchOption result (IsNone (IsLineOf (codes "pull") (rows_of (found_of options.now))))
+        (IsLineOf (codes "pull") (rows_of (found_of options.now))) }
+{
+    let Some(schema) = option_text(options, "schema") else {
+        return None;
+    };
+    let Some(site) = site_in(options) else {
+        return None;
+    };
+    let Some(from) = option_text(options, "from") else {
+        return None;
+    };
+    let Some(state) = option_text(options, "state") else {
+        return None;
+    };
+    Some(Line::Pull {
+        schema,
+        site,
+        from,
+        state,
+    })
+}
+
+/// `merge`, if it has each of its files.
+fn merge_in<'a>(options: &ArgMatches<'a>) -> Option<Line<'a>>
+    ensures { MatchOption result (IsNone (IsLineOf (codes "merge") (rows_of (found_of options.now))))
+        (IsLineOf (codes "merge") (rows_of (found_of options.now))) }
+{
+    let Some(schema) = option_text(options, "schema") else {
+        return None;
+    };
+    let Some(first) = option_text(options, "first") else {
+        return None;
+    };
+    let Some(second) = option_text(options, "second") else {
+        return None;
+    };
+    Some(Line::Merge {
+        schema,
+        first,
+        second,
+    })
+}
+
+/// `drill`, if it has both of its files, and its number of sites lies in its bounds.
+fn drill_in<'a>(options: &ArgMatches<'a>) -> Option<Line<'a>>
+    ensures { MatchOption result (IsNone (IsLineOf (codes "drill") (rows_of (found_of options.now))))
+        (IsLineOf (codes "drill") (rows_of (found_of options.now))) }
+{
+    let Some(schema) = option_text(options, "schema") else {
+        return None;
+    };
+    let Some(sites) = sites_in(options) else {
+        return None;
+    };
+    let Some(script) = option_text(options, "script") else {
+        return None;
+    };
+    Some(Line::Drill {
+        schema,
+        sites,
+        script,
+    })
+}
+
+/// Returns the command of this name, if it has all of its options.
+fn named_line<'a>(name: &str, options: &ArgMatches<'a>) -> Option<Line<'a>>
+    ensures { MatchOption result (IsNone (IsLineOf name.now (rows_of (found_of options.now))))
+        (IsLineOf name.now (rows_of (found_of options.now))) }
+{
+    if name == "check" {
+        return check_in(options);
+    }
+    if name == "decide" {
+        return decide_in(options);
+    }
+    if name == "load" {
+        return load_in(options);
+    }
+    if name == "serve" {
+        return serve_in(options);
+    }
+    if name == "pull" {
+        return pull_in(options);
+    }
+    if name == "merge" {
+        return merge_in(options);
+    }
+    if name == "drill" {
+        return drill_in(options);
+    }
+    None
+}
+
+/// Returns the command that was met, if it has all of its options.
+fn line_in<'a>(matches: &ArgMatches<'a>) -> Option<Line<'a>>
+    ensures { MatchOption result (IsNoLine (subcommand_rows_of matches.now))
+        (λ line. IsNamed line (subcommand_rows_of matches.now)) }
+{
+    match met(matches) {
+        Some((name, options)) => named_line(name, options),
+        None => None,
+    }
+}
+
+/// Returns whether a command was met with a text for its site that is no site's name.
+fn is_of_no_site(matches: &ArgMatches<'_>) -> bool
+    ensures { IsTrue result ↔ IsOfNoSite (subcommand_rows_of matches.now) }
+{
+    match met(matches) {
+        Some((_name, options)) => has_no_site(options),
+        None => false,
+    }
+}
+
+/// Why a command that was met lacks some of what it demands.
+fn lack_of(matches: &ArgMatches<'_>) -> LineFault
+    ensures { IsLackOf (subcommand_rows_of matches.now) result }
+{
+    if is_of_no_site(matches) {
+        LineFault::Site
+    } else {
+        LineFault::Incomplete
+    }
+}
+
+/// Returns the command that the words give, the first of which is the program's own name.
+///
+/// It has every option that it demands, `--site` with a site's name (1 to 32 bytes, each an ASCII letter, a digit, `-`,
+/// `_` or `.`), taken as it stands, `--sites` from 1 to 64, and `--connections`, where it is given, from 0 to
+/// 4,294,967,295. Words that are no command answer why; that `--site` has another text is told after every other fault.
+pub fn line_of<'a>(alloc: Global, words: &'a [String]) -> Result<Line<'a>, LineFault>
+    ensures ok { IfOk result (Says (map string_bytes words.entry.now)) }
+    ensures sites { IfOk result HasSites }
+    ensures taken { OnOk result (fault_of site_app (map string_bytes words.entry.now) ≡ []) }
+    ensures err { IfErr result (IsFaultOf (map string_bytes words.entry.now)) }
+{
+    let matches = match command(alloc)?.try_get_matches_from(words) {
+        Ok(matches) => matches,
+        Err(error) => return Err(sorted(error)),
+    };
+    match line_in(&matches) {
+        Some(line) => Ok(line),
+        None => Err(lack_of(&matches)),
+    }
+}

@@ -1,0 +1,77 @@
+//! What was given for each option.
+ghost use Rattle.std.specs.Prelude.{◌≡◌, ◌↔◌, IsTrue, Some, None, MatchOption, option_map, codes};
+ghost use Rattle.clap.specs.Words.{first_of, found_of, rows_of};
+ghost use Rattle.program_lines.specs.Lines.{IsNumberIn, IsGivenNumber, MayBeGivenNumber, IsGivenSite, IsGivenNoSite};
+ghost use Rattle.program_lines.specs.inner.Lacking.{IsNone};
+
+use crate::app::{MOST_CONNECTIONS, MOST_SITES};
+use clap::ArgMatches;
+use stamped_store::{SiteName, is_site_name};
+
+/// Returns the text that an option was given.
+pub(crate) fn option_text<'a>(options: &ArgMatches<'a>, name: &str) -> Option<&'a str>
+    ensures { option_map (λ s. s.now) result ≡ first_of name.now (rows_of (found_of options.now)) }
+{
+    options.get_str(name)
+}
+
+/// Returns the number that a text is, if it lies in these bounds: decimal digits, perhaps behind a plus.
+fn number_in(text: &str, least: u64, most: u64) -> Option<u64>
+    ensures { MatchOption result (IsNone (IsNumberIn least most text.now)) (IsNumberIn least most text.now) }
+{
+    match text.parse::<u64>() {
+        Ok(number) if least <= number && number <= most => Some(number),
+        _ => None,
+    }
+}
+
+/// Returns the name of the site.
+pub(crate) fn site_in(options: &ArgMatches<'_>) -> Option<SiteName>
+    ensures { MatchOption result (IsNone (IsGivenSite (rows_of (found_of options.now))))
+        (IsGivenSite (rows_of (found_of options.now))) }
+{
+    let Some(text) = option_text(options, "site") else {
+        return None;
+    };
+    SiteName::parse(text)
+}
+
+/// Returns whether what was given for the site is no site's name.
+pub(crate) fn has_no_site(options: &ArgMatches<'_>) -> bool
+    ensures { IsTrue result ↔ IsGivenNoSite (rows_of (found_of options.now)) }
+{
+    let Some(text) = option_text(options, "site") else {
+        return false;
+    };
+    !is_site_name(text)
+}
+
+/// Returns how many connections are asked for, if any number was given; `None` where what was given is no such number.
+pub(crate) fn connections_in(options: &ArgMatches<'_>) -> Option<Option<u32>>
+    ensures { MatchOption result
+        (IsNone (MayBeGivenNumber (rows_of (found_of options.now)) (codes "connections") 0 4294967295))
+        (MayBeGivenNumber (rows_of (found_of options.now)) (codes "connections") 0 4294967295) }
+{
+    let Some(text) = option_text(options, "connections") else {
+        return Some(None);
+    };
+    match number_in(text, 0, MOST_CONNECTIONS) {
+        Some(number) => Some(Some(number as u32)),
+        None => None,
+    }
+}
+
+/// Returns how many sites there are to be; `None` where what was given is no such number.
+pub(crate) fn sites_in(options: &ArgMatches<'_>) -> Option<u16>
+    ensures { MatchOption result
+        (IsNone (IsGivenNumber (rows_of (found_of options.now)) (codes "sites") 1 64))
+        (IsGivenNumber (rows_of (found_of options.now)) (codes "sites") 1 64) }
+{
+    let Some(text) = option_text(options, "sites") else {
+        return None;
+    };
+    match number_in(text, 1, MOST_SITES) {
+        Some(number) => Some(number as u16),
+        None => None,
+    }
+}

@@ -1,2 +1,0 @@
-pub mod FetchLemmas
-pub mod ToldLemmas

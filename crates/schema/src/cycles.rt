@@ -1,0 +1,35 @@
+//! That no action is above itself.
+ghost use Rattle.std.specs.Prelude.{◌≡◌, ◌≢◌, ◌↔◌, IfOk, IsTrue, MatchResult};
+ghost use Rattle.ancestor_search.specs.contracts.searched.SearchedAncestry.TheImpl as searched;
+ghost use Rattle.schema_types.specs.declared.fault.SchemaFault.TheVariants as SchemaFault;
+ghost use Rattle.schema.specs.Cycles.{HasCycle};
+
+use ancestor_search::{Ancestry, Searched};
+use plain::NoMemory;
+use schema_types::SchemaFault;
+
+/// Returns whether something is above itself.
+fn has_cycle(edges: &Searched) -> Result<bool, NoMemory>
+    ensures { IfOk result (λ yes. IsTrue yes ↔ HasCycle (searched.parents-value.it edges.now)) }
+{
+    let found = edges.cyclic()?;
+    match found.first() {
+        Some(_) => Ok(true),
+        None => Ok(false),
+    }
+}
+
+/// Refuses a hierarchy in which something is above itself.
+///
+/// Refused with `ActionCycle` exactly there, and else only for want of memory.
+pub fn demand_no_cycle(edges: &Searched) -> Result<(), SchemaFault>
+    ensures { MatchResult result (λ u. HasCycle (searched.parents-value.it edges.now) → ⊥)
+        (λ f. f ≢ SchemaFault.NoMemory
+        → (f ≡ SchemaFault.ActionCycle) × HasCycle (searched.parents-value.it edges.now)) }
+{
+    if has_cycle(edges)? {
+        Err(SchemaFault::ActionCycle)
+    } else {
+        Ok(())
+    }
+}

@@ -1,0 +1,48 @@
+//! Places and environments.
+ghost use Rattle.std.specs.Prelude.{◌≡◌, IfOk, map};
+ghost use Rattle.std.specs.BTreeMap.{IsOrdered};
+ghost use Rattle.schema.specs.Places.{place_cmp, place_of, environment_of};
+
+use crate::parts::{Environment, Place};
+use plain::{Items, NoMemory, Shared};
+use schema_types::CedarType;
+use std::alloc::Global;
+use std::collections::BTreeMap;
+use values::{EntityUid, TypeName};
+
+/// Returns the place of an action, a type of principals and a type of resources.
+///
+/// Refused only for want of memory.
+pub fn make_place(
+    action: &EntityUid,
+    principal: &TypeName,
+    resource: &TypeName,
+) -> Result<Place, NoMemory>
+    ensures { IfOk result (λ p. p ≡ place_of action.now principal.now resource.now) }
+{
+    let action = action.copy()?;
+    let principal = principal.copy()?;
+    let resource = resource.copy()?;
+    Ok(Place {
+        action,
+        principal,
+        resource,
+    })
+}
+
+/// Returns the entries of a map as environments, in order, each once.
+///
+/// Refused only for want of memory.
+pub fn listed(
+    alloc: Global,
+    places: BTreeMap<Place, Shared<CedarType>>,
+) -> Result<Items<Environment>, NoMemory>
+    ensures items { IfOk result (λ es. es ≡ map environment_of places.entries) }
+    ensures ordered { IsOrdered place_cmp places }
+{
+    let mut environments = Items::new(alloc);
+    for (place, context) in places {
+        environments.push(Environment { place, context })?;
+    }
+    Ok(environments)
+}

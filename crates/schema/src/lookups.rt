@@ -1,0 +1,96 @@
+//! What is found in the parts of a schema. No look-up takes memory. Each takes logarithmic time; that of a type or an
+//! action above another also the logarithm of the spans of numbers above it, which are few where they form layers.
+ghost use Rattle.std.specs.Prelude.{◌≡◌, option_map};
+ghost use Rattle.std.specs.List.{slice_get};
+ghost use Rattle.std.specs.BTreeMap.{get};
+ghost use Rattle.values.specs.Names.{text_cmp, uid_cmp};
+ghost use Rattle.schema.specs.LookUps.{parents_at, has_number_at, is_numbered_at, is_above, is_action_above};
+
+use crate::spans::{Span, has_number};
+use plain::Items;
+use std::collections::BTreeMap;
+use values::{EntityUid, TypeName};
+
+/// Returns the parents of an action; None where it is none.
+pub fn parents_at<'a>(
+    parents: &'a BTreeMap<EntityUid, Items<EntityUid>>,
+    uid: &EntityUid,
+) -> Option<&'a [EntityUid]>
+    ensures { option_map (λ us. us.now) result ≡ parents_at parents.now.entries uid.now }
+{
+    match parents.get(uid) {
+        Some(found) => Some(found.as_slice()),
+        None => None,
+    }
+}
+
+/// Returns whether the spans that stand at a place have a number.
+fn has_number_at(spans: &[Items<Span>], place: usize, number: usize) -> bool
+    ensures { result ≡ has_number_at (slice_get spans.now place) number }
+{
+    match spans.get(place) {
+        Some(found) => has_number(found.as_slice(), number),
+        None => false,
+    }
+}
+
+/// Returns whether a type has a number, which is among those at a place.
+fn is_numbered_at(
+    numbers: &BTreeMap<TypeName, usize>,
+    spans: &[Items<Span>],
+    place: usize,
+    name: &TypeName,
+) -> bool
+    ensures { result ≡ is_numbered_at spans.now place (get text_cmp numbers.now name.now) }
+{
+    match numbers.get(name) {
+        Some(number) => has_number_at(spans, place, *number),
+        None => false,
+    }
+}
+
+/// Returns whether the parent is one of the types above the child: at the number of each type stand those of the types
+/// above it.
+pub fn may_have_parent(
+    numbers: &BTreeMap<TypeName, usize>,
+    spans: &[Items<Span>],
+    child: &TypeName,
+    parent: &TypeName,
+) -> bool
+    ensures { result ≡ is_above numbers.now.entries spans.now child.now parent.now }
+{
+    match numbers.get(child) {
+        Some(place) => is_numbered_at(numbers, spans, *place, parent),
+        None => false,
+    }
+}
+
+/// Returns whether an action has a number, which is among those at a place.
+fn is_action_numbered_at(
+    numbers: &BTreeMap<EntityUid, usize>,
+    spans: &[Items<Span>],
+    place: usize,
+    uid: &EntityUid,
+) -> bool
+    ensures { result ≡ is_numbered_at spans.now place (get uid_cmp numbers.now uid.now) }
+{
+    match numbers.get(uid) {
+        Some(number) => has_number_at(spans, place, *number),
+        None => false,
+    }
+}
+
+/// Returns whether an action is above another: at the number of each action stand those of the actions above it.
+pub fn is_action_above(
+    numbers: &BTreeMap<EntityUid, usize>,
+    spans: &[Items<Span>],
+    action: &EntityUid,
+    above: &EntityUid,
+) -> bool
+    ensures { result ≡ is_action_above numbers.now.entries spans.now action.now above.now }
+{
+    match numbers.get(action) {
+        Some(place) => is_action_numbered_at(numbers, spans, *place, above),
+        None => false,
+    }
+}

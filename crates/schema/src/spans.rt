@@ -1,0 +1,83 @@
+//! Spans of numbers, and the sets that lists of them stand for.
+ghost use Rattle.std.specs.Prelude.{◌≡◌, ◌||◌, ℕ, IfOk, OnOk, MatchOption, ⊤};
+ghost use Rattle.schema.specs.Spans.{in_span, has_number};
+
+use plain::{Items, NoMemory};
+use std::alloc::Global;
+
+/// The numbers from one to another, both of them; none where the last is less than the first.
+#[derive(Clone, Copy, PartialEq, Eq, PartialOrd, Ord)]
+pub struct Span {
+    pub first: usize,
+    pub last: usize,
+}
+
+/// Returns whether a number is in a span.
+fn is_in(span: &Span, number: usize) -> bool
+    ensures { result ≡ in_span number span.now }
+{
+    span.first <= number && number <= span.last
+}
+
+/// Returns whether a number is in one of the spans. Takes no memory.
+pub fn has_number(spans: &[Span], number: usize) -> bool
+    ensures { result ≡ has_number spans.now number }
+{
+    for span in spans {
+        if is_in(span, number) {
+            return true;
+        }
+    }
+    false
+}
+
+/// Returns the span of the numbers of two, where the second begins in the first or right behind it.
+fn over(span: Span, next: Span) -> Option<Span>
+    ensures { MatchOption result ⊤ (λ whole. (n : ℕ) → in_span n whole ≡ (in_span n span || in_span n next)) }
+{
+    if span.first > next.first || next.first > next.last {
+        return None;
+    }
+    if next.first > span.last && next.first - span.last > 1 {
+        return None;
+    }
+    Some(Span {
+        first: span.first,
+        last: span.last.max(next.last),
+    })
+}
+
+/// Puts a span behind others, the last of which goes on with it where they touch.
+fn append(spans: &mut Vec<Span>, next: Span) -> Result<(), NoMemory>
+    ensures { OnOk result ((n : ℕ) → has_number spans.new.items n
+        ≡ (has_number spans.old.items n || in_span n next)) }
+{
+    let Some(span) = spans.pop() else {
+        spans.push(next)?;
+        return Ok(());
+    };
+    match over(span, next) {
+        Some(whole) => spans.push(whole)?,
+        None => {
+            spans.push(span)?;
+            spans.push(next)?;
+        }
+    }
+    Ok(())
+}
+
+/// Returns spans of the same numbers, joined where they touch, so that few are left. Only the numbers are promised,
+/// neither how many spans there are nor their order.
+///
+/// Refused only for want of memory.
+pub fn joined(alloc: Global, spans: Vec<Span>) -> Result<Items<Span>, NoMemory>
+    ensures { IfOk result (λ found. (n : ℕ) → has_number found n ≡ has_number spans.items n) }
+{
+    let mut spans = spans;
+    spans.sort_unstable();
+    let mut found = Vec::new(alloc);
+    for span in &spans {
+        append(&mut found, *span)?;
+    }
+    Ok(Items::from_vec(found))
+}

@@ -1,0 +1,94 @@
+//! The texts of a schema and of policies, checked.
+ghost use Rattle.std.specs.Prelude.{◌≡◌, ◌||◌, IfOk, IfErr};
+ghost use Rattle.validator.specs.schema.Views.{schema_view};
+ghost use Rattle.decision_texts.specs.Refusals.{no_memory};
+ghost use Rattle.decision_texts.specs.Decisions.{ArePoliciesRefused};
+ghost use Rattle.validator.specs.Outcomes.{IsCheckResult};
+ghost use Rattle.schema_decisions.specs.Lines.{is_refusal};
+ghost use Rattle.schema_decisions.specs.Checks.{AreReportsOf, AreReportsOnFile, IsChecked, AreChecksRefused};
+ghost use Rattle.schema_decisions.specs.inner.Named.{named_in, outcome_of};
+
+use crate::lines::{add_line, verdict_line};
+use crate::reading::schema_in;
+use decision_texts::{Policy, Refusal, policies_in};
+use plain::NoMemory;
+use std::alloc::Global;
+use validator::{Schema, TypeFault, Verdict, check};
+
+/// Returns what a policy comes to.
+fn verdict_of(
+    alloc: Global,
+    schema: &Schema,
+    policy: &Policy,
+) -> Result<Result<Verdict, TypeFault>, NoMemory>
+    ensures { IfOk result (λ verdict. IsCheckResult (schema_view schema.now) policy.now (outcome_of verdict)) }
+{
+    match check(alloc, schema, policy) {
+        Ok(verdict) => Ok(Ok(verdict)),
+        Err(TypeFault::NoMemory) => Err(NoMemory),
+        Err(fault) => Ok(Err(fault)),
+    }
+}
+
+/// Returns whether a policy is refused.
+fn refuses(verdict: Result<Verdict, TypeFault>) -> bool
+    ensures { result ≡ is_refusal (outcome_of verdict) }
+{
+    match verdict {
+        Ok(_) => false,
+        Err(_) => true,
+    }
+}
+
+fn either(first: bool, second: bool) -> bool
+    ensures { result ≡ (first || second) }
+{
+    first || second
+}
+
+/// Returns the lines of the policies, in their order, and whether one of them is refused.
+fn check_each(
+    alloc: Global,
+    schema: &Schema,
+    policies: &[(String, Policy)],
+) -> Result<(Vec<u8>, bool), NoMemory>
+    ensures { IfOk result (λ told. AreReportsOf (schema_view schema.now) (named_in policies.now) told.0.items told.1) }
+{
+    let mut text = Vec::new(alloc);
+    let mut some_refused = false;
+    for (place, named) in policies.iter().enumerate() {
+        let verdict = verdict_of(alloc, schema, &named.1)?;
+        let line = verdict_line(alloc, named.0.as_str(), verdict)?;
+        add_line(&mut text, place == 0, &line)?;
+        some_refused = either(some_refused, refuses(verdict));
+    }
+    Ok((text, some_refused))
+}
+
+/// Returns the lines of a file's policies under a schema, and whether one of them is refused.
+fn check_file(alloc: Global, schema: &Schema, policies: &[u8]) -> Result<(Vec<u8>, bool), Refusal>
+    ensures told { IfOk result (λ told. AreReportsOnFile (schema_view schema.now) policies.now told.0.items told.1) }
+    ensures refused { IfErr result (λ r. (r ≡ no_memory → ⊥) → ArePoliciesRefused policies.now r) }
+{
+    let policies = policies_in(alloc, policies)?;
+    Ok(check_each(alloc, schema, &policies)?)
+}
+
+/// Returns what the policies of a file come to under a schema: a line for each, in the file's order, with a line end
+/// between each two, and whether one of them is refused.
+///
+/// A line is `{"id":"policy0","verdict":"accepted"}`, the same with `"impossible"` where no request that conforms to
+/// the schema satisfies the policy, or `{"code":44,"id":"policy0","verdict":"refused"}`. Refused, in this order: the
+/// schema (20 to 25, without a place), the policies' text (10 to 19, at a byte). `NoMemory` (1) may come at any point.
+pub fn check_texts(
+    alloc: Global,
+    schema: &[u8],
+    policies: &[u8],
+) -> Result<(Vec<u8>, bool), Refusal>
+    ensures checked { IfOk result (λ told. IsChecked schema.now policies.now told.0.items told.1) }
+    ensures refused { IfErr result
+        (λ refusal. (refusal ≡ no_memory → ⊥) → AreChecksRefused schema.now policies.now refusal) }
+{
+    let schema = schema_in(alloc, schema)?;
+    check_file(alloc, &schema, policies)
+}

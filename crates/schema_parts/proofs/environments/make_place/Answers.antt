@@ -1,5 +1,0 @@
-use Rattle.std.proofs.Common.{rules}
-use Rattle.schema_parts.proofs.environments.make_place.Goals as goal
-
-pub returns : goal.returns
-returns c = search rules

@@ -1,0 +1,4 @@
+pub mod Orders
+pub mod inner
+pub mod Knowledge
+pub mod TableViews

@@ -1,0 +1,4 @@
+pub mod Ordering
+pub mod Order
+pub mod Rounds
+pub mod Table

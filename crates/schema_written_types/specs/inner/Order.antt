@@ -1,0 +1,40 @@
+-- In which order common types are written out.
+use Rattle.std.specs.Prelude.{ℕ, ◌+◌, List, [], ◌∷◌, ◌++◌, map, Option, Some, None, if◌then◌else◌}
+use Rattle.std.specs.Str.{bytes_eq}
+use Rattle.schema_types.specs.Qualified as qualified
+use Rattle.schema_types.specs.Qualified.{Qualified, QualifiedFields}
+use Rattle.schema_types.specs.WrittenOut.{Declarations}
+use Rattle.schema_written_types.specs.Orders.{Graph}
+
+abbrev pub listed : Option ℕ → List ℕ
+listed None = []
+listed (Some a) = a ∷ []
+
+-- the places of the common types that a type names
+unfoldable mutual
+  pub places_named : (List ℕ → Option ℕ) → Qualified → List ℕ
+  places_named place qualified.text = []
+  places_named place qualified.long = []
+  places_named place qualified.boolean = []
+  places_named place qualified.decimal = []
+  places_named place qualified.ipaddr = []
+  places_named place (qualified.set r) = places_named place r
+  places_named place (qualified.record_of rs) = fields_name place rs
+  places_named place (qualified.entity n) = []
+  places_named place (qualified.common q) = listed (place q)
+
+  pub fields_name : (List ℕ → Option ℕ) → QualifiedFields → List ℕ
+  fields_name place qualified.no_fields = []
+  fields_name place (qualified.field k r required rs) = places_named place r ++ fields_name place rs
+
+-- the last place that declares a name, where ds stand from the place i on
+abbrev pub place_from : ℕ → Declarations → List ℕ → Option ℕ → Option ℕ
+place_from i [] q found = found
+place_from i (d ∷ ds) q found = place_from (i + 1) ds q (if bytes_eq d.0 q then Some i else found)
+
+abbrev pub place_of : Declarations → List ℕ → Option ℕ
+place_of commons q = place_from 0 commons q None
+
+-- to the place of each common type those of the common types that it names
+abbrev pub uses : Declarations → Graph
+uses commons = map (λ d. places_named (place_of commons) d.1) commons

@@ -1,0 +1,120 @@
+//! An order of the places of a graph in which each stands behind those that it leads to.
+ghost use Rattle.std.specs.Prelude.{◌≡◌, ◌∷◌, ◌<◌, [], true, false, length, replicate, slice_set, IfOk, OnOk};
+ghost use Rattle.schema_written_types.specs.Orders.{graph_of, ends_of as ends_at, IsEndsFirst};
+ghost use Rattle.schema_written_types.specs.inner.Ordering.{is_new, entered, IsWalk, WalksOn, KeepsSeen, one_if_seen};
+
+use plain::NoMemory;
+use std::alloc::Global;
+use std::collections::VecDeque;
+
+/// A place on the way, and how many of its edges were followed.
+#[derive(Clone, Copy)]
+pub(crate) struct Step {
+    place: usize,
+    followed: usize,
+}
+
+/// Returns the places to which the edges of a place lead; none past the end.
+fn ends_of(edges: &[Vec<usize>], place: usize) -> &[usize]
+    ensures { result.now ≡ ends_at (graph_of edges.now) place }
+{
+    if place < edges.len() {
+        &edges[place]
+    } else {
+        &[]
+    }
+}
+
+/// Returns whether a place was not seen before, which is seen from now on; nothing past the end.
+fn mark(seen: &mut Vec<bool>, place: usize) -> bool
+    ensures new { result ≡ is_new seen.old.items place }
+    ensures marks { seen.new.items ≡ slice_set seen.old.items place true }
+{
+    if place >= seen.len() {
+        return false;
+    }
+    let was_seen = seen[place];
+    seen[place] = true;
+    !was_seen
+}
+
+/// Goes on to a place that was not seen before.
+fn enter(place: usize, path: &mut VecDeque<Step>, seen: &mut Vec<bool>) -> Result<(), NoMemory>
+    ensures path { OnOk result (path.new.items ≡ entered seen.old.items place path.old.items) }
+    ensures seen { OnOk result (seen.new.items ≡ slice_set seen.old.items place true) }
+{
+    if mark(seen, place) {
+        path.push_front(Step { place, followed: 0 })?;
+    }
+    Ok(())
+}
+
+/// Follows the next edge of a place that was last on the path, or lists the place where none is left.
+fn go_on(
+    edges: &[Vec<usize>],
+    step: Step,
+    path: &mut VecDeque<Step>,
+    seen: &mut Vec<bool>,
+    order: &mut Vec<usize>,
+) -> Result<(), NoMemory>
+    ensures { OnOk result (WalksOn (graph_of edges.now) (step ∷ path.old.items) path.new.items
+        seen.old.items seen.new.items order.old.items order.new.items) }
+{
+    let ends = ends_of(edges, step.place);
+    if step.followed >= ends.len() {
+        order.push(step.place)?;
+        return Ok(());
+    }
+    let next = ends[step.followed];
+    let followed = step.followed + 1;
+    path.push_front(Step {
+        place: step.place,
+        followed,
+    })?;
+    enter(next, path, seen)?;
+    Ok(())
+}
+
+/// Lists what can be reached from a place and was not seen before, depth first.
+fn add_from(
+    alloc: Global,
+    edges: &[Vec<usize>],
+    root: usize,
+    seen: &mut Vec<bool>,
+    order: &mut Vec<usize>,
+) -> Result<(), NoMemory>
+    requires inside { root < length edges.now }
+    requires walks { IsWalk (graph_of edges.now) [] seen.old.items order.old.items }
+    ensures walks { OnOk result (IsWalk (graph_of edges.now) [] seen.new.items order.new.items) }
+    ensures keeps { OnOk result (KeepsSeen seen.old.items seen.new.items) }
+    ensures reached { OnOk result (one_if_seen seen.new.items root ≡ 1) }
+{
+    let mut path = VecDeque::new(alloc);
+    enter(root, &mut path, seen)?;
+    while let Some(step) = path.pop_front() {
+        go_on(edges, step, &mut path, seen, order)?;
+    }
+    Ok(())
+}
+
+/// As many places as there are, none of them seen.
+fn none_seen(alloc: Global, places: usize) -> Result<Vec<bool>, NoMemory>
+    ensures { IfOk result (λ seen. seen.items ≡ replicate places false) }
+{
+    Ok(vec![in alloc; false; places]?)
+}
+
+/// Returns the places of a graph, each once, and behind those that its edges lead to, but for those that lead back to
+/// it.
+///
+/// An edge past the end leads nowhere. Takes time as there are places and edges. Fails for memory alone.
+pub fn ends_first(alloc: Global, edges: &[Vec<usize>]) -> Result<Vec<usize>, NoMemory>
+    ensures { IfOk result (λ order. IsEndsFirst (graph_of edges.now) order.items) }
+{
+    let mut seen = none_seen(alloc, edges.len())?;
+    let mut order = Vec::new(alloc);
+    for root in 0..edges.len() {
+        add_from(alloc, edges, root, &mut seen, &mut order)?;
+    }
+    Ok(order)
+}

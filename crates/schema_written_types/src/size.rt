@@ -1,0 +1,97 @@
+//! How large a type is when it is written out.
+ghost use Rattle.std.specs.Prelude.{◌≡◌, option_map};
+ghost use Rattle.schema_written_types.specs.inner.Table.{leaf_size, no_size as none_of, above as above_of};
+ghost use Rattle.schema_written_types.specs.inner.Table.{beside as beside_of};
+ghost use Rattle.schema_written_types.specs.inner.Table.{fits, size_in, sizes_in};
+ghost use Rattle.schema_written_types.specs.TableViews.{size_view, knowledge};
+ghost use Rattle.schema_types.specs.QualifiedViews.{qualified_view, qualified_fields_view};
+
+use crate::{Size, Table};
+use schema_types::QualifiedType;
+
+/// Returns whether a type of this size is not too large.
+pub(crate) fn is_within(size: Size) -> bool
+    ensures { result ≡ fits (size_view size) }
+{
+    size.parts <= 10000 && size.deep <= 64
+}
+
+fn leaf() -> Size
+    ensures { size_view result ≡ leaf_size }
+{
+    Size { parts: 1, deep: 1 }
+}
+
+fn nothing() -> Size
+    ensures { size_view result ≡ none_of }
+{
+    Size { parts: 0, deep: 0 }
+}
+
+fn above(size: Size) -> Size
+    ensures { size_view result ≡ above_of (size_view size) }
+{
+    Size {
+        parts: size.parts.saturating_add(1).min(10001),
+        deep: size.deep.saturating_add(1).min(65),
+    }
+}
+
+fn beside(size: Size, other: Size) -> Size
+    ensures { size_view result ≡ beside_of (size_view size) (size_view other) }
+{
+    Size {
+        parts: size.parts.saturating_add(other.parts).min(10001),
+        deep: size.deep.max(other.deep),
+    }
+}
+
+fn known_size(name: &str, table: &Table) -> Option<Size>
+    ensures { option_map size_view result ≡ option_map (λ k. k.size) (knowledge table.now name.now) }
+{
+    match table.get(name) {
+        Some(known) => Some(known.size),
+        None => None,
+    }
+}
+
+/// Returns the size of a type, where each common type in it is known.
+#[cycle(size_of)]
+#[tactic(auto, unfolding(crate::specs::inner::Table::size_in))]
+pub(crate) fn size_of(ty: &QualifiedType, table: &Table) -> Option<Size>
+    ensures { option_map size_view result ≡ size_in (knowledge table.now) (qualified_view ty.now) }
+{
+    match ty {
+        QualifiedType::Text
+        | QualifiedType::Long
+        | QualifiedType::Boolean
+        | QualifiedType::Decimal
+        | QualifiedType::Ipaddr
+        | QualifiedType::Entity(_) => Some(leaf()),
+        QualifiedType::Set(element) => match size_of(element, table) {
+            Some(size) => Some(above(size)),
+            None => None,
+        },
+        QualifiedType::Record(fields) => match size_of_fields(fields, table) {
+            Some(size) => Some(above(size)),
+            None => None,
+        },
+        QualifiedType::Common(name) => known_size(name.as_str(), table),
+    }
+}
+
+#[cycle(size_of)]
+#[tactic(auto, unfolding(crate::specs::inner::Table::size_in))]
+fn size_of_fields(fields: &Vec<(String, QualifiedType, bool)>, table: &Table) -> Option<Size>
+    ensures { option_map size_view result
+        ≡ sizes_in (knowledge table.now) none_of (qualified_fields_view fields.now.items) }
+{
+    let mut total = nothing();
+    for field in fields {
+        match size_of(&field.1, table) {
+            Some(size) => total = beside(total, size),
+            None => return None,
+        }
+    }
+    Some(total)
+}

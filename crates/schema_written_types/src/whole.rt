@@ -1,0 +1,42 @@
+//! Types written out in full.
+ghost use Rattle.std.specs.Prelude.{◌≢◌, MatchResult};
+ghost use Rattle.schema_types.specs.QualifiedViews.{qualified_view};
+ghost use Rattle.schema_types.specs.CedarViews.{cedar_view};
+ghost use Rattle.schema_types.specs.WrittenOut.{Declarations};
+ghost use Rattle.schema_written_types.specs.Knowledge.{AreWritten};
+ghost use Rattle.schema_written_types.specs.TableViews.{knowledge};
+ghost use Rattle.schema_types.specs.Outcome.{IsWhole, TypeRefused};
+ghost use Rattle.schema_types.specs.Mentions.{IsClosed};
+ghost use Rattle.schema_types.specs.declared.fault.SchemaFault.TheVariants as SchemaFault;
+
+use crate::Table;
+use crate::size::{is_within, size_of};
+use crate::write::write;
+use schema_types::{CedarType, QualifiedType, SchemaFault};
+use std::alloc::Global;
+
+/// Returns a type whose common types are all declared, written out in full.
+///
+/// Refused where it is too large.
+pub fn write_whole(
+    alloc: Global,
+    ty: &QualifiedType,
+    table: &Table,
+) -> Result<CedarType, SchemaFault>
+    ghost commons: { Declarations }
+    requires table { AreWritten commons (knowledge table.now) }
+    requires closed { IsClosed commons (qualified_view ty.now) }
+    ensures { MatchResult result (λ t. IsWhole commons (qualified_view ty.now) (cedar_view t))
+        (λ f. f ≢ SchemaFault.NoMemory → TypeRefused commons (qualified_view ty.now) f) }
+{
+    let Some(size) = size_of(ty, table) else {
+        return Err(SchemaFault::TypeTooLarge);
+    };
+    if !is_within(size) {
+        return Err(SchemaFault::TypeTooLarge);
+    }
+    match write(alloc, ty, table)? {
+        Some(whole) => Ok(whole),
+        None => Err(SchemaFault::TypeTooLarge),
+    }
+}

@@ -1,0 +1,177 @@
+//! One event of a world.
+ghost use Rattle.site_steps.specs.schema.Schemas.{StatedSchema};
+ghost use Rattle.site.specs.Sites.{SiteName, start};
+ghost use Rattle.std.specs.Prelude.{◌≡◌, List, ◌++◌, IfOk, OnOk, length, option_map};
+ghost use Rattle.site_steps.specs.Seen.{schema_of, store_in, IsSameSite};
+ghost use Rattle.site_steps.specs.Inputs.{input_of};
+ghost use Rattle.site.specs.Worlds.{HasTexts, answer_among, message_bytes, summary_bytes as bytes_of_summary};
+ghost use Rattle.site.specs.Played.{IsPlayed, IsShown};
+ghost use Rattle.site.specs.inner.Playing.{input_among, AnswersDeed, Plays};
+
+use crate::event::{Deed, Event, EventReply};
+use plain::{Items, NoMemory};
+use site_steps::{Input, Reply, Scratch, Site, answer};
+use std::alloc::Global;
+
+/// Whoever holds a deed knows by this that its texts are UTF-8. Does nothing.
+pub(crate) fn has_texts(deed: &Deed)
+    ensures { HasTexts deed.now }
+{
+    if let Deed::PutPolicy(id, text) = deed {
+        let _ = id.as_str();
+        let _ = text.as_str();
+    }
+}
+
+/// Returns the input that a deed hands to its site, with the messages and summaries that were made; None if it names
+/// one that was not made yet.
+fn input_by<'a>(
+    deed: &'a Deed,
+    messages: &'a [Items<u8>],
+    summaries: &'a [Items<u8>],
+) -> Option<Input<'a>>
+    ensures { option_map input_of result ≡ input_among messages.now summaries.now deed.now }
+{
+    match deed {
+        Deed::PutPolicy(id, text) => Some(Input::PutPolicy(id.as_str(), text.as_str())),
+        Deed::DeletePolicy(id) => Some(Input::DeletePolicy(id.as_str())),
+        Deed::PutEntity(bytes) => Some(Input::PutEntity(bytes.as_slice())),
+        Deed::DeleteEntity(uid) => Some(Input::DeleteEntity(uid)),
+        Deed::Authorize(bytes) => Some(Input::Authorize(bytes.as_slice())),
+        Deed::Summary => Some(Input::Summary),
+        Deed::Offer => Some(Input::State),
+        Deed::OfferDelta(number) => match summaries.get(*number) {
+            Some(bytes) => Some(Input::Delta(bytes.as_slice())),
+            None => None,
+        },
+        Deed::Deliver(number) => match messages.get(*number) {
+            Some(bytes) => Some(Input::Take(bytes.as_slice())),
+            None => None,
+        },
+    }
+}
+
+/// Returns what a site replies to a deed; None where the message or summary that it names was not made yet.
+pub(crate) fn step(
+    alloc: Global,
+    scratch: &mut Scratch,
+    site: &mut Site,
+    deed: &Deed,
+    messages: &[Items<u8>],
+    summaries: &[Items<u8>],
+) -> Option<Reply>
+    ensures step { AnswersDeed (schema_of site.old) site.old.name (store_in site.old)
+        (input_among messages.now summaries.now deed.now) result (store_in site.new) }
+    ensures same { IsSameSite site.old site.new }
+{
+    match input_by(deed, messages, summaries) {
+        Some(input) => Some(answer(alloc, scratch, site, &input)),
+        None => None,
+    }
+}
+
+/// Keeps the message that was made, and numbers it.
+fn keep_message(messages: &mut Vec<Items<u8>>, reply: Reply) -> Result<EventReply, NoMemory>
+    ensures answer { IfOk result (λ a. a ≡ answer_among (length messages.old.items) 0 Deed.Offer reply) }
+    ensures kept { OnOk result (messages.new.items ≡ messages.old.items ++ message_bytes Deed.Offer reply) }
+{
+    let number = messages.len();
+    match reply {
+        Reply::Written(Ok(bytes)) => {
+            messages.push(bytes)?;
+            Ok(EventReply::Message(Ok(number)))
+        }
+        Reply::Written(Err(fault)) => Ok(EventReply::Message(Err(fault))),
+        other => Ok(EventReply::Replied(other)),
+    }
+}
+
+/// Keeps the summary that was made, and numbers it.
+fn keep_summary(summaries: &mut Vec<Items<u8>>, reply: Reply) -> Result<EventReply, NoMemory>
+    ensures answer { IfOk result (λ a. a ≡ answer_among 0 (length summaries.old.items) Deed.Summary reply) }
+    ensures kept { OnOk result (summaries.new.items ≡ summaries.old.items ++ bytes_of_summary Deed.Summary reply) }
+{
+    let number = summaries.len();
+    match reply {
+        Reply::Written(Ok(bytes)) => {
+            summaries.push(bytes)?;
+            Ok(EventReply::Summary(Ok(number)))
+        }
+        Reply::Written(Err(fault)) => Ok(EventReply::Summary(Err(fault))),
+        other => Ok(EventReply::Replied(other)),
+    }
+}
+
+/// Keeps what was made by a deed with this reply, and answers it.
+pub(crate) fn keep(
+    messages: &mut Vec<Items<u8>>,
+    summaries: &mut Vec<Items<u8>>,
+    deed: &Deed,
+    reply: Reply,
+) -> Result<EventReply, NoMemory>
+    ensures answer { IfOk result
+        (λ a. a ≡ answer_among (length messages.old.items) (length summaries.old.items) deed.now reply) }
+    ensures messages { OnOk result (messages.new.items ≡ messages.old.items ++ message_bytes deed.now reply) }
+    ensures summaries { OnOk result (summaries.new.items ≡ summaries.old.items ++ bytes_of_summary deed.now reply) }
+{
+    match deed {
+        Deed::Offer => keep_message(messages, reply),
+        Deed::OfferDelta(_) => keep_message(messages, reply),
+        Deed::Summary => keep_summary(summaries, reply),
+        _ => Ok(EventReply::Replied(reply)),
+    }
+}
+
+/// One event: nothing is done where it names a site, a message or a summary that is not there.
+fn play_one(
+    alloc: Global,
+    scratch: &mut Scratch,
+    sites: &mut Vec<Site>,
+    messages: &mut Vec<Items<u8>>,
+    summaries: &mut Vec<Items<u8>>,
+    event: &Event,
+) -> Result<EventReply, NoMemory>
+    ensures { IfOk result (λ a. Plays sites.old.items messages.old.items summaries.old.items event.now a sites.new.items
+        messages.new.items summaries.new.items) }
+{
+    has_texts(&event.deed);
+    if event.site == 0 {
+        return Ok(EventReply::Unknown);
+    }
+    if event.site > sites.len() {
+        return Ok(EventReply::Unknown);
+    }
+    let reply = step(
+        alloc,
+        scratch,
+        &mut sites[event.site - 1],
+        &event.deed,
+        messages.as_slice(),
+        summaries.as_slice(),
+    );
+    let Some(reply) = reply else {
+        return Ok(EventReply::Unknown);
+    };
+    let answer = keep(messages, summaries, &event.deed, reply)?;
+    Ok(answer)
+}
+
+/// Plays events one after another.
+pub(crate) fn play(
+    alloc: Global,
+    sites: &mut Vec<Site>,
+    messages: &mut Vec<Items<u8>>,
+    summaries: &mut Vec<Items<u8>>,
+    events: &[Event],
+) -> Result<Vec<EventReply>, NoMemory>
+    ensures { IfOk result (λ rs. (schema : StatedSchema) (names : List SiteName)
+        → IsShown schema names sites.old.items messages.old.items summaries.old.items (start names)
+        → IsPlayed schema names events.now rs.items sites.new.items messages.new.items summaries.new.items) }
+{
+    let mut replies = Vec::new(alloc);
+    let mut scratch = Scratch::new(alloc);
+    for event in events {
+        replies.push(play_one(alloc, &mut scratch, sites, messages, summaries, event)?)?;
+    }
+    Ok(replies)
+}

@@ -1,0 +1,87 @@
+//! A world, played from its events.
+ghost use Rattle.std.specs.Prelude.{◌≤◌, IfOk, List, []};
+ghost use Rattle.site_steps.specs.schema.Schemas.{StatedSchema};
+ghost use Rattle.site_steps.specs.schema.Views.{schema_view};
+ghost use Rattle.site_steps.specs.stamped_store.SiteNames.{five_digits};
+ghost use Rattle.site_steps.specs.stamped_store.Store.{store_of};
+ghost use Rattle.site.specs.Sites.{SiteName as Named, first_sites, start};
+ghost use Rattle.site.specs.Promises.{WorldKeepsPromises};
+ghost use Rattle.site.specs.Played.{IsSiteOf, AreSitesOf, IsPlayed};
+
+use crate::event::{Event, EventReply};
+use crate::laws::{first_sites_are_distinct, worlds_keep_promises};
+use crate::playing::play;
+use plain::{Items, NoMemory, Shared};
+use site_steps::{Schema, Site, SiteName};
+use std::alloc::Global;
+
+/// Sites that exchanged messages: the sites themselves, what was made, and what the events were answered.
+#[derive(Drop)]
+pub struct World {
+    /// In the order of their numbers.
+    pub sites: Vec<Site>,
+    /// The messages that were made so far, as bytes, numbered from 0.
+    pub messages: Vec<Items<u8>>,
+    /// And the summaries.
+    pub summaries: Vec<Items<u8>>,
+    /// To each event its answer.
+    pub replies: Vec<EventReply>,
+}
+
+/// Plays events at sites that have nothing stored yet, each of one schema and with its name.
+fn simulate_at(alloc: Global, mut sites: Vec<Site>, events: &[Event]) -> Result<World, NoMemory>
+    ensures { IfOk result (λ w. (schema : StatedSchema) (names : List Named)
+        → AreSitesOf schema names (start names).stores sites.items
+        → IsPlayed schema names events.now w.replies.items w.sites.items w.messages.items w.summaries.items) }
+{
+    let mut messages = Vec::new(alloc);
+    let mut summaries = Vec::new(alloc);
+    let replies = play(alloc, &mut sites, &mut messages, &mut summaries, events)?;
+    Ok(World {
+        sites,
+        messages,
+        summaries,
+        replies,
+    })
+}
+
+/// Returns a site with nothing stored, whose name is the five digits of its number.
+fn new_site(alloc: Global, schema: &Shared<Schema>, number: u16) -> Result<Site, NoMemory>
+    ensures { IfOk result (IsSiteOf (schema_view schema.now) (five_digits number) (store_of [])) }
+{
+    let name = SiteName::from_number(number);
+    Ok(Site::new(alloc, schema.share()?, name.as_str()))
+}
+
+/// So many sites of a schema, with nothing stored: `00001`, `00002` and so on.
+fn new_sites(alloc: Global, schema: &Shared<Schema>, count: u16) -> Result<Vec<Site>, NoMemory>
+    ensures { IfOk result (λ sites. AreSitesOf (schema_view schema.now) (first_sites count)
+        (start (first_sites count)).stores sites.items) }
+{
+    let mut sites = Vec::with_capacity(alloc, count as usize)?;
+    for before in 0..count {
+        sites.push(new_site(alloc, schema, before + 1)?)?;
+    }
+    Ok(sites)
+}
+
+/// Plays events at so many sites of a schema, `00001`, `00002` and so on, which have nothing stored yet: what it
+/// answers is a world, and so keeps what is promised of worlds ([`worlds_keep_promises`]). Fails where there is no
+/// memory for the sites, or to keep what was made, or its answer; then no world is answered. Any other want of memory
+/// is an answer to its event.
+pub fn simulate(
+    alloc: Global,
+    schema: &Shared<Schema>,
+    count: u16,
+    events: &[Event],
+) -> Result<World, NoMemory>
+    requires { (1 ≤ count) × (count ≤ 64) }
+    ensures played { IfOk result (λ w. IsPlayed (schema_view schema.now) (first_sites count) events.now
+        w.replies.items w.sites.items w.messages.items w.summaries.items) }
+    ensures promised { IfOk result (λ w. WorldKeepsPromises (schema_view schema.now) (first_sites count) events.now
+        w.replies.items) }
+{
+    first_sites_are_distinct();
+    worlds_keep_promises(schema.get());
+    simulate_at(alloc, new_sites(alloc, schema, count)?, events)
+}

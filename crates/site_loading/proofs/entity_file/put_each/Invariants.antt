@@ -1,0 +1,16 @@
+use Rattle.std.proofs.Common.{◌+◌, ◌≤◌, length}
+use Rattle.schema_decisions.specs.json_values.Arrays.{to_come}
+use Rattle.site_steps.specs.Seen.{schema_of, store_in, IsSameSite}
+use Rattle.site_loading.proofs.PutLemmas.{AreAlong}
+use Rattle.site_loading.proofs.entity_file.put_each.Given as goal
+
+-- what is left to put comes to what all come to
+abbrev pub invariant-members : goal.invariant-members
+invariant-members l = record {
+  same : IsSameSite l.fn.site l.site;
+  along : AreAlong (schema_of l.fn.site) l.fn.site.name (store_in l.fn.site) (to_come l.fn.members) (store_in l.site) l.place (to_come l.members);
+  few : l.place + length l.members.reader ≤ length l.fn.members.reader;
+}
+
+abbrev pub decreases-members : goal.decreases-members
+decreases-members l = length l.members.reader

@@ -1,0 +1,74 @@
+//! The entities of an array, each put in its turn.
+ghost use Rattle.std.specs.Prelude.{◌≡◌, ◌<◌, ◌^◌, List, length, map, Some, IfErr, OnOk};
+ghost use Rattle.serde_json.specs.Data.{Data};
+ghost use Rattle.serde_json.specs.View.{view};
+ghost use Rattle.schema_decisions.specs.json_values.Arrays.{to_come};
+ghost use Rattle.site_steps.specs.Seen.{schema_of, store_in, IsSameSite};
+ghost use Rattle.plain.specs.Refused.{OrNoMemory};
+ghost use Rattle.schema_decisions.specs.decision_texts.Refusals.{no_memory};
+ghost use Rattle.site_loading.specs.Puts.{entity_put, Accepts, AcceptsAll, RefusesAt, RefusesFirst};
+ghost use Rattle.site_loading.specs.Loads.{LoadsEntities, RefusesEntities};
+
+use crate::refusal::put_refusal;
+use schema_decisions::{Member, Members, Refusal, Scratch, judge_entities, members_of};
+use serde_json::Value;
+use site_steps::Site;
+use std::alloc::Global;
+
+/// Puts one entity.
+fn put_entity(site: &mut Site, place: usize, value: &Value) -> Result<(), Refusal>
+    ensures accepted { OnOk result (Accepts (schema_of site.old) site.old.name (store_in site.old)
+        (entity_put (view value.now)) (store_in site.new)) }
+    ensures refused { IfErr result (OrNoMemory no_memory
+        (RefusesAt (schema_of site.old) site.old.name (store_in site.old)
+        place (entity_put (view value.now)))) }
+    ensures same { IsSameSite site.old site.new }
+{
+    match site.put_entity(value) {
+        Ok(_) => Ok(()),
+        Err(fault) => Err(put_refusal(place, fault)),
+    }
+}
+
+/// Puts the entities that are still to come of an array, in their order, up to the first that is refused.
+fn put_each(alloc: Global, site: &mut Site, members: &mut Members<'_>) -> Result<(), Refusal>
+    requires few { length members.old.reader < 2 ^ 63 }
+    requires json { (ds : List Data) × (to_come members.old ≡ Some ds) }
+    ensures accepted { (ds : List Data) → to_come members.old ≡ Some ds →
+        OnOk result (AcceptsAll (schema_of site.old) site.old.name (store_in site.old) (map entity_put ds)
+        (store_in site.new)) }
+    ensures refused { (ds : List Data) → to_come members.old ≡ Some ds →
+        IfErr result (OrNoMemory no_memory (RefusesFirst (schema_of site.old) site.old.name (store_in site.old) 0
+        (map entity_put ds))) }
+    ensures same { IsSameSite site.old site.new }
+{
+    let mut place = 0;
+    'members: loop {
+        match members.next(alloc)? {
+            Member::Value(value) => put_entity(site, place, &value)?,
+            Member::End => return Ok(()),
+            Member::NotJson => unreachable!(),
+        }
+        place += 1;
+    }
+}
+
+/// Puts the entities of an array, each in its turn.
+///
+/// Refused in this order: the array, as it is read where a request is decided (30 to 38, at the entity's place in the
+/// array, from 0, or 30 without a place where there is no array); then the first put that is refused, at the entity's
+/// place. The array is read twice, one member's JSON at a time.
+pub(crate) fn load_entities(alloc: Global, site: &mut Site, bytes: &[u8]) -> Result<(), Refusal>
+    ensures loaded { OnOk result (LoadsEntities (schema_of site.old) site.old.name (store_in site.old) bytes.now
+        (store_in site.new)) }
+    ensures refused { IfErr result (OrNoMemory no_memory (RefusesEntities (schema_of site.old) site.old.name
+        (store_in site.old) bytes.now)) }
+    ensures same { IsSameSite site.old site.new }
+{
+    judge_entities(alloc, site.schema(), bytes)?;
+    let mut scratch = Scratch::new(alloc);
+    let Some(mut members) = members_of(&mut scratch, bytes)? else {
+        unreachable!();
+    };
+    put_each(alloc, site, &mut members)
+}

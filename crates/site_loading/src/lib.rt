@@ -1,0 +1,10 @@
+//! A file of policies and an array of entities, put into a site, as its own puts.
+#![tactic(auto)]
+
+mod entity_file;
+mod loading;
+mod policies;
+mod refusal;
+
+pub use loading::loaded_state;
+pub use schema_decisions::{Schema, check_texts, decide_under, schema_in};

@@ -1,0 +1,78 @@
+//! The state of a site that files are put into.
+ghost use Rattle.std.specs.Prelude.{◌≡◌, option_map, IfOk, IfErr, OnOk};
+ghost use Rattle.site_steps.specs.Seen.{schema_of, store_in, IsSameSite};
+ghost use Rattle.plain.specs.Refused.{OrNoMemory};
+ghost use Rattle.schema_decisions.specs.decision_texts.Refusals.{no_memory};
+ghost use Rattle.site_loading.specs.Loads.{IsLoadedState, IsRefused, LoadsIfNamed, RefusesIfNamed};
+ghost use Rattle.site_loading.specs.Loads.{LoadsPolicies, RefusesPolicies, LoadsEntities, RefusesEntities};
+
+use crate::entity_file::load_entities;
+use crate::policies::load_policies;
+use schema_decisions::Refusal;
+use site_steps::Site;
+use std::alloc::Global;
+
+/// Puts the policies of a file, if there is one.
+fn load_policies_if_named(
+    alloc: Global,
+    site: &mut Site,
+    bytes: Option<&[u8]>,
+) -> Result<(), Refusal>
+    ensures loaded { OnOk result (LoadsIfNamed
+        (LoadsPolicies (schema_of site.old) site.old.name) (store_in site.old) (option_map (λ b. b.now) bytes.entry)
+        (store_in site.new)) }
+    ensures refused { IfErr result (OrNoMemory no_memory (RefusesIfNamed
+        (RefusesPolicies (schema_of site.old) site.old.name) (store_in site.old)
+        (option_map (λ b. b.now) bytes.entry))) }
+    ensures same { IsSameSite site.old site.new }
+{
+    match bytes {
+        Some(bytes) => load_policies(alloc, site, bytes),
+        None => Ok(()),
+    }
+}
+
+/// Puts the entities of an array, if there is one.
+fn load_entities_if_named(
+    alloc: Global,
+    site: &mut Site,
+    bytes: Option<&[u8]>,
+) -> Result<(), Refusal>
+    ensures loaded { OnOk result (LoadsIfNamed
+        (LoadsEntities (schema_of site.old) site.old.name) (store_in site.old) (option_map (λ b. b.now) bytes.entry)
+        (store_in site.new)) }
+    ensures refused { IfErr result (OrNoMemory no_memory (RefusesIfNamed
+        (RefusesEntities (schema_of site.old) site.old.name) (store_in site.old)
+        (option_map (λ b. b.now) bytes.entry))) }
+    ensures same { IsSameSite site.old site.new }
+{
+    match bytes {
+        Some(bytes) => load_entities(alloc, site, bytes),
+        None => Ok(()),
+    }
+}
+
+/// Returns the state of a site, as a message, once the policies of a file and the entities of an array are put into it,
+/// where they are given: each policy under its name in the file with its own text from the file, then each entity. It
+/// is what [`Site::state`] gives after these puts, and reads back as the store's updates.
+///
+/// Refused whole, in this order: the file of policies (10 to 19, at a byte); the first policy whose put is refused, at
+/// its place in the file, from 0 (18 for a text of over 262,144 bytes, 40 to 46, 62); the array of entities (30 to 38,
+/// at the entity's place in it, from 0, or without a place where there is no array); the first entity whose put is
+/// refused, at its place (61, 62). `NoMemory` (1) may come at any point.
+pub fn loaded_state(
+    alloc: Global,
+    site: Site,
+    policies: Option<&[u8]>,
+    entities: Option<&[u8]>,
+) -> Result<Vec<u8>, Refusal>
+    ensures loaded { IfOk result (λ b. IsLoadedState (schema_of site) site.name (store_in site)
+        (option_map (λ p. p.now) policies.entry) (option_map (λ e. e.now) entities.entry) b.items) }
+    ensures refused { IfErr result (OrNoMemory no_memory (IsRefused (schema_of site) site.name (store_in site)
+        (option_map (λ p. p.now) policies.entry) (option_map (λ e. e.now) entities.entry))) }
+{
+    let mut site = site;
+    load_policies_if_named(alloc, &mut site, policies)?;
+    load_entities_if_named(alloc, &mut site, entities)?;
+    Ok(site.state()?)
+}

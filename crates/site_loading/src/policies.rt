@@ -1,0 +1,80 @@
+//! The policies of a file, each put with its own text.
+ghost use Rattle.std.specs.Prelude.{◌≡◌, length, map, string_bytes, IfOk, IfErr, OnOk};
+ghost use Rattle.grammar_files.specs.Cuts.{AreTextsOf};
+ghost use Rattle.site_steps.specs.Seen.{schema_of, store_in, IsSameSite};
+ghost use Rattle.plain.specs.Refused.{OrNoMemory};
+ghost use Rattle.schema_decisions.specs.decision_texts.Refusals.{no_memory};
+ghost use Rattle.site_loading.specs.Puts.{policy_put, Accepts, AcceptsAll, RefusesAt, RefusesFirst};
+ghost use Rattle.site_loading.specs.Loads.{policy_puts, LoadsPolicies, RefusesPolicies};
+ghost use Rattle.site_loading.specs.inner.Steps.{HasTokens};
+
+use crate::refusal::put_refusal;
+use grammar_files::{LexFault, files_are_cut_by_policies, lexing_is_unique, policy_texts};
+use plain::NoMemory;
+use schema_decisions::{Policy, Refusal, policies_in};
+use site_steps::Site;
+use std::alloc::Global;
+
+/// Puts one policy.
+fn put_policy(site: &mut Site, place: usize, id: &str, text: &str) -> Result<(), Refusal>
+    ensures accepted { OnOk result (Accepts (schema_of site.old) site.old.name (store_in site.old)
+        (policy_put id.now text.now) (store_in site.new)) }
+    ensures refused { IfErr result (OrNoMemory no_memory
+        (RefusesAt (schema_of site.old) site.old.name (store_in site.old)
+        place (policy_put id.now text.now))) }
+    ensures same { IsSameSite site.old site.new }
+{
+    match site.put_policy(id, text) {
+        Ok(_) => Ok(()),
+        Err(fault) => Err(put_refusal(place, fault)),
+    }
+}
+
+/// Returns the texts of the policies of a file that is UTF-8 and has tokens.
+fn texts_of<'t>(alloc: Global, bytes: &'t [u8]) -> Result<Vec<&'t str>, NoMemory>
+    requires { HasTokens bytes.now }
+    ensures { IfOk result (λ texts. AreTextsOf bytes.now (map (λ t. t.now) texts.items)) }
+{
+    lexing_is_unique();
+    let Ok(text) = str::from_utf8(bytes) else {
+        unreachable!();
+    };
+    match policy_texts(alloc, text) {
+        Ok(texts) => Ok(texts),
+        Err(LexFault::NoMemory) => Err(NoMemory),
+        Err(LexFault::BadToken(_)) => unreachable!(),
+    }
+}
+
+/// Puts policies under these names with these texts, in their order, up to the first that is refused.
+fn put_each(site: &mut Site, policies: &[(String, Policy)], texts: &[&str]) -> Result<(), Refusal>
+    requires { length texts.now ≡ length policies.now }
+    ensures accepted { OnOk result (AcceptsAll (schema_of site.old) site.old.name (store_in site.old)
+        (policy_puts (map (λ p. string_bytes p.0) policies.now) (map (λ t. t.now) texts.now)) (store_in site.new)) }
+    ensures refused { IfErr result (OrNoMemory no_memory
+        (RefusesFirst (schema_of site.old) site.old.name (store_in site.old) 0
+        (policy_puts (map (λ p. string_bytes p.0) policies.now) (map (λ t. t.now) texts.now)))) }
+    ensures same { IsSameSite site.old site.new }
+{
+    for (place, policy) in policies.iter().enumerate() {
+        put_policy(site, place, policy.0.as_str(), texts[place])?;
+    }
+    Ok(())
+}
+
+/// Puts the policies of a file, each under its name in the file with its own text from the file, in the file's order.
+///
+/// Refused in this order: the file, as it is read anywhere (10 to 19, at a byte); then the first put that is refused,
+/// at the policy's place in the file, from 0.
+pub(crate) fn load_policies(alloc: Global, site: &mut Site, bytes: &[u8]) -> Result<(), Refusal>
+    ensures loaded { OnOk result (LoadsPolicies (schema_of site.old) site.old.name (store_in site.old) bytes.now
+        (store_in site.new)) }
+    ensures refused { IfErr result (OrNoMemory no_memory (RefusesPolicies (schema_of site.old) site.old.name
+        (store_in site.old) bytes.now)) }
+    ensures same { IsSameSite site.old site.new }
+{
+    files_are_cut_by_policies();
+    let policies = policies_in(alloc, bytes)?;
+    let texts = texts_of(alloc, bytes)?;
+    put_each(site, &policies, &texts)
+}

@@ -1,0 +1,20 @@
+//! What a store of stamped texts says: its policies and entities, and that it has one answer to each request.
+//!
+//! Policies and entities are those that stand beside its texts, as they were read. What a policy's text may be read as
+//! is a parameter of the contracts. Who answers by them is `site_store`.
+#![tactic(auto)]
+
+mod laws;
+mod policies;
+mod stored_entities;
+
+pub use entity_hierarchy::{
+    Answer, Entity, EntityFault, Known, Lookup, Schema, actions_may_be_closed, answers_are_lawful,
+    canonical_text, decide_known, entities_read_back, expressions_have_one_outcome,
+    paths_are_decided, read_entity, read_request, requests_have_one_outcome, scopes_do_not_err,
+    stated_schemas_are_well_formed, world_under,
+};
+pub use laws::{requests_have_one_answer, stored_actions_answer_alike, stores_have_one_reading};
+pub use policies::policies_in;
+pub use stamped_store::laws::contents_are_told;
+pub use stored_entities::StoredEntities;

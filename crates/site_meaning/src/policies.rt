@@ -1,0 +1,40 @@
+//! The policies of a store.
+ghost use Rattle.std.specs.Prelude.{◌≡◌, IfOk, map};
+ghost use Rattle.entity_hierarchy.specs.authoriser.Views.{named};
+ghost use Rattle.entity_hierarchy.specs.authoriser.Laws.{AreIdsAscending};
+ghost use Rattle.stamped_store.specs.Store.{updates, abstract_store, abstract_updates};
+ghost use Rattle.site_meaning.specs.TextsRead.{policies_read};
+
+use entity_hierarchy::{Entity, Policy};
+use plain::NoMemory;
+use stamped_store::PolicyStore;
+use std::alloc::Global;
+
+/// Returns the policies that stand beside the texts of a store, in the order of their names.
+fn read_policies<'s>(
+    alloc: Global,
+    store: &'s PolicyStore<Policy, Entity>,
+) -> Result<Vec<(&'s str, &'s Policy)>, NoMemory>
+    ensures read { IfOk result (λ ps. named ps.items ≡ policies_read store.now.policies) }
+    ensures in_order { updates (abstract_store store.now) ≡ abstract_updates store.now }
+{
+    let mut found = Vec::new(alloc);
+    for (id, entry) in store.policies() {
+        if let Some(text) = &entry.body {
+            found.push((id.as_str(), &text.read))?;
+        }
+    }
+    Ok(found)
+}
+
+/// Returns the policies of a store that have a text, each as its text was read, ascending by id: what `decide` takes.
+/// One pass over all names of policies. Errors: `NoMemory` alone.
+pub fn policies_in<'s>(
+    alloc: Global,
+    store: &'s PolicyStore<Policy, Entity>,
+) -> Result<Vec<(&'s str, &'s Policy)>, NoMemory>
+    ensures read { IfOk result (λ ps. named ps.items ≡ policies_read store.now.policies) }
+    ensures ascending { IfOk result (λ ps. AreIdsAscending (map (λ p. p.id) (named ps.items))) }
+{
+    read_policies(alloc, store)
+}

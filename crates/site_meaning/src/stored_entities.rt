@@ -1,0 +1,100 @@
+//! The entities of a store, for whoever asks.
+ghost use Rattle.std.specs.Prelude.{◌≡◌, IfOk};
+ghost use Rattle.std.specs.Option.{option_copied};
+ghost use Rattle.entity_hierarchy.specs.ancestor_search.Hierarchy.{IsAscending, names};
+ghost use Rattle.std.specs.List.Sorted.{IsStrictlySortedBy};
+ghost use Rattle.std.specs.Map.{keys_of};
+ghost use Rattle.values.specs.Names.{uid_cmp};
+ghost use Rattle.site_meaning.specs.inner.Listing.{uids_with_text};
+ghost use Rattle.site_meaning.specs.TextsRead.{entity_at, uids_read};
+ghost use Rattle.site_meaning.specs.Said.{data_in};
+ghost use Rattle.site_meaning.specs.Listed.{entities_listed};
+
+use entity_hierarchy::{Entity, EntitySource, Policy};
+use plain::NoMemory;
+use stamped_store::PolicyStore;
+use std::alloc::Global;
+use values::{EntityUid, Record};
+
+/// The entities of a store that have a text, each as its text was read.
+#[derive(Clone, Copy)]
+pub struct StoredEntities<'s> {
+    /// The store.
+    pub store: &'s PolicyStore<Policy, Entity>,
+}
+
+impl<'s> StoredEntities<'s> {
+    /// Those of this store. Takes no memory.
+    pub fn of(store: &'s PolicyStore<Policy, Entity>) -> Self
+        ensures { result.store.now ≡ store.now }
+    {
+        StoredEntities { store }
+    }
+}
+
+/// Returns the entity under a uid, as its text was read; None where there is no text. Takes no memory.
+fn entity_in<'s>(store: &'s PolicyStore<Policy, Entity>, uid: &EntityUid) -> Option<&'s Entity>
+    ensures { option_copied result ≡ entity_at store.now.entities uid.now }
+{
+    match store.get_entity(uid) {
+        Some(entry) => match &entry.body {
+            Some(text) => Some(&text.read),
+            None => None,
+        },
+        None => None,
+    }
+}
+
+impl EntitySource for StoredEntities<'_> {
+    ghost kept = { λ s. data_in (entity_at s.store.now.entities) };
+
+    ghost uids = { λ s. uids_read s.store.now.entities };
+
+    ghost listed = { λ s. entities_listed s.store.now.entities };
+
+    fn attrs_at(&self, uid: &EntityUid) -> Option<&Record> {
+        match entity_in(self.store, uid) {
+            Some(entity) => Some(&entity.attrs),
+            None => None,
+        }
+    }
+
+    fn parents_at(&self, uid: &EntityUid) -> &[EntityUid] {
+        match entity_in(self.store, uid) {
+            Some(entity) => entity.parents.as_slice(),
+            None => &[],
+        }
+    }
+
+    fn kept_uids(&self, alloc: Global) -> Result<Vec<&EntityUid>, NoMemory> {
+        uids_in(alloc, self.store)
+    }
+}
+
+/// Returns the uids of those entries that have a text, in their order.
+fn uids_with_text<'s>(
+    alloc: Global,
+    store: &'s PolicyStore<Policy, Entity>,
+) -> Result<Vec<&'s EntityUid>, NoMemory>
+    ensures found { IfOk result (λ us. names us.items ≡ uids_with_text store.now.entities) }
+    ensures ordered { IsStrictlySortedBy uid_cmp (keys_of store.now.entities) }
+{
+    let mut found = Vec::new(alloc);
+    for (uid, entry) in store.entities() {
+        if entry.body.is_some() {
+            found.push(uid)?;
+        }
+    }
+    Ok(found)
+}
+
+/// Returns the uids of the entities of a store, ascending.
+fn uids_in<'s>(
+    alloc: Global,
+    store: &'s PolicyStore<Policy, Entity>,
+) -> Result<Vec<&'s EntityUid>, NoMemory>
+    ensures all { IfOk result (λ us. names us.items ≡ uids_read store.now.entities) }
+    ensures ascending { IfOk result (λ us. IsAscending (names us.items)) }
+{
+    uids_with_text(alloc, store)
+}

@@ -1,0 +1,46 @@
+-- What can still go wrong in an answer over a store whose texts were read under a schema.
+-- Source: cedar-spec, cedar-lean/Cedar/Thm/Validation.lean (`validation_is_sound`: a policy that passes the validator
+-- errs for no type, no attribute and no extension). Rule of this product: what is stored was read under the schema, so
+-- the premises of that theorem are met by each store.
+use Rattle.std.specs.Prelude.{◌≢◌, ℕ, List, Contains, Option, true, Ok}
+use Rattle.serde_json.specs.Data.{Data}
+use Rattle.values.specs.declared.entity_uid.EntityUid.{EntityUid}
+use Rattle.values.specs.declared.request.Request.{Request}
+use Rattle.values.specs.Values.{boolean}
+use Rattle.site_meaning.specs.policy_grammar.Whole.{expression_of}
+use Rattle.site_meaning.specs.evaluator.Outcomes.{EvaluationResult}
+use Rattle.site_meaning.specs.evaluator.Evaluation.{EvaluatesTo}
+use Rattle.sync_messages.specs.typing.Types.{boolean_type}
+use Rattle.sync_messages.specs.typing.Conforming.{Fits, IsHarmless}
+use Rattle.site_meaning.specs.authoriser.declared.answer.Answer.{Answer}
+use Rattle.site_meaning.specs.authoriser.declared.answer.ErringPolicy.{ErringPolicy}
+use Rattle.site_meaning.specs.authoriser.Answers.{NamedPolicy, fault_of}
+use Rattle.site_meaning.specs.schema.Schemas.{StatedSchema, IsSchemaOf}
+use Rattle.site_meaning.specs.entity_data.declared.entity.Entity.{Entity}
+use Rattle.site_meaning.specs.entities.Requests.{StatesRequest}
+use Rattle.sync_messages.specs.validator.Passing.{IsImpossible}
+use Rattle.site_meaning.specs.stamped_store.Store.{Store}
+use Rattle.sync_messages.specs.Texts.{ReadsPolicy, ReadsEntity}
+use Rattle.site_meaning.specs.Said.{ArePolicies, AreEntities, IsAnswerOver, world_under}
+
+-- Each policy that errs in the answer errs since an entity is not stored, or since a number leaves its bounds: for no
+-- type, no attribute and no extension function.
+abbrev pub ErrsHarmlessly : Answer → Type 0
+ErrsHarmlessly a = (e : ErringPolicy) → Contains a.errors e → IsHarmless (fault_of e.error)
+
+-- Over a store, each text of which was read under a schema that bytes state, and of a request that the schema allows:
+-- each policy gives a boolean, or errs for one of these two causes; and where it is impossible it is never true.
+abbrev pub StoredPoliciesGoRight : Type 0
+StoredPoliciesGoRight = (bytes : List ℕ) (schema : StatedSchema) → IsSchemaOf bytes schema → (s : Store)
+    → (d : Data) (q : Request) → StatesRequest schema d q
+    → (policies : List NamedPolicy) → ArePolicies (λ _. ReadsPolicy schema) s policies
+    → (entities : EntityUid → Option Entity) → AreEntities (ReadsEntity schema) s entities
+    → (p : NamedPolicy) → Contains policies p → (r : EvaluationResult)
+    → EvaluatesTo (world_under schema entities) q (expression_of p.policy) r
+    → Fits boolean_type r × (IsImpossible schema p.policy → r ≢ Ok (boolean true))
+
+-- So no policy errs otherwise in an answer over such a store.
+abbrev pub StoredAnswersGoRight : Type 0
+StoredAnswersGoRight = (bytes : List ℕ) (schema : StatedSchema) → IsSchemaOf bytes schema → (s : Store)
+    → (d : Data) (q : Request) → StatesRequest schema d q → (a : Answer)
+    → IsAnswerOver (λ _. ReadsPolicy schema) (ReadsEntity schema) schema s q a → ErrsHarmlessly a

@@ -1,0 +1,18 @@
+//! That what is read under a schema is of the types that the schema declares: values, the attributes of entities, and
+//! requests, which are of one of the schema's environments. So entities and a request that were read conform to the
+//! schema, and policies that pass go right over them; so no answer over a store whose texts were read tells of an error
+//! of type. The crate has laws, and no code.
+#![tactic(auto)]
+
+mod laws;
+
+pub use laws::{
+    stored_answers_go_right, what_is_read_conforms, what_is_read_is_of_its_type,
+    what_is_stored_goes_right,
+};
+pub use sync_messages::{
+    MessageFault, SchemaTexts, Summary, TypeFault, Update, canonical_texts_are_read, check,
+    json_texts_are_utf8, messages_have_one_outcome, messages_read_back, names_read_back,
+    policies_have_one_outcome, read_message, read_summary, stored_texts_have_one_reading,
+    summaries_read_back, valid_messages_are_read, write_delta, write_state, write_summary,
+};

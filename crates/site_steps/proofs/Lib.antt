@@ -1,0 +1,14 @@
+pub mod JudgingLemmas
+pub mod UnderSchema
+pub mod Recording
+pub mod Taking
+pub mod StoreRanges
+pub mod Paths
+pub mod RunLemmas
+pub mod OneStored
+pub mod OneAnswered
+pub mod OneOutcome
+pub mod SomeOutcome
+pub mod RightRuns
+-- crates below, passed on to those above
+pub use Rattle.site_store.proofs.of_stamped_store

@@ -1,0 +1,236 @@
+-- What enters in a run is in the store after it.
+use Rattle.std.specs.Prelude.{◌≡◌, ℕ, List, [], ◌∷◌, ◌++◌, Option, Ok, Err, take, refl}
+use Rattle.std.specs.List.{AllByRecursion}
+use Rattle.std.proofs.Common.{sym, ap, ◌∙◌, subst, append_assoc, append-nil}
+use Rattle.serde_json.specs.Data.{Data}
+use Rattle.values.specs.declared.name.Name.{Name}
+use Rattle.site_store.specs.policy_grammar.declared.policy.Policy.{Policy}
+use Rattle.site_store.specs.entity_data.declared.entity.Entity.{Entity}
+use Rattle.site_store.specs.schema.Schemas.{StatedSchema}
+use Rattle.site_store.specs.stamped_store.Store.{Store, Update, updates, store_of, policy_name, entity_name}
+use Rattle.site_soundness.specs.message_format.declared.update.Update.{Update as SentUpdate}
+use Rattle.site_soundness.specs.message_format.Updates.{AreInRange, plain_updates, IsMessage, IsMessageFault, IsUpdateRead}
+use Rattle.site_soundness.specs.sync_messages.Texts.{RefusesPolicy, RefusesEntity}
+use Rattle.site_soundness.specs.sync_messages.Laws.{PoliciesHaveOneReading, EntitiesHaveOneReading}
+use Rattle.site_soundness.specs.message_format.Bodies.{TextsHaveOneOutcome}
+use Rattle.site_soundness.specs.message_format.declared.fault.MessageFault.{MessageFault}
+use Rattle.site_store.specs.schema.Views.{schema_view}
+use Rattle.site_steps.specs.declared.fault.SiteFault.{SiteFault}
+use Rattle.site_steps.specs.declared.fault.SiteFault.TheVariants as fault
+use Rattle.site_steps.specs.declared.outcome.Taken.TheVariants.{All, Short}
+use Rattle.site_steps.specs.Admitted.{IsPolicyUnder, IsEntityUnder, IsValidUnder}
+use Rattle.site_steps.specs.Steps.{PutsPolicy, PutsEntity, Deletes}
+use Rattle.site_steps.specs.Inputs.{Input}
+use Rattle.site_steps.specs.Inputs as input
+use Rattle.site_steps.specs.declared.reply.Reply.{Reply}
+use Rattle.site_steps.specs.declared.reply.Reply.TheVariants as reply
+use Rattle.site_store.specs.schema.SchemaEntries.{SchemaEntries}
+use Rattle.site_soundness.specs.sync_messages.declared.texts.SchemaTexts.{SchemaTexts}
+use Rattle.site_steps.specs.Runs.{Step, Run, HoldsAfter, took_by, took, update_of_entity, updates_of_message}
+
+-- updates of a message are valid where they are in range and are read
+pub all_valid : (schema : StatedSchema) (us : List (SentUpdate Policy Entity)) → AreInRange (plain_updates us)
+    → AllByRecursion (IsUpdateRead (IsPolicyUnder schema) (IsEntityUnder schema)) us → AllByRecursion (IsValidUnder schema) us
+all_valid schema [] h k = tt
+all_valid schema (u ∷ us) h k = (record { in_range = h.0; is_read = k.0 }, all_valid schema us h.1 k.1)
+
+-- ---- what is refused changes nothing
+
+policy_kept : (schema : StatedSchema) (n : List ℕ) (s : Store) (id text : List ℕ) (f : SiteFault) (t : Store)
+    → PutsPolicy schema n s id text (Err f) t → t ≡ s
+policy_kept schema n s id text fault.NoMemory t h = h
+policy_kept schema n s id text (fault.Policy f) t h = h.1
+policy_kept schema n s id text (fault.Check f) t h = h.1
+policy_kept schema n s id text (fault.Entity f) t h = h.1
+policy_kept schema n s id text (fault.Message f) t h = h.1
+policy_kept schema n s id text fault.NotThere t h = h.1
+policy_kept schema n s id text fault.WouldCycle t h = h.1
+policy_kept schema n s id text fault.ClockFull t h = h.1.1
+policy_kept schema n s id text (fault.Request f) t h = h.1
+
+entity_kept : (schema : StatedSchema) (n : List ℕ) (s : Store) (json : Option Data) (f : SiteFault) (t : Store)
+    → PutsEntity schema n s json (Err f) t → t ≡ s
+entity_kept schema n s json fault.NoMemory t h = h
+entity_kept schema n s json (fault.Policy f) t h = absurd h
+entity_kept schema n s json (fault.Check f) t h = absurd h
+entity_kept schema n s json (fault.Entity f) t h = h.1
+entity_kept schema n s json (fault.Message f) t h = absurd h
+entity_kept schema n s json fault.NotThere t h = absurd h
+entity_kept schema n s json fault.WouldCycle t h = h.1
+entity_kept schema n s json fault.ClockFull t h = h.1.1
+entity_kept schema n s json (fault.Request f) t h = absurd h
+
+delete_kept : (n : List ℕ) (s : Store) (name : Name) (f : SiteFault) (t : Store) → Deletes n s name (Err f) t → t ≡ s
+delete_kept n s name fault.NoMemory t h = h
+delete_kept n s name (fault.Policy f) t h = absurd h
+delete_kept n s name (fault.Check f) t h = absurd h
+delete_kept n s name (fault.Entity f) t h = absurd h
+delete_kept n s name (fault.Message f) t h = absurd h
+delete_kept n s name fault.NotThere t h = h.1
+delete_kept n s name fault.WouldCycle t h = absurd h
+delete_kept n s name fault.ClockFull t h = h.1.1
+delete_kept n s name (fault.Request f) t h = absurd h
+
+-- ---- what entered by a step is in the store after it
+
+-- taken from the law of stores: the store of a store's updates is that store, and what is joined in groups is joined
+-- at once
+pub record AreStores : Type 0 where
+  pub own : (s : Store) → store_of (updates s) ≡ s
+  pub grouped : (us vs : List Update) → store_of (updates (store_of us) ++ vs) ≡ store_of (us ++ vs)
+
+unchanged : AreStores → (s t : Store) → t ≡ s → t ≡ store_of (updates s ++ [])
+unchanged law s t h = h ∙ sym (law.own s) ∙ ap store_of (sym (append-nil (updates s)))
+
+-- updates that enter one after another enter together
+stores_more : AreStores → (s m t : Store) (us vs : List Update) → m ≡ store_of (updates s ++ us)
+    → t ≡ store_of (updates m ++ vs) → t ≡ store_of (updates s ++ (us ++ vs))
+stores_more law s m t us vs h k =
+    k ∙ ap (λ x. store_of (updates x ++ vs)) h
+    ∙ law.grouped (updates s ++ us) vs
+    ∙ ap store_of (append_assoc (updates s) us vs)
+
+step_took : AreStores → (schema : StatedSchema) (n : List ℕ) (s : Store) (i : Input) (r : Reply) (t : Store)
+    → Step schema n s i r t → t ≡ store_of (updates s ++ took_by schema i r)
+step_took law schema n s (input.PutPolicy id text) (reply.Put (Ok put)) t h = h.3.store
+step_took law schema n s (input.PutPolicy id text) (reply.Put (Err f)) t h =
+    unchanged law s t (policy_kept schema n s id text f t h)
+step_took law schema n s (input.PutPolicy id text) (reply.Stamped r) t h = absurd h
+step_took law schema n s (input.PutPolicy id text) (reply.Taken r) t h = absurd h
+step_took law schema n s (input.PutPolicy id text) (reply.Answered r) t h = absurd h
+step_took law schema n s (input.PutPolicy id text) (reply.Found r) t h = absurd h
+step_took law schema n s (input.PutPolicy id text) (reply.Written r) t h = absurd h
+step_took law schema n s (input.DeletePolicy id) (reply.Put r) t h = absurd h
+step_took law schema n s (input.DeletePolicy id) (reply.Stamped (Ok stamp)) t h = h.1.store
+step_took law schema n s (input.DeletePolicy id) (reply.Stamped (Err f)) t h =
+    unchanged law s t (delete_kept n s (policy_name id) f t h)
+step_took law schema n s (input.DeletePolicy id) (reply.Taken r) t h = absurd h
+step_took law schema n s (input.DeletePolicy id) (reply.Answered r) t h = absurd h
+step_took law schema n s (input.DeletePolicy id) (reply.Found r) t h = absurd h
+step_took law schema n s (input.DeletePolicy id) (reply.Written r) t h = absurd h
+step_took law schema n s (input.PutEntity b) (reply.Put r) t h = absurd h
+step_took law schema n s (input.PutEntity b) (reply.Stamped (Ok stamp)) t h =
+    h.3.store ∙ ap (λ x. store_of (updates s ++ update_of_entity stamp x)) (sym h.1)
+step_took law schema n s (input.PutEntity b) (reply.Stamped (Err f)) t h =
+    unchanged law s t (entity_kept schema n s _ f t h)
+step_took law schema n s (input.PutEntity b) (reply.Taken r) t h = absurd h
+step_took law schema n s (input.PutEntity b) (reply.Answered r) t h = absurd h
+step_took law schema n s (input.PutEntity b) (reply.Found r) t h = absurd h
+step_took law schema n s (input.PutEntity b) (reply.Written r) t h = absurd h
+step_took law schema n s (input.DeleteEntity uid) (reply.Put r) t h = absurd h
+step_took law schema n s (input.DeleteEntity uid) (reply.Stamped (Ok stamp)) t h = h.1.store
+step_took law schema n s (input.DeleteEntity uid) (reply.Stamped (Err f)) t h =
+    unchanged law s t (delete_kept n s (entity_name uid) f t h)
+step_took law schema n s (input.DeleteEntity uid) (reply.Taken r) t h = absurd h
+step_took law schema n s (input.DeleteEntity uid) (reply.Answered r) t h = absurd h
+step_took law schema n s (input.DeleteEntity uid) (reply.Found r) t h = absurd h
+step_took law schema n s (input.DeleteEntity uid) (reply.Written r) t h = absurd h
+step_took law schema n s (input.Take b) (reply.Put r) t h = absurd h
+step_took law schema n s (input.Take b) (reply.Stamped r) t h = absurd h
+step_took law schema n s (input.Take b) (reply.Taken (Ok (All k))) t h =
+    h.2.1 ∙ ap (λ x. store_of (updates s ++ updates_of_message x)) (sym h.1.stated)
+step_took law schema n s (input.Take b) (reply.Taken (Ok (Short k))) t h =
+    h.2.1 ∙ ap (λ x. store_of (updates s ++ take k (updates_of_message x))) (sym h.1.stated)
+step_took law schema n s (input.Take b) (reply.Taken (Err f)) t h = unchanged law s t h.1
+step_took law schema n s (input.Take b) (reply.Answered r) t h = absurd h
+step_took law schema n s (input.Take b) (reply.Found r) t h = absurd h
+step_took law schema n s (input.Take b) (reply.Written r) t h = absurd h
+step_took law schema n s (input.Authorize b) (reply.Put r) t h = absurd h
+step_took law schema n s (input.Authorize b) (reply.Stamped r) t h = absurd h
+step_took law schema n s (input.Authorize b) (reply.Taken r) t h = absurd h
+step_took law schema n s (input.Authorize b) (reply.Answered r) t h = unchanged law s t h.1
+step_took law schema n s (input.Authorize b) (reply.Found r) t h = absurd h
+step_took law schema n s (input.Authorize b) (reply.Written r) t h = absurd h
+step_took law schema n s (input.GetPolicy id) (reply.Put r) t h = absurd h
+step_took law schema n s (input.GetPolicy id) (reply.Stamped r) t h = absurd h
+step_took law schema n s (input.GetPolicy id) (reply.Taken r) t h = absurd h
+step_took law schema n s (input.GetPolicy id) (reply.Answered r) t h = absurd h
+step_took law schema n s (input.GetPolicy id) (reply.Found r) t h = unchanged law s t h.1
+step_took law schema n s (input.GetPolicy id) (reply.Written r) t h = absurd h
+step_took law schema n s input.State (reply.Put r) t h = absurd h
+step_took law schema n s input.State (reply.Stamped r) t h = absurd h
+step_took law schema n s input.State (reply.Taken r) t h = absurd h
+step_took law schema n s input.State (reply.Answered r) t h = absurd h
+step_took law schema n s input.State (reply.Found r) t h = absurd h
+step_took law schema n s input.State (reply.Written r) t h = unchanged law s t h.1
+step_took law schema n s input.Summary (reply.Put r) t h = absurd h
+step_took law schema n s input.Summary (reply.Stamped r) t h = absurd h
+step_took law schema n s input.Summary (reply.Taken r) t h = absurd h
+step_took law schema n s input.Summary (reply.Answered r) t h = absurd h
+step_took law schema n s input.Summary (reply.Found r) t h = absurd h
+step_took law schema n s input.Summary (reply.Written r) t h = unchanged law s t h.1
+step_took law schema n s (input.Delta b) (reply.Put r) t h = absurd h
+step_took law schema n s (input.Delta b) (reply.Stamped r) t h = absurd h
+step_took law schema n s (input.Delta b) (reply.Taken r) t h = absurd h
+step_took law schema n s (input.Delta b) (reply.Answered r) t h = absurd h
+step_took law schema n s (input.Delta b) (reply.Found r) t h = absurd h
+step_took law schema n s (input.Delta b) (reply.Written r) t h = unchanged law s t h.1
+
+-- ---- runs
+
+pub run_took : AreStores → (schema : StatedSchema) (n : List ℕ) (s : Store) (is : List Input) (rs : List Reply) (t : Store)
+    → Run schema n s is rs t → t ≡ store_of (updates s ++ took schema is rs)
+run_took law schema n s [] [] t h = unchanged law s t h
+run_took law schema n s [] (r ∷ rs) t h = absurd h
+run_took law schema n s (i ∷ is) [] t h = absurd h
+run_took law schema n s (i ∷ is) (r ∷ rs) t h =
+    stores_more law s h.0 t (took_by schema i r) (took schema is rs) (step_took law schema n s i r h.0 h.1)
+    (run_took law schema n h.0 is rs t h.2)
+
+-- one more step
+pub run_push : (schema : StatedSchema) (n : List ℕ) (s : Store) (is : List Input) (rs : List Reply) (m : Store) (i : Input)
+    (r : Reply) (t : Store) → Run schema n s is rs m → Step schema n m i r t
+    → Run schema n s (is ++ i ∷ []) (rs ++ r ∷ []) t
+run_push schema n s [] [] m i r t h k = (t, subst (λ x. Step schema n x i r t) h k, refl)
+run_push schema n s [] (x ∷ rs) m i r t h k = absurd h
+run_push schema n s (x ∷ is) [] m i r t h k = absurd h
+run_push schema n s (x ∷ is) (y ∷ rs) m i r t h k = (h.0, h.1, run_push schema n h.0 is rs m i r t h.2 k)
+
+-- a step at a site that is the same
+pub same_step : (a b : StatedSchema) (m n : List ℕ) (s : Store) (i : Input) (r : Reply) (t : Store) → a ≡ b → m ≡ n
+    → Step a m s i r t → Step b n s i r t
+same_step a b m n s i r t e f h =
+    subst (λ k. Step b k s i r t) f (subst (λ (c : StatedSchema). Step c m s i r t) e h)
+
+-- ---- equal sets of updates
+
+-- the texts of a schema, as what says what texts are read as
+abbrev pub texts_of : SchemaEntries → SchemaTexts
+texts_of schema = record { schema = record { ref_ptr = (0, 0); now = schema } }
+
+-- under a schema each text has one outcome
+pub texts_are_one : (w : StatedSchema) → PoliciesHaveOneReading → EntitiesHaveOneReading
+    → TextsHaveOneOutcome (IsPolicyUnder w) (λ (id : List ℕ). RefusesPolicy w) (IsEntityUnder w) (RefusesEntity w)
+texts_are_one w policies entities = record {
+  policies = λ id text. (policies w text).0;
+  entities = λ uid text. (entities w uid text).0;
+}
+
+after_run : AreStores → (schema : StatedSchema) (us : List Update) (t : Store) → HoldsAfter schema us t
+    → t ≡ store_of us
+after_run law schema us t h =
+    run_took law schema h.name h.first h.inputs h.replies t h.run ∙ ap store_of (sym h.all)
+
+pub same_stores : AreStores → (schema : StatedSchema) (us vs : List Update) (s t : Store) → HoldsAfter schema us s
+    → HoldsAfter schema vs t → store_of us ≡ store_of vs → s ≡ t
+same_stores law schema us vs s t h k same = after_run law schema us s h ∙ same ∙ sym (after_run law schema vs t k)
+
+-- ---- messages, read under a schema that is the site's
+
+pub message_valid : (a b : SchemaEntries) (label bytes : List ℕ) (us : List (SentUpdate Policy Entity)) → a ≡ b
+    → IsMessage (IsPolicyUnder (schema_view a)) (IsEntityUnder (schema_view a)) label bytes us
+    → AllByRecursion (IsValidUnder (schema_view b)) us
+message_valid a b label bytes us same h =
+    subst (λ (k : SchemaEntries). AllByRecursion (IsValidUnder (schema_view k)) us) same
+    (all_valid (schema_view a) us h.in_range h.are_read)
+
+pub message_refused : (a b : SchemaEntries) (m label bytes : List ℕ) (f : MessageFault) → a ≡ b → m ≡ label
+    → IsMessageFault (IsPolicyUnder (schema_view a)) (IsEntityUnder (schema_view a)) (λ _. RefusesPolicy (schema_view a))
+    (RefusesEntity (schema_view a)) m bytes f
+    → IsMessageFault (IsPolicyUnder (schema_view b)) (IsEntityUnder (schema_view b)) (λ _. RefusesPolicy (schema_view b))
+    (RefusesEntity (schema_view b)) label bytes f
+message_refused a b m label bytes f same named h =
+    subst (λ (k : SchemaEntries). IsMessageFault (IsPolicyUnder (schema_view k)) (IsEntityUnder (schema_view k))
+    (λ _. RefusesPolicy (schema_view k)) (RefusesEntity (schema_view k)) label bytes f) same
+    (subst (λ (l : List ℕ). IsMessageFault (IsPolicyUnder (schema_view a)) (IsEntityUnder (schema_view a))
+    (λ _. RefusesPolicy (schema_view a)) (RefusesEntity (schema_view a)) l bytes f) named h)

@@ -1,0 +1,82 @@
+-- What is admitted at a site of a schema: policies, entities, requests and updates as they are handed in. It is the
+-- same at every site of that schema, whatever is stored there.
+-- Sources: Cedar reference guide 4.0, "Policy validation", "Entities and context: JSON format" and "Authorization
+-- request". Rules of this product: a policy's id has 1 to 256 bytes, and is judged before the text; an entity is handed
+-- in as JSON; the order of the refusals.
+use Rattle.std.specs.Prelude.{◌≡◌, ℕ, List, Option, Some, None, Result}
+use Rattle.serde_json.specs.Data.{Data}
+use Rattle.json_words.specs.ReadsAs.{◌>>=◌, or_fault}
+use Rattle.values.specs.declared.entity_uid.EntityUid.{EntityUid}
+use Rattle.values.specs.declared.request.Request.{Request}
+use Rattle.site_store.specs.policy_grammar.declared.policy.Policy.{Policy}
+use Rattle.site_store.specs.policy_grammar.declared.fault.ReadFault.{ReadFault}
+use Rattle.site_store.specs.policy_grammar.declared.fault.ReadFault.TheVariants.{BadId}
+use Rattle.site_store.specs.policy_grammar.Limits.{IsId}
+use Rattle.site_store.specs.policy_grammar.PolicyText.{IsPolicyText, IsPolicyRefused}
+use Rattle.site_store.specs.schema.Schemas.{StatedSchema}
+use Rattle.site_store.specs.entity_data.declared.entity.Entity.{Entity}
+use Rattle.site_store.specs.entities.declared.fault.EntityFault.{EntityFault}
+use Rattle.site_store.specs.entities.declared.fault.EntityFault.TheVariants.{BadShape}
+use Rattle.site_store.specs.entities.Entities.{entity_stated_in}
+use Rattle.site_store.specs.entities.Requests.{StatesRequest, RequestRefused}
+use Rattle.site_soundness.specs.validator.declared.fault.TypeFault.{TypeFault}
+use Rattle.site_soundness.specs.validator.Passing.{IsCheckRefused}
+use Rattle.site_soundness.specs.message_format.Summaries.{IsStamped}
+use Rattle.site_soundness.specs.message_format.declared.update.Update.{Update}
+use Rattle.site_soundness.specs.message_format.Updates.{plain_update, stamped, IsUpdateRead}
+use Rattle.site_soundness.specs.sync_messages.Texts.{ReadsPolicy, ReadsEntity}
+use Rattle.site_steps.specs.declared.fault.SiteFault.{SiteFault}
+use Rattle.site_steps.specs.declared.fault.SiteFault.TheVariants as fault
+
+-- ---- what a text in the store is read as
+
+-- A policy's text is read as this policy: it is the policy's, which passes, whatever the id.
+abbrev pub IsPolicyUnder : StatedSchema → List ℕ → List ℕ → Policy → Type 0
+IsPolicyUnder schema id text p = ReadsPolicy schema text p
+
+-- An entity's text is read as this entity: it is the one canonical text of the entity, which the schema allows and
+-- which has this uid.
+abbrev pub IsEntityUnder : StatedSchema → EntityUid → List ℕ → Entity → Type 0
+IsEntityUnder schema uid text e = ReadsEntity schema uid text e
+
+-- ---- policies
+
+-- this text may be put under this id, as this policy: the text is the policy's, and the policy passes
+pub record IsAdmitted (schema : StatedSchema) (id text : List ℕ) (p : Policy) : Type 0 where
+  pub named : IsId id
+  pub reads : ReadsPolicy schema text p
+
+-- it may not be put: the id is judged first, then the text, then the policy
+pub data IsNotAdmitted (schema : StatedSchema) (id text : List ℕ) : SiteFault → Type 0 where
+  bad_id : (IsId id → ⊥) → IsNotAdmitted schema id text (fault.Policy BadId)
+  no_policy : (f : ReadFault) → IsId id → IsPolicyRefused text f → IsNotAdmitted schema id text (fault.Policy f)
+  not_passing : (p : Policy) (f : TypeFault) → IsId id → IsPolicyText text p → IsCheckRefused schema p f
+      → IsNotAdmitted schema id text (fault.Check f)
+
+-- ---- entities
+
+-- the entity that JSON states, or the first fault; bytes that are no JSON (None) have not its form
+abbrev pub entity_stated : StatedSchema → Option Data → Result Entity EntityFault
+entity_stated schema json = do
+  d ← or_fault BadShape json
+  entity_stated_in schema d
+
+-- ---- requests
+
+-- JSON states this request; bytes that are no JSON (None) state none
+abbrev pub IsRequestOf : StatedSchema → Option Data → Request → Type 0
+IsRequestOf schema None q = ⊥
+IsRequestOf schema (Some d) q = StatesRequest schema d q
+
+-- it states none, and this is the first fault; bytes that are no JSON (None) have not its form
+abbrev pub IsNoRequest : StatedSchema → Option Data → EntityFault → Type 0
+IsNoRequest schema None f = f ≡ BadShape
+IsNoRequest schema (Some d) f = RequestRefused schema d f
+
+-- ---- updates that another site sent
+
+-- An update is valid: its name and stamp are in their ranges, and its text, if it has one, is read as what stands
+-- beside it. (`IsValid` of state_messages is the second half alone.)
+pub record IsValidUnder (schema : StatedSchema) (u : Update Policy Entity) : Type 0 where
+  pub in_range : IsStamped (stamped (plain_update u))
+  pub is_read : IsUpdateRead (IsPolicyUnder schema) (IsEntityUnder schema) u

@@ -1,0 +1,51 @@
+-- The refusals of a site by number, which are a rule of this product, and the faults of what it calls among them.
+use Rattle.std.specs.Prelude.{ℕ, Option, Some, None}
+use Rattle.site_store.specs.policy_grammar.Faults as policy_faults
+use Rattle.site_store.specs.policy_grammar.declared.fault.ReadFault.{ReadFault}
+use Rattle.site_store.specs.policy_grammar.declared.fault.ReadFault.TheVariants as reading
+use Rattle.site_store.specs.entities.Faults as entity_faults
+use Rattle.site_soundness.specs.validator.Faults as check_faults
+use Rattle.site_soundness.specs.validator.declared.fault.TypeFault.{TypeFault}
+use Rattle.site_soundness.specs.validator.declared.fault.TypeFault.TheVariants as checking
+use Rattle.site_soundness.specs.message_format.Faults as message_faults
+use Rattle.site_soundness.specs.message_format.declared.fault.MessageFault.{MessageFault}
+use Rattle.site_soundness.specs.message_format.declared.fault.MessageFault.TheVariants as sending
+use Rattle.site_steps.specs.declared.fault.SiteFault.{SiteFault}
+use Rattle.site_steps.specs.declared.fault.SiteFault.TheVariants as fault
+
+-- the refusal of a text, an entity or a message is told by its own number; that of a request by 63, with its own inside
+abbrev pub code_of : SiteFault → ℕ
+code_of fault.NoMemory = 1
+code_of (fault.Policy f) = policy_faults.code_of f
+code_of (fault.Check f) = check_faults.code_of f
+code_of (fault.Entity f) = entity_faults.code_of f
+code_of (fault.Message f) = message_faults.code_of f
+code_of fault.NotThere = 60
+code_of fault.WouldCycle = 61
+code_of fault.ClockFull = 62
+code_of (fault.Request f) = 63
+
+-- the place at which it shows: a byte of a policy's text, an entry of a message
+abbrev pub place_of : SiteFault → Option ℕ
+place_of (fault.Policy f) = policy_faults.place_of f
+place_of (fault.Message f) = message_faults.place_of f
+place_of _ = None
+
+-- the number of the refusal inside, where one stands in another
+abbrev pub within_of : SiteFault → Option ℕ
+within_of (fault.Message f) = message_faults.within_of f
+within_of (fault.Request f) = Some (entity_faults.code_of f)
+within_of _ = None
+
+-- want of memory is one, wherever it is met
+abbrev pub of_reading : ReadFault → SiteFault
+of_reading reading.NoMemory = fault.NoMemory
+of_reading f = fault.Policy f
+
+abbrev pub of_checking : TypeFault → SiteFault
+of_checking checking.NoMemory = fault.NoMemory
+of_checking f = fault.Check f
+
+abbrev pub of_message : MessageFault → SiteFault
+of_message sending.NoMemory = fault.NoMemory
+of_message f = fault.Message f

@@ -1,0 +1,143 @@
+-- A run of a site: one step after another, each an input with its reply; and which updates the site took. From
+-- these the store at the end is told without the steps between. Rules of this product: a message is refused whole or
+-- its updates are taken in order; what is refused, and what is asked, changes nothing.
+use Rattle.std.specs.Prelude.{◌≡◌, ℕ, List, [], ◌∷◌, ◌++◌, take, Option, Some, None, option_map, Result, Ok, Err}
+use Rattle.json_words.specs.Json.{json_of}
+use Rattle.site_store.specs.policy_grammar.declared.policy.Policy.{Policy}
+use Rattle.site_store.specs.schema.Schemas.{StatedSchema}
+use Rattle.site_store.specs.entity_data.declared.entity.Entity.{Entity}
+use Rattle.site_store.specs.entities.declared.fault.EntityFault.{EntityFault}
+use Rattle.site_store.specs.entities.Canonical.{canonical_text}
+use Rattle.site_store.specs.stamped_store.declared.entry.Stamp.{Stamp}
+use Rattle.site_store.specs.stamped_store.Deltas as deltas
+use Rattle.site_store.specs.stamped_store.Store.{Store, Update, updates, issued, policy_name, entity_name}
+use Rattle.site_soundness.specs.message_format.declared.fault.MessageFault.{MessageFault}
+use Rattle.site_soundness.specs.message_format.Summaries.{summary_text, summary_stated}
+use Rattle.site_soundness.specs.message_format.declared.update.Update.{Update as SentUpdate}
+use Rattle.site_soundness.specs.message_format.Messages.{state_text, delta_text, updates_stated}
+use Rattle.site_soundness.specs.message_format.Updates.{IsMessage, IsMessageFault, plain_updates}
+use Rattle.site_soundness.specs.sync_messages.Texts.{RefusesPolicy, RefusesEntity}
+use Rattle.site_steps.specs.declared.fault.SiteFault.{SiteFault}
+use Rattle.site_steps.specs.declared.fault.SiteFault.TheVariants as fault
+use Rattle.site_steps.specs.declared.outcome.Taken as taking
+use Rattle.site_steps.specs.declared.outcome.Taken.TheVariants.{All, Short}
+use Rattle.site_steps.specs.Admitted.{IsPolicyUnder, IsEntityUnder, entity_stated}
+use Rattle.site_steps.specs.Steps.{PutsPolicy, PutsEntity, Deletes, TakesUpdates, Answers, policy_found}
+use Rattle.site_steps.specs.Inputs.{Input}
+use Rattle.site_steps.specs.Inputs as input
+use Rattle.site_steps.specs.declared.reply.Found.{Found}
+use Rattle.site_steps.specs.declared.reply.Reply.{Reply}
+use Rattle.site_steps.specs.declared.reply.Reply.TheVariants as reply
+
+-- ---- messages
+
+-- the bytes are a state or a delta of this schema, each of its updates in range and readable under it
+abbrev pub IsMessageOf : StatedSchema → List ℕ → List (SentUpdate Policy Entity) → Type 0
+IsMessageOf schema bytes us = IsMessage (IsPolicyUnder schema) (IsEntityUnder schema) schema.label bytes us
+
+-- they are none, and this is the first fault, unless memory was refused
+abbrev pub IsNoMessageOf : StatedSchema → List ℕ → SiteFault → Type 0
+IsNoMessageOf schema bytes fault.NoMemory = Unit {0}
+IsNoMessageOf schema bytes (fault.Message f) =
+    IsMessageFault (IsPolicyUnder schema) (IsEntityUnder schema) (λ _. RefusesPolicy schema) (RefusesEntity schema)
+    schema.label bytes f
+IsNoMessageOf schema bytes _ = ⊥
+
+-- a message comes: all of its updates are taken, or the first ones, or it is refused whole
+abbrev pub TakesMessage : StatedSchema → Store → List ℕ → Result taking.Taken SiteFault → Store → Type 0
+TakesMessage schema s bytes (Ok taken) t =
+    (us : List (SentUpdate Policy Entity)) × IsMessageOf schema bytes us × TakesUpdates s (plain_updates us) taken t
+TakesMessage schema s bytes (Err f) t = IsNoMessageOf schema bytes f × (t ≡ s)
+
+-- ---- questions
+
+-- the text and the stamp of a policy, or that its id has no text
+abbrev pub Finds : Store → List ℕ → Result (Option Found) SiteFault → Type 0
+Finds s id (Ok found) = option_map (λ f. (f.text, f.stamp)) found ≡ policy_found s id
+Finds s id (Err fault.NoMemory) = Unit {0}
+Finds s id (Err _) = ⊥
+
+-- these bytes are written, but for want of memory
+abbrev pub Writes : List ℕ → Result (List ℕ) SiteFault → Type 0
+Writes bytes (Ok written) = written ≡ bytes
+Writes bytes (Err fault.NoMemory) = Unit {0}
+Writes bytes (Err _) = ⊥
+
+-- what is news to whoever has this summary
+abbrev pub WritesDelta : StatedSchema → Store → List ℕ → Result (List ℕ) SiteFault → Type 0
+WritesDelta schema s summary (Ok written) =
+    (m : deltas.Summary) × (summary_stated schema.label summary ≡ Ok m)
+    × (written ≡ delta_text schema.label (deltas.delta s m))
+WritesDelta schema s summary (Err fault.NoMemory) = Unit {0}
+WritesDelta schema s summary (Err (fault.Message f)) = summary_stated schema.label summary ≡ Err f
+WritesDelta schema s summary (Err _) = ⊥
+
+-- ---- one step
+
+-- from s, the site with name n may give this reply to the input and go on to t
+abbrev pub Step : StatedSchema → List ℕ → Store → Input → Reply → Store → Type 0
+Step schema n s (input.PutPolicy id text) (reply.Put r) t = PutsPolicy schema n s id text r t
+Step schema n s (input.DeletePolicy id) (reply.Stamped r) t = Deletes n s (policy_name id) r t
+Step schema n s (input.PutEntity bytes) (reply.Stamped r) t = PutsEntity schema n s (json_of bytes) r t
+Step schema n s (input.DeleteEntity uid) (reply.Stamped r) t = Deletes n s (entity_name uid) r t
+Step schema n s (input.Take bytes) (reply.Taken r) t = TakesMessage schema s bytes r t
+Step schema n s (input.Authorize bytes) (reply.Answered r) t = Answers schema s (json_of bytes) r × (t ≡ s)
+Step schema n s (input.GetPolicy id) (reply.Found r) t = Finds s id r × (t ≡ s)
+Step schema n s input.State (reply.Written r) t = Writes (state_text schema.label s) r × (t ≡ s)
+Step schema n s input.Summary (reply.Written r) t =
+    Writes (summary_text schema.label (deltas.summary_of s)) r × (t ≡ s)
+Step schema n s (input.Delta bytes) (reply.Written r) t = WritesDelta schema s bytes r × (t ≡ s)
+Step schema n s _ _ t = ⊥
+
+-- ---- runs
+
+-- From s to t by one step for each input, each with its reply. An example: site `east` begins with nothing. It is given
+-- a text for the policy `a`, which gets the stamp (1, `east`); is sent a message in which site `west` has put another
+-- text for `a` with the stamp (3, `west`), and takes it; and is asked to delete `a`, which gets the stamp (4, `east`).
+-- These are three inputs with three replies; three updates were taken, and the store at the end says that `a` was
+-- deleted at (4, `east`).
+abbrev pub Run : StatedSchema → List ℕ → Store → List Input → List Reply → Store → Type 0
+Run schema n s [] [] t = t ≡ s
+Run schema n s [] (r ∷ rs) t = ⊥
+Run schema n s (i ∷ is) [] t = ⊥
+Run schema n s (i ∷ is) (r ∷ rs) t = (m : Store) × Step schema n s i r m × Run schema n m is rs t
+
+-- the update that puts the entity that was stated, as its canonical text
+abbrev pub update_of_entity : Stamp → Result Entity EntityFault → List Update
+update_of_entity stamp (Ok e) = (entity_name e.uid, issued stamp (Some (canonical_text e))) ∷ []
+update_of_entity stamp (Err f) = []
+
+-- the updates that were stated
+abbrev pub updates_of_message : Result (List Update) MessageFault → List Update
+updates_of_message (Ok us) = us
+updates_of_message (Err f) = []
+
+-- The updates that were taken by an input with this reply: what a command was given a stamp for, or a message's, all or
+-- the first k. Those are among them that lose to a greater entry, and so never stand in the store.
+abbrev pub took_by : StatedSchema → Input → Reply → List Update
+took_by schema (input.PutPolicy id text) (reply.Put (Ok put)) = (policy_name id, issued put.stamp (Some text)) ∷ []
+took_by schema (input.DeletePolicy id) (reply.Stamped (Ok stamp)) = (policy_name id, issued stamp None) ∷ []
+took_by schema (input.PutEntity bytes) (reply.Stamped (Ok stamp)) =
+    update_of_entity stamp (entity_stated schema (json_of bytes))
+took_by schema (input.DeleteEntity uid) (reply.Stamped (Ok stamp)) = (entity_name uid, issued stamp None) ∷ []
+took_by schema (input.Take bytes) (reply.Taken (Ok (All k))) =
+    updates_of_message (updates_stated schema.label bytes)
+took_by schema (input.Take bytes) (reply.Taken (Ok (Short k))) =
+    take k (updates_of_message (updates_stated schema.label bytes))
+took_by schema _ _ = []
+
+-- the updates that were taken in a run, in their order: by each input with its reply
+abbrev pub took : StatedSchema → List Input → List Reply → List Update
+took schema [] rs = []
+took schema (i ∷ is) [] = []
+took schema (i ∷ is) (r ∷ rs) = took_by schema i r ++ took schema is rs
+
+-- t is what a site of this schema holds after a run, us being the updates that it had and those that it took. Any name
+-- will do, and any first store; so will any inputs, and replies that these may have.
+pub record HoldsAfter (schema : StatedSchema) (us : List Update) (t : Store) : Type 0 where
+  pub name : List ℕ
+  pub first : Store
+  pub inputs : List Input
+  pub replies : List Reply
+  pub run : Run schema name first inputs replies t
+  pub all : us ≡ updates first ++ took schema inputs replies

@@ -1,0 +1,108 @@
+-- What one call of a site may do: from the store s, with this outcome, to the store t. Rules of this product: a local
+-- command is judged by its own causes first and by the clock last, and is stamped with one more than the greatest count
+-- in the whole store; updates of another site are taken in their order; what is refused changes nothing, nor does what
+-- is asked.
+use Rattle.std.specs.Prelude.{◌≡◌, ◌↔◌, ◌<◌, ℕ, List, [], ◌∷◌, ◌++◌, length, take, Option, Some, None, IsSome}
+use Rattle.std.specs.Prelude.{IsTrue, Result, Ok, Err, option_and_then, option_map}
+use Rattle.std.specs.FinMap.{get}
+use Rattle.serde_json.specs.Data.{Data}
+use Rattle.values.specs.declared.name.Name.{Name}
+use Rattle.values.specs.declared.request.Request.{Request}
+use Rattle.site_store.specs.policy_grammar.declared.policy.Policy.{Policy}
+use Rattle.site_store.specs.authoriser.declared.answer.Answer.{Answer}
+use Rattle.site_store.specs.schema.Schemas.{StatedSchema}
+use Rattle.site_store.specs.entity_data.declared.entity.Entity.{Entity}
+use Rattle.site_store.specs.entities.Canonical.{canonical_text}
+use Rattle.site_store.specs.stamped_store.declared.entry.Stamp.{Stamp}
+use Rattle.site_store.specs.stamped_store.EntryOrder.{PlainEntry}
+use Rattle.site_store.specs.stamped_store.Contents.{text_under}
+use Rattle.site_store.specs.stamped_store.Deltas.{stamp_of}
+use Rattle.site_store.specs.stamped_store.Greatest.{greatest_count}
+use Rattle.site_store.specs.stamped_store.Store.{Store, Update, updates, store_of, issue, issued, policy_name}
+use Rattle.site_store.specs.stamped_store.Store.{entity_name}
+use Rattle.site_store.specs.site_meaning.Said.{IsAnswerOver, MakesCycle, MakesNoCycle}
+use Rattle.site_soundness.specs.validator.Passing.{IsImpossible}
+use Rattle.site_steps.specs.declared.fault.SiteFault.{SiteFault}
+use Rattle.site_steps.specs.declared.fault.SiteFault.TheVariants as fault
+use Rattle.site_steps.specs.declared.outcome.Put.{Put}
+use Rattle.site_steps.specs.declared.outcome.Taken as taking
+use Rattle.site_steps.specs.declared.outcome.Taken.TheVariants.{All, Short}
+use Rattle.site_steps.specs.Admitted.{IsPolicyUnder, IsEntityUnder, IsAdmitted, IsNotAdmitted, entity_stated}
+use Rattle.site_steps.specs.Admitted.{IsRequestOf, IsNoRequest}
+
+-- ---- local commands, at the site with name n
+
+-- the greatest count that a stamp may have
+abbrev pub most_count : ℕ
+most_count = 1_000_000_000_000_000_000
+
+-- A name gets this body with the next stamp: the store is that of its updates and this one. That the body may be put is
+-- stated where this is used.
+pub record Records (n : List ℕ) (s : Store) (name : Name) (body : Option (List ℕ)) (stamp : Stamp) (t : Store) : Type 0
+  where
+    pub clock : greatest_count s < most_count
+    pub next : stamp ≡ issue s n
+    pub store : t ≡ store_of (updates s ++ (name, issued stamp body) ∷ [])
+
+-- no stamp is left, and nothing changes
+abbrev pub IsClockFull : Store → Store → Type 0
+IsClockFull s t = (greatest_count s ≡ most_count) × (t ≡ s)
+
+-- a policy is put
+abbrev pub PutsPolicy : StatedSchema → List ℕ → Store → List ℕ → List ℕ → Result Put SiteFault → Store → Type 0
+PutsPolicy schema n s id text (Ok put) t =
+    (p : Policy) × IsAdmitted schema id text p × (IsTrue put.impossible ↔ IsImpossible schema p)
+    × Records n s (policy_name id) (Some text) put.stamp t
+PutsPolicy schema n s id text (Err fault.NoMemory) t = t ≡ s
+PutsPolicy schema n s id text (Err fault.ClockFull) t =
+    ((p : Policy) × IsAdmitted schema id text p) × IsClockFull s t
+PutsPolicy schema n s id text (Err f) t = IsNotAdmitted schema id text f × (t ≡ s)
+
+-- an entity is put, as its canonical text; whether it would be on a cycle is asked before the clock; None stands for
+-- bytes that are no JSON
+abbrev pub PutsEntity : StatedSchema → List ℕ → Store → Option Data → Result Stamp SiteFault → Store → Type 0
+PutsEntity schema n s json (Ok stamp) t =
+    (e : Entity) × (entity_stated schema json ≡ Ok e) × MakesNoCycle (IsEntityUnder schema) schema s e
+    × Records n s (entity_name e.uid) (Some (canonical_text e)) stamp t
+PutsEntity schema n s json (Err fault.NoMemory) t = t ≡ s
+PutsEntity schema n s json (Err (fault.Entity f)) t = (entity_stated schema json ≡ Err f) × (t ≡ s)
+PutsEntity schema n s json (Err fault.WouldCycle) t =
+    ((e : Entity) × (entity_stated schema json ≡ Ok e) × MakesCycle (IsEntityUnder schema) schema s e) × (t ≡ s)
+PutsEntity schema n s json (Err fault.ClockFull) t =
+    ((e : Entity) × (entity_stated schema json ≡ Ok e) × MakesNoCycle (IsEntityUnder schema) schema s e)
+    × IsClockFull s t
+PutsEntity schema n s json (Err _) t = ⊥
+
+-- a name that has a text gets a tombstone
+abbrev pub Deletes : List ℕ → Store → Name → Result Stamp SiteFault → Store → Type 0
+Deletes n s name (Ok stamp) t = IsSome (text_under s name) × Records n s name None stamp t
+Deletes n s name (Err fault.NoMemory) t = t ≡ s
+Deletes n s name (Err fault.NotThere) t = (text_under s name ≡ None) × (t ≡ s)
+Deletes n s name (Err fault.ClockFull) t = IsSome (text_under s name) × IsClockFull s t
+Deletes n s name (Err _) t = ⊥
+
+-- ---- updates that another site sent
+
+-- All updates are taken, or exactly the first k: the store is then that of the updates that it had and of these, which
+-- has at each name the greatest entry among them (`IsStoreOf` of stamped_store says so).
+abbrev pub TakesUpdates : Store → List Update → taking.Taken → Store → Type 0
+TakesUpdates s us (All k) t = (k ≡ length us) × (t ≡ store_of (updates s ++ us))
+TakesUpdates s us (Short k) t = (k < length us) × (t ≡ store_of (updates s ++ take k us))
+
+-- ---- questions, which change nothing
+
+-- a request is decided over the store; None stands for bytes that are no JSON
+abbrev pub Answers : StatedSchema → Store → Option Data → Result Answer SiteFault → Type 0
+Answers schema s json (Ok a) =
+    (q : Request) × IsRequestOf schema json q × IsAnswerOver (IsPolicyUnder schema) (IsEntityUnder schema) schema s q a
+Answers schema s json (Err fault.NoMemory) = Unit {0}
+Answers schema s json (Err (fault.Request f)) = IsNoRequest schema json f
+Answers schema s json (Err _) = ⊥
+
+-- the text and the stamp of an entry that has a text
+abbrev pub text_of : PlainEntry → Option (List ℕ × Stamp)
+text_of e = option_map (λ text. (text, stamp_of e)) e.body
+
+-- the text and the stamp that a policy has in a store; none where its id has no text there
+abbrev pub policy_found : Store → List ℕ → Option (List ℕ × Stamp)
+policy_found s id = option_and_then text_of (get s (policy_name id))

@@ -1,0 +1,197 @@
+//! Inputs of a site, answered one after another.
+ghost use Rattle.std.specs.Prelude.{◌≡◌, ◌++◌, IfOk, IfErr, OnErr, map};
+ghost use Rattle.std.specs.List.{AllByRecursion};
+ghost use Rattle.json_words.specs.Json.{json_of};
+ghost use Rattle.site_store.specs.schema.Views.{schema_view};
+ghost use Rattle.site_store.specs.stamped_store.Deltas.{summary_of};
+ghost use Rattle.site_store.specs.stamped_store.Store.{store_of, updates};
+ghost use Rattle.site_soundness.specs.message_format.Summaries.{summary_text};
+ghost use Rattle.site_soundness.specs.message_format.Messages.{state_text};
+ghost use Rattle.site_soundness.specs.Answers.{ErrsHarmlessly};
+ghost use Rattle.site_steps.specs.Admitted.{IsValidUnder};
+ghost use Rattle.site_steps.specs.Seen.{schema_of, store_in, IsSameSite};
+ghost use Rattle.site_steps.specs.Steps.{PutsEntity, Answers};
+ghost use Rattle.site_steps.specs.Inputs.{input_of};
+ghost use Rattle.site_steps.specs.Runs.{IsMessageOf, IsNoMessageOf, TakesMessage, Finds, Writes, WritesDelta};
+ghost use Rattle.site_steps.specs.Right.{AreHarmlessReplies};
+ghost use Rattle.site_steps.specs.Runs.{Step, Run, took};
+
+use crate::fault::SiteFault;
+use crate::input::Input;
+use crate::laws::runs_go_right;
+use crate::outcome::Taken;
+use crate::reply::{Found, Reply};
+use crate::site::Site;
+use json_values::{Scratch, read_json_by};
+use plain::{Items, NoMemory, Text};
+use site_soundness::{MessageFault, SchemaTexts, Summary, Update, read_message, read_summary};
+use site_store::{Answer, Entity, EntityFault, Policy, Schema, Stamp, updates_have_one_store};
+use std::alloc::Global;
+
+/// Puts the entity that bytes state, as its canonical text: JSON in UTF-8. Nothing is copied that is not kept.
+///
+/// Refused as [`Site::put_entity`] refuses; bytes that are no JSON have not an entity's form (30). What is refused
+/// changes nothing, nor does want of memory.
+fn put_entity(
+    alloc: Global,
+    scratch: &mut Scratch,
+    site: &mut Site,
+    bytes: &[u8],
+) -> Result<Stamp, SiteFault>
+    ensures puts { PutsEntity (schema_of site.old) site.old.name (store_in site.old) (json_of bytes.now) result
+        (store_in site.new) }
+    ensures same { IsSameSite site.old site.new }
+{
+    match read_json_by(scratch, alloc, bytes) {
+        Ok(Some(json)) => site.put_entity(&json),
+        Ok(None) => Err(SiteFault::Entity(EntityFault::BadShape)),
+        Err(_) => Err(SiteFault::NoMemory),
+    }
+}
+
+/// Returns the updates of a message, each valid under the schema.
+fn updates_of(
+    alloc: Global,
+    schema: &Schema,
+    bytes: &[u8],
+) -> Result<Vec<Update<Policy, Entity>>, SiteFault>
+    ensures read { IfOk result (λ us. IsMessageOf (schema_view schema.now) bytes.now us.items) }
+    ensures valid { IfOk result (λ us. AllByRecursion (IsValidUnder (schema_view schema.now)) us.items) }
+    ensures refused { IfErr result (IsNoMessageOf (schema_view schema.now) bytes.now) }
+{
+    let texts = SchemaTexts::under(schema);
+    match read_message(alloc, schema.label(), &texts, bytes) {
+        Ok(updates) => Ok(updates),
+        Err(MessageFault::NoMemory) => Err(SiteFault::NoMemory),
+        Err(fault) => Err(SiteFault::Message(fault)),
+    }
+}
+
+/// Takes the updates of a message, a state or a delta of another site of the schema, in their order.
+///
+/// A message is refused whole where its bytes are none under the schema, or any update is not valid (50 to 57); then
+/// nothing changes. Where memory is refused, nothing is taken, or exactly the first updates, and the answer says so.
+pub fn take_bytes(alloc: Global, site: &mut Site, bytes: &[u8]) -> Result<Taken, SiteFault>
+    ensures takes { TakesMessage (schema_of site.old) (store_in site.old) bytes.now result (store_in site.new) }
+    ensures same { IsSameSite site.old site.new }
+{
+    match updates_of(alloc, site.schema(), bytes) {
+        Ok(updates) => Ok(site.take(updates)),
+        Err(fault) => Err(fault),
+    }
+}
+
+/// Returns the answer to the request that bytes state: JSON in UTF-8. No policy errs in it for a type, an attribute or
+/// an extension function.
+///
+/// Refused as [`Site::authorize`] refuses; bytes that are no JSON have not a request's form (63, with 30 inside).
+fn authorize(
+    alloc: Global,
+    scratch: &mut Scratch,
+    site: &Site,
+    bytes: &[u8],
+) -> Result<Answer, SiteFault>
+    ensures answers { Answers (schema_of site.now) (store_in site.now) (json_of bytes.now) result }
+    ensures right { IfOk result ErrsHarmlessly }
+{
+    match read_json_by(scratch, alloc, bytes) {
+        Ok(Some(json)) => site.authorize(&json),
+        Ok(None) => Err(SiteFault::Request(EntityFault::BadShape)),
+        Err(_) => Err(SiteFault::NoMemory),
+    }
+}
+
+/// Returns the text and the stamp of the policy of this id.
+fn find_policy(alloc: Global, site: &Site, id: &str) -> Result<Option<Found>, SiteFault>
+    ensures { Finds (store_in site.now) id.now result }
+{
+    match site.get_policy(id) {
+        Some((text, stamp)) => {
+            let text = Text::from_str(alloc, text)?;
+            Ok(Some(Found { text, stamp }))
+        }
+        None => Ok(None),
+    }
+}
+
+/// Returns the state, as a message to other sites of the schema. Fails for memory alone.
+fn state(site: &Site) -> Result<Items<u8>, SiteFault>
+    ensures { Writes (state_text (schema_of site.now).label (store_in site.now)) result }
+{
+    let bytes = site.state()?;
+    Ok(Items::from_vec(bytes))
+}
+
+/// Returns the summary, as a message to other sites of the schema. Fails for memory alone.
+fn summary(site: &Site) -> Result<Items<u8>, SiteFault>
+    ensures { Writes (summary_text (schema_of site.now).label (summary_of (store_in site.now))) result }
+{
+    let bytes = site.summary()?;
+    Ok(Items::from_vec(bytes))
+}
+
+/// Returns what is news to whoever has the summary that bytes are, as a message to that site.
+///
+/// Refused where the bytes are no summary of the schema, as [`read_summary`] refuses.
+fn delta(alloc: Global, site: &Site, bytes: &[u8]) -> Result<Items<u8>, SiteFault>
+    ensures { WritesDelta (schema_of site.now) (store_in site.now) bytes.now result }
+{
+    match read_summary(alloc, site.schema().label(), bytes) {
+        Ok(since) => match site.delta(&since) {
+            Ok(bytes) => Ok(Items::from_vec(bytes)),
+            Err(_) => Err(SiteFault::NoMemory),
+        },
+        Err(MessageFault::NoMemory) => Err(SiteFault::NoMemory),
+        Err(fault) => Err(SiteFault::Message(fault)),
+    }
+}
+
+/// Answers one input: at most one step of the site. `scratch` is memory that is reused for the next input; its old
+/// content has no effect.
+pub fn answer(alloc: Global, scratch: &mut Scratch, site: &mut Site, input: &Input<'_>) -> Reply
+    ensures step { Step (schema_of site.old) site.old.name (store_in site.old) (input_of input.now) result
+        (store_in site.new) }
+    ensures same { IsSameSite site.old site.new }
+{
+    match input {
+        Input::PutPolicy(id, text) => Reply::Put(site.put_policy(id, text)),
+        Input::DeletePolicy(id) => Reply::Stamped(site.delete_policy(id)),
+        Input::PutEntity(bytes) => Reply::Stamped(put_entity(alloc, scratch, site, bytes)),
+        Input::DeleteEntity(uid) => Reply::Stamped(site.delete_entity(uid)),
+        Input::Take(bytes) => Reply::Taken(take_bytes(alloc, site, bytes)),
+        Input::Authorize(bytes) => Reply::Answered(authorize(alloc, scratch, site, bytes)),
+        Input::GetPolicy(id) => Reply::Found(find_policy(alloc, site, id)),
+        Input::State => Reply::Written(state(site)),
+        Input::Summary => Reply::Written(summary(site)),
+        Input::Delta(bytes) => Reply::Written(delta(alloc, site, bytes)),
+    }
+}
+
+/// Answers inputs in their order, each with its reply. The store is then that of the updates that the site had and of
+/// those that it took: what its commands were given a stamp for, and what the messages held. In no answer does a policy
+/// err for a type, an attribute or an extension function.
+///
+/// Fails where there is no memory for the list of replies; then nothing was done. Other wants of memory are replies,
+/// and the inputs behind them are answered all the same.
+pub fn run(alloc: Global, site: &mut Site, inputs: &[Input<'_>]) -> Result<Vec<Reply>, NoMemory>
+    ensures steps { IfOk result (λ replies. Run (schema_of site.old) site.old.name (store_in site.old)
+        (map input_of inputs.now) replies.items (store_in site.new)) }
+    ensures store { IfOk result (λ replies. store_in site.new
+        ≡ store_of (updates (store_in site.old) ++ took (schema_of site.old) (map input_of inputs.now) replies.items)) }
+    ensures right { IfOk result (λ replies. AreHarmlessReplies replies.items) }
+    ensures same { IsSameSite site.old site.new }
+    ensures err { OnErr result (site.new ≡ site.old) }
+{
+    updates_have_one_store();
+    runs_go_right();
+    site.schema().is_stated();
+    let mut replies = Vec::with_capacity(alloc, inputs.len())?;
+    let mut scratch = Scratch::new(alloc);
+    for input in inputs {
+        let reply = answer(alloc, &mut scratch, site, input);
+        if let Err(_) = replies.push(reply) {
+            unreachable!();
+        }
+    }
+    Ok(replies)
+}

@@ -1,0 +1,297 @@
+//! The commands of a site: what puts a policy or an entity, and what takes one away.
+ghost use Rattle.std.specs.Prelude.{◌≡◌, ◌≤◌, IfOk, is_some, true, false, option_map, option_and_then, Some, None, Ok};
+ghost use Rattle.std.specs.Prelude.{Err, MatchResult, string_bytes};
+ghost use Rattle.std.specs.Option.{option_copied};
+ghost use Rattle.std.specs.FinMap.{get};
+ghost use Rattle.serde_json.specs.View.{view};
+ghost use Rattle.site_store.specs.entity_data.declared.entity.Entity.{Entity};
+ghost use Rattle.site_store.specs.entities.Canonical.{canonical_text};
+ghost use Rattle.site_store.specs.stamped_store.Contents.{text_under};
+ghost use Rattle.site_store.specs.stamped_store.EntryOrder.{body_bytes, plain_entry};
+ghost use Rattle.site_store.specs.stamped_store.Greatest.{greatest_count};
+ghost use Rattle.site_store.specs.stamped_store.Reading.{IsBodyRead};
+ghost use Rattle.site_store.specs.stamped_store.Store.{abstract_store, policy_name, entity_name, issued};
+ghost use Rattle.site_store.specs.stamped_store.Store.{KeepsOtherNames};
+ghost use Rattle.site_store.specs.site_meaning.Said.{MakesCycle, MakesNoCycle};
+ghost use Rattle.site_soundness.specs.message_format.Summaries.{IsName};
+ghost use Rattle.site_steps.specs.Admitted.{IsPolicyUnder, IsEntityUnder, entity_stated};
+ghost use Rattle.site_steps.specs.Seen.{schema_of, store_in, IsSameSite};
+ghost use Rattle.site_steps.specs.Steps.{PutsPolicy, PutsEntity, Deletes};
+ghost use Rattle.site_steps.specs.inner.Recording.{RecordsOr, PutsUnless, IsNext, put_result};
+
+use crate::fault::SiteFault;
+use crate::judging::{CheckedPolicy, judged_policy, stated_entity};
+use crate::outcome::Put;
+use crate::ranges::ranges_stay;
+use crate::site::Site;
+use crate::under_schema::{readings_stay, would_cycle};
+use plain::NoMemory;
+use serde_json::Value;
+use site_store::{
+    COUNT_MAX, Entity, Entry, Policy, PolicyStore, ReadText, SiteName, Stamp, stamps_are_issued,
+};
+use values::EntityUid;
+
+/// Returns the outcome of a put: its stamp, and whether the policy is impossible.
+fn put_of(stamped: Result<Stamp, SiteFault>, impossible: bool) -> Result<Put, SiteFault>
+    ensures { result ≡ put_result impossible stamped }
+{
+    match stamped {
+        Ok(stamp) => Ok(Put { stamp, impossible }),
+        Err(fault) => Err(fault),
+    }
+}
+
+/// Returns the outcome of storing an entry: its stamp, or want of memory.
+fn stamped<T: Drop>(taken: Result<(), T>, stamp: &Stamp) -> Result<Stamp, SiteFault>
+    ensures { MatchResult taken (λ _. result ≡ Ok stamp.now) (λ _. result ≡ Err SiteFault.NoMemory) }
+{
+    match taken {
+        Ok(()) => Ok(*stamp),
+        Err(_) => Err(SiteFault::NoMemory),
+    }
+}
+
+/// Returns whether an entry is there and has a text.
+fn has_text<P>(entry: Option<&Entry<P>>) -> bool
+    ensures { result ≡ is_some (option_and_then (λ e. e.body) (option_map plain_entry (option_copied entry.entry))) }
+{
+    match entry {
+        Some(entry) => entry.body.is_some(),
+        None => false,
+    }
+}
+
+/// Returns a refusal of what would have been stored, which is dropped.
+fn refused<T: Drop>(_dropped: T, fault: SiteFault) -> Result<Stamp, SiteFault>
+    ensures { result ≡ Err fault }
+{
+    Err(fault)
+}
+
+/// Returns the stamp of the next local command at a site; None where no stamp is left.
+fn next_stamp(store: &PolicyStore<Policy, Entity>, name: SiteName) -> Option<Stamp>
+    requires { greatest_count (abstract_store store.now) ≤ COUNT_MAX }
+    ensures { IsNext name (abstract_store store.now) result }
+{
+    if store.greatest_count() >= COUNT_MAX {
+        return None;
+    }
+    Some(store.issue(name))
+}
+
+impl Site {
+    /// Stamps a policy's body and stores it.
+    fn record_policy(
+        &mut self,
+        id: String,
+        body: Option<ReadText<Policy>>,
+    ) -> Result<Stamp, SiteFault>
+        requires named { IsName (policy_name (string_bytes id)) }
+        requires read { IsBodyRead (IsPolicyUnder (schema_of self.old) (string_bytes id)) body }
+        ensures records { RecordsOr self.old.name (store_in self.old) (policy_name (string_bytes id))
+            (body_bytes body) result (store_in self.new) }
+        ensures others { KeepsOtherNames (policy_name (string_bytes id)) (store_in self.old) (store_in self.new) }
+        ensures same { IsSameSite self.old self.new }
+    {
+        readings_stay();
+        ranges_stay();
+        match next_stamp(self.store.store(), self.name) {
+            Some(stamp) => {
+                let entry = Entry { stamp, body };
+                let taken = self.store.record_policy(id, entry);
+                stamped(taken, &stamp)
+            }
+            None => refused((id, body), SiteFault::ClockFull),
+        }
+    }
+
+    /// Stamps an entity's body and stores it.
+    fn record_entity(
+        &mut self,
+        uid: EntityUid,
+        body: Option<ReadText<Entity>>,
+    ) -> Result<Stamp, SiteFault>
+        requires named { IsName (entity_name uid) }
+        requires read { IsBodyRead (IsEntityUnder (schema_of self.old) uid) body }
+        ensures records { RecordsOr self.old.name (store_in self.old) (entity_name uid) (body_bytes body) result
+            (store_in self.new) }
+        ensures others { KeepsOtherNames (entity_name uid) (store_in self.old) (store_in self.new) }
+        ensures same { IsSameSite self.old self.new }
+    {
+        readings_stay();
+        ranges_stay();
+        match next_stamp(self.store.store(), self.name) {
+            Some(stamp) => {
+                let entry = Entry { stamp, body };
+                let taken = self.store.record_entity(uid, entry);
+                stamped(taken, &stamp)
+            }
+            None => refused((uid, body), SiteFault::ClockFull),
+        }
+    }
+
+    /// Puts a policy's text under an id, in place of what is there, and tells whether the policy is impossible: False
+    /// in each environment of the schema.
+    ///
+    /// Refused in this order: the id has not 1 to 256 bytes (19); the text is no policy's (10 to 18); the policy does
+    /// not pass under the schema (40 to 46); no stamp is left (62). What is refused changes nothing, nor does want of
+    /// memory.
+    pub fn put_policy(&mut self, id: &str, text: &str) -> Result<Put, SiteFault>
+        ensures puts { PutsPolicy (schema_of self.old) self.old.name (store_in self.old) id.now text.now result
+            (store_in self.new) }
+        ensures stands { IfOk result
+            (λ put. get (store_in self.new) (policy_name id.now) ≡ Some (issued put.stamp (Some text.now))) }
+        ensures others { KeepsOtherNames (policy_name id.now) (store_in self.old) (store_in self.new) }
+        ensures same { IsSameSite self.old self.new }
+    {
+        stamps_are_issued();
+        match judged_policy(self.alloc, self.store.schema(), id, text) {
+            Ok(judged) => {
+                let CheckedPolicy {
+                    id,
+                    body,
+                    impossible,
+                } = judged;
+                let stamped = self.record_policy(id, Some(body));
+                put_of(stamped, impossible)
+            }
+            Err(fault) => Err(fault),
+        }
+    }
+
+    /// Returns whether a policy has a text.
+    fn has_policy(&self, id: &str) -> bool
+        ensures { result ≡ is_some (text_under (store_in self.now) (policy_name id.now)) }
+    {
+        has_text(self.store.store().get_policy(id))
+    }
+
+    /// Returns whether an entity has a text.
+    fn has_entity(&self, uid: &EntityUid) -> bool
+        ensures { result ≡ is_some (text_under (store_in self.now) (entity_name uid.now)) }
+    {
+        has_text(self.store.store().get_entity(uid))
+    }
+
+    /// Stamps and stores that a policy is taken away.
+    fn remove_policy(&mut self, id: &str) -> Result<Stamp, SiteFault>
+        requires { IsName (policy_name id.now) }
+        ensures records { RecordsOr self.old.name (store_in self.old) (policy_name id.now) None result
+            (store_in self.new) }
+        ensures others { KeepsOtherNames (policy_name id.now) (store_in self.old) (store_in self.new) }
+        ensures same { IsSameSite self.old self.new }
+    {
+        let id = String::from_str(self.alloc, id)?;
+        self.record_policy(id, None)
+    }
+
+    /// Takes a policy away: its id gets a tombstone.
+    ///
+    /// Refused where the id has no text (60), then where no stamp is left (62). What is refused changes nothing, nor
+    /// does want of memory.
+    pub fn delete_policy(&mut self, id: &str) -> Result<Stamp, SiteFault>
+        ensures deletes { Deletes self.old.name (store_in self.old) (policy_name id.now) result (store_in self.new) }
+        ensures stands { IfOk result
+            (λ stamp. get (store_in self.new) (policy_name id.now) ≡ Some (issued stamp None)) }
+        ensures others { KeepsOtherNames (policy_name id.now) (store_in self.old) (store_in self.new) }
+        ensures same { IsSameSite self.old self.new }
+    {
+        if !self.has_policy(id) {
+            return Err(SiteFault::NotThere);
+        }
+        stamps_are_issued();
+        ranges_stay();
+        self.holds_valid_updates();
+        self.remove_policy(id)
+    }
+
+    /// Stamps and stores that an entity is taken away.
+    fn remove_entity(&mut self, uid: &EntityUid) -> Result<Stamp, SiteFault>
+        requires { IsName (entity_name uid.now) }
+        ensures records { RecordsOr self.old.name (store_in self.old) (entity_name uid.now) None result
+            (store_in self.new) }
+        ensures others { KeepsOtherNames (entity_name uid.now) (store_in self.old) (store_in self.new) }
+        ensures same { IsSameSite self.old self.new }
+    {
+        let uid = uid.copy()?;
+        self.record_entity(uid, None)
+    }
+
+    /// Takes an entity away: its uid gets a tombstone. Edges to it stay, and lead to an entity that is not stored.
+    ///
+    /// Refused where the uid has no text (60), then where no stamp is left (62). What is refused changes nothing, nor
+    /// does want of memory.
+    pub fn delete_entity(&mut self, uid: &EntityUid) -> Result<Stamp, SiteFault>
+        ensures deletes { Deletes self.old.name (store_in self.old) (entity_name uid.now) result (store_in self.new) }
+        ensures stands { IfOk result
+            (λ stamp. get (store_in self.new) (entity_name uid.now) ≡ Some (issued stamp None)) }
+        ensures others { KeepsOtherNames (entity_name uid.now) (store_in self.old) (store_in self.new) }
+        ensures same { IsSameSite self.old self.new }
+    {
+        if !self.has_entity(uid) {
+            return Err(SiteFault::NotThere);
+        }
+        stamps_are_issued();
+        ranges_stay();
+        self.holds_valid_updates();
+        self.remove_entity(uid)
+    }
+
+    /// Returns whether an entity would be on a cycle once it is put.
+    fn makes_cycle(&self, entity: &Entity) -> Result<bool, NoMemory>
+        ensures yes { IfOk result (λ yes. yes ≡ true → MakesCycle (IsEntityUnder (schema_of self.now))
+            (schema_of self.now) (store_in self.now) entity.now) }
+        ensures no { IfOk result (λ yes. yes ≡ false → MakesNoCycle (IsEntityUnder (schema_of self.now))
+            (schema_of self.now) (store_in self.now) entity.now) }
+    {
+        would_cycle(&self.store, entity)
+    }
+
+    /// Puts an entity that was read, unless it would be on a cycle.
+    fn put_unless(
+        &mut self,
+        cycle: Result<bool, NoMemory>,
+        uid: EntityUid,
+        body: ReadText<Entity>,
+    ) -> Result<Stamp, SiteFault>
+        requires named { IsName (entity_name uid) }
+        requires read { IsEntityUnder (schema_of self.old) uid body.text body.read }
+        ensures puts { PutsUnless self.old.name (store_in self.old) cycle uid body.text result (store_in self.new) }
+        ensures others { KeepsOtherNames (entity_name uid) (store_in self.old) (store_in self.new) }
+        ensures same { IsSameSite self.old self.new }
+    {
+        match cycle {
+            Ok(false) => self.record_entity(uid, Some(body)),
+            Ok(true) => refused((uid, body), SiteFault::WouldCycle),
+            Err(_) => refused((uid, body), SiteFault::NoMemory),
+        }
+    }
+
+    /// Puts the entity that JSON states, as its canonical text, in place of what its uid has.
+    ///
+    /// Refused in this order: the JSON states no entity under the schema (30 to 38); the entity would be on a cycle
+    /// once it is put (61), whatever cycles of others there are; no stamp is left (62). What is refused changes
+    /// nothing, nor does want of memory. Asking for a cycle takes two look-ups for each parent, and where the kept
+    /// ancestors do not stand a search that is linear in what is above the entity. Where the parents are others than
+    /// before, the ancestors of all below the entity are written anew.
+    pub fn put_entity(&mut self, json: &Value) -> Result<Stamp, SiteFault>
+        ensures puts { PutsEntity (schema_of self.old) self.old.name (store_in self.old) (Some (view json.now)) result
+            (store_in self.new) }
+        ensures stands { IfOk result (λ stamp. (e : Entity)
+            × (entity_stated (schema_of self.old) (Some (view json.now)) ≡ Ok e)
+            × (get (store_in self.new) (entity_name e.uid) ≡ Some (issued stamp (Some (canonical_text e))))
+            × KeepsOtherNames (entity_name e.uid) (store_in self.old) (store_in self.new)) }
+        ensures same { IsSameSite self.old self.new }
+    {
+        stamps_are_issued();
+        match stated_entity(self.alloc, self.store.schema(), json) {
+            Ok(stated) => {
+                let (uid, body) = stated;
+                let cycle = self.makes_cycle(&body.read);
+                self.put_unless(cycle, uid, body)
+            }
+            Err(fault) => Err(fault),
+        }
+    }
+}

@@ -1,0 +1,212 @@
+//! What is handed in, judged under the schema alone.
+ghost use Rattle.std.specs.Prelude.{◌≡◌, ◌≢◌, ◌↔◌, ℕ, List, IsTrue, IfOk, IfErr, Some, Ok, Err, string_bytes};
+ghost use Rattle.serde_json.specs.View.{view};
+ghost use Rattle.plain.specs.Words.{IsPath};
+ghost use Rattle.site_store.specs.policy_grammar.Limits.{IsId};
+ghost use Rattle.site_store.specs.policy_grammar.PolicyText.{IsPolicyText};
+ghost use Rattle.site_store.specs.schema.Schemas.{StatedSchema};
+ghost use Rattle.site_store.specs.schema.Views.{schema_view};
+ghost use Rattle.site_store.specs.entities.Canonical.{canonical_text};
+ghost use Rattle.site_store.specs.entities.Entities.{entity_stated_in};
+ghost use Rattle.site_soundness.specs.validator.Passing.{Passes, IsImpossible};
+ghost use Rattle.plain.specs.Refused.{OrNoMemory};
+ghost use Rattle.site_steps.specs.declared.fault.SiteFault.TheVariants as SiteFault;
+ghost use Rattle.site_steps.specs.Admitted.{IsEntityUnder, IsNotAdmitted, IsRequestOf};
+ghost use Rattle.site_steps.specs.inner.Recording.{IsStated, IsStatedBy, StatesNone, AsksNone, IsJudged};
+
+use crate::fault::SiteFault;
+use plain::{NoMemory, Text};
+use serde_json::Value;
+use site_soundness::{check, names_read_back};
+use site_store::{
+    Entity, EntityFault, MOST_ID_BYTES, Policy, ReadFault, ReadText, Schema, canonical_text,
+    entities_read_back, parse_policy, read_entity, read_request, stated_schemas_are_well_formed,
+};
+use std::alloc::Global;
+use values::{EntityUid, Request};
+
+// ---- policies
+
+/// Returns whether a policy may have this id.
+fn is_id(id: &str) -> bool
+    ensures { IsTrue result ↔ IsId id.now }
+{
+    1 <= id.len() && id.len() <= MOST_ID_BYTES
+}
+
+/// Returns the policy that a text is, whether it passes or not.
+fn policy_of(alloc: Global, text: &str) -> Result<Policy, SiteFault>
+    ensures read { IfOk result (IsPolicyText text.now) }
+    ensures refused { IfErr result (λ f. (s : StatedSchema) (id : List ℕ) → IsId id
+        → OrNoMemory SiteFault.NoMemory (IsNotAdmitted s id text.now) f) }
+{
+    match parse_policy(alloc, text) {
+        Ok(policy) => Ok(policy),
+        Err(fault) => Err(SiteFault::from(fault)),
+    }
+}
+
+/// Returns whether a policy that passes is impossible.
+fn is_impossible(alloc: Global, schema: &Schema, policy: &Policy) -> Result<bool, SiteFault>
+    ensures passes { IfOk result (λ yes. Passes (schema_view schema.now) policy.now
+        × (IsTrue yes ↔ IsImpossible (schema_view schema.now) policy.now)) }
+    ensures refused { IfErr result (λ f. (id text : List ℕ) → IsId id → IsPolicyText text policy.now
+        → OrNoMemory SiteFault.NoMemory (IsNotAdmitted (schema_view schema.now) id text) f) }
+{
+    match check(alloc, schema, policy) {
+        Ok(verdict) => Ok(verdict.impossible),
+        Err(fault) => Err(SiteFault::from(fault)),
+    }
+}
+
+/// A policy that may be put: its id, what its text was read as beside the text, and whether it is impossible.
+#[derive(Drop)]
+pub(crate) struct CheckedPolicy<P> {
+    pub(crate) id: String,
+    pub(crate) body: ReadText<P>,
+    pub(crate) impossible: bool,
+}
+
+/// Returns what was read, beside its id, its text and its verdict.
+fn with_verdict<P: Drop>(
+    read: P,
+    verdict: Result<bool, SiteFault>,
+    id: Result<String, NoMemory>,
+    text: Result<Text, NoMemory>,
+) -> Result<CheckedPolicy<P>, SiteFault>
+    ensures all { IfOk result (λ j. (j.body.read ≡ read) × (verdict ≡ Ok j.impossible) × (id ≡ Ok j.id)
+        × (text ≡ Ok j.body.text)) }
+    ensures refused { IfErr result (λ f. f ≢ SiteFault.NoMemory → verdict ≡ Err f) }
+{
+    let impossible = verdict?;
+    let id = id?;
+    let text = text?;
+    let body = ReadText { text, read };
+    Ok(CheckedPolicy {
+        id,
+        body,
+        impossible,
+    })
+}
+
+/// Returns the text of a put: the one that was handed in.
+fn handed_in(alloc: Global, text: &str) -> Result<Text, NoMemory>
+    ensures { IfOk result (λ t. t ≡ text.now) }
+{
+    Text::from_str(alloc, text)
+}
+
+/// Returns the policy that may be put under an id, beside its text, and whether it is impossible. The id is judged
+/// first, then the text, then the policy.
+pub(crate) fn judged_policy(
+    alloc: Global,
+    schema: &Schema,
+    id: &str,
+    text: &str,
+) -> Result<CheckedPolicy<Policy>, SiteFault>
+    ensures named { IfOk result (λ j. string_bytes j.id ≡ id.now) }
+    ensures judged { IfOk result
+        (λ j. IsJudged (schema_view schema.now) id.now text.now j.body j.impossible) }
+    ensures refused { IfErr result
+        (OrNoMemory SiteFault.NoMemory (IsNotAdmitted (schema_view schema.now) id.now text.now)) }
+{
+    if !is_id(id) {
+        return Err(SiteFault::Policy(ReadFault::BadId));
+    }
+    match policy_of(alloc, text) {
+        Ok(policy) => {
+            let verdict = is_impossible(alloc, schema, &policy);
+            let id = String::from_str(alloc, id);
+            let text = handed_in(alloc, text);
+            with_verdict(policy, verdict, id, text)
+        }
+        Err(fault) => Err(fault),
+    }
+}
+
+// ---- entities
+
+/// Returns the entity that JSON states.
+fn entity_of(alloc: Global, schema: &Schema, json: &Value) -> Result<Entity, SiteFault>
+    ensures states { IfOk result (λ e. entity_stated_in (schema_view schema.now) (view json.now) ≡ Ok e) }
+    ensures path { IfOk result (λ e. IsPath e.uid.type_name) }
+    ensures refused { IfErr result
+        (OrNoMemory SiteFault.NoMemory (StatesNone (schema_view schema.now) (Some (view json.now)))) }
+{
+    names_read_back();
+    match read_entity(alloc, schema, json) {
+        Ok(entity) => Ok(entity),
+        Err(EntityFault::NoMemory) => Err(SiteFault::NoMemory),
+        Err(fault) => Err(SiteFault::Entity(fault)),
+    }
+}
+
+/// Returns the one text of an entity that some JSON states: it is read as this entity again.
+fn text_of(alloc: Global, schema: &Schema, entity: &Entity) -> Result<Text, NoMemory>
+    requires { IsStated (schema_view schema.now) entity.now }
+    ensures text { IfOk result (λ t. t ≡ canonical_text entity.now) }
+    ensures reads { IfOk result (λ t. IsEntityUnder (schema_view schema.now) entity.now.uid t entity.now) }
+{
+    schema.is_stated();
+    stated_schemas_are_well_formed();
+    entities_read_back();
+    let bytes = canonical_text(alloc, entity)?;
+    match String::from_utf8(bytes) {
+        Ok(text) => Ok(Text::from_string(text)),
+        Err(_) => unreachable!(),
+    }
+}
+
+/// Returns what was read, beside its name and its text.
+fn with_name_and_text<N: Drop, P: Drop>(
+    read: P,
+    name: Result<N, NoMemory>,
+    text: Result<Text, NoMemory>,
+) -> Result<(N, ReadText<P>), SiteFault>
+    ensures all { IfOk result (λ b. (b.1.read ≡ read) × (name ≡ Ok b.0) × (text ≡ Ok b.1.text)) }
+    ensures refused { IfErr result (λ f. f ≡ SiteFault.NoMemory) }
+{
+    let name = name?;
+    let text = text?;
+    Ok((name, ReadText { text, read }))
+}
+
+/// Returns the entity that JSON states, beside its one text, and its uid.
+pub(crate) fn stated_entity(
+    alloc: Global,
+    schema: &Schema,
+    json: &Value,
+) -> Result<(EntityUid, ReadText<Entity>), SiteFault>
+    ensures named { IfOk result (λ b. b.0 ≡ b.1.read.uid) }
+    ensures stated { IfOk result (λ b. IsStatedBy (schema_view schema.now) (Some (view json.now)) b.1) }
+    ensures refused { IfErr result
+        (OrNoMemory SiteFault.NoMemory (StatesNone (schema_view schema.now) (Some (view json.now)))) }
+{
+    match entity_of(alloc, schema, json) {
+        Ok(entity) => {
+            let uid = entity.uid.copy();
+            let text = text_of(alloc, schema, &entity);
+            with_name_and_text(entity, uid, text)
+        }
+        Err(fault) => Err(fault),
+    }
+}
+
+// ---- requests
+
+/// Returns the request that JSON states.
+pub(crate) fn stated_request(
+    alloc: Global,
+    schema: &Schema,
+    json: &Value,
+) -> Result<Request, SiteFault>
+    ensures stated { IfOk result (IsRequestOf (schema_view schema.now) (Some (view json.now))) }
+    ensures refused { IfErr result
+        (OrNoMemory SiteFault.NoMemory (AsksNone (schema_view schema.now) (Some (view json.now)))) }
+{
+    match read_request(alloc, schema, json) {
+        Ok(request) => Ok(request),
+        Err(EntityFault::NoMemory) => Err(SiteFault::NoMemory),
+        Err(fault) => Err(SiteFault::Request(fault)),
+    }
+}

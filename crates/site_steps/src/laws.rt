@@ -1,0 +1,79 @@
+//! Laws of runs, each the contract of a function that does nothing.
+ghost use Rattle.std.specs.Prelude.{◌≡◌, ◌↔◌, ℕ, List, Contains};
+ghost use Rattle.values.specs.declared.request.Request.{Request};
+ghost use Rattle.site_store.specs.authoriser.declared.answer.Answer.{Answer};
+ghost use Rattle.site_store.specs.schema.SchemaEntries.{SchemaEntries as SchemaKept};
+ghost use Rattle.site_store.specs.schema.Schemas.{StatedSchema, IsSchemaOf};
+ghost use Rattle.site_store.specs.schema.Views.{schema_view};
+ghost use Rattle.site_store.specs.stamped_store.Store.{Store, Update};
+ghost use Rattle.site_store.specs.site_meaning.Said.{IsAnswerOver};
+ghost use Rattle.site_soundness.specs.message_format.Messages.{state_text};
+ghost use Rattle.site_steps.specs.Admitted.{IsPolicyUnder, IsEntityUnder};
+ghost use Rattle.site_steps.specs.Outcomes.{InputsHaveAnOutcome, InputsHaveOneOutcome};
+ghost use Rattle.site_steps.specs.Right.{RunsGoRight};
+ghost use Rattle.site_steps.specs.Runs.{HoldsAfter};
+
+use site_soundness::{
+    SchemaTexts, messages_have_one_outcome, policies_have_one_outcome, stored_answers_go_right,
+    stored_texts_have_one_reading,
+};
+use site_store::{
+    Entity, Policy, contents_are_told, paths_are_decided, requests_have_one_answer,
+    requests_have_one_outcome, stamps_are_issued, stores_have_one_reading, texts_have_one_reading,
+    updates_have_one_store,
+};
+
+/// Sites of one schema that had and took equal sets of updates hold equal stores, whatever their names, and in
+/// whatever order, as often and in whatever groups the updates came; so they write equal states, and answer a request
+/// equally.
+pub fn equal_updates_leave_equal_stores()
+    ensures stores { (schema : StatedSchema) (us vs : List Update) (s t : Store) → HoldsAfter schema us s
+        → HoldsAfter schema vs t → ((u : Update) → (Contains us u ↔ Contains vs u)) → s ≡ t }
+    ensures states { (schema : StatedSchema) (us vs : List Update) (s t : Store) → HoldsAfter schema us s
+        → HoldsAfter schema vs t → ((u : Update) → (Contains us u ↔ Contains vs u))
+        → state_text schema.label s ≡ state_text schema.label t }
+    ensures answers { (bytes : List ℕ) (schema : SchemaKept) (us vs : List Update) (s t : Store) (q : Request)
+        (a b : Answer) → IsSchemaOf bytes (schema_view schema) → HoldsAfter (schema_view schema) us s
+        → HoldsAfter (schema_view schema) vs t → ((u : Update) → (Contains us u ↔ Contains vs u))
+        → IsAnswerOver (IsPolicyUnder (schema_view schema)) (IsEntityUnder (schema_view schema)) (schema_view schema)
+        s q a
+        → IsAnswerOver (IsPolicyUnder (schema_view schema)) (IsEntityUnder (schema_view schema)) (schema_view schema)
+        t q b
+        → a ≡ b }
+{
+    updates_have_one_store();
+    stored_texts_have_one_reading();
+    requests_have_one_answer::<SchemaTexts<'static>>();
+}
+
+/// Under each schema that bytes state and a site keeps, each input to a site has exactly one outcome wherever memory
+/// suffices, over any store that a site of the schema may hold: one reply and one store behind it. So nothing is
+/// refused but for a cause that is told, and nothing is told for two causes: a command that is valid is refused for
+/// an absent name, a cycle or a full clock alone, a message of valid updates never.
+pub fn inputs_have_one_outcome()
+    ensures some { (bytes : List ℕ) (schema : SchemaKept) → IsSchemaOf bytes (schema_view schema)
+        → InputsHaveAnOutcome (schema_view schema) }
+    ensures one { (bytes : List ℕ) (schema : SchemaKept) → IsSchemaOf bytes (schema_view schema)
+        → InputsHaveOneOutcome (schema_view schema) }
+{
+    messages_have_one_outcome::<Policy, Entity, SchemaTexts<'static>>();
+    texts_have_one_reading();
+    policies_have_one_outcome();
+    stored_texts_have_one_reading();
+    requests_have_one_outcome();
+    stores_have_one_reading::<SchemaTexts<'static>>();
+    requests_have_one_answer::<SchemaTexts<'static>>();
+    updates_have_one_store();
+    stamps_are_issued();
+    contents_are_told();
+    paths_are_decided();
+}
+
+/// No reply of a run tells of an error of type, of attribute or of an extension function: in an answer a policy errs
+/// since an entity is not stored, or since a number leaves its bounds. What is replied to requests of HTTP is of such
+/// runs, each of one step (`http_service::served_answers_go_right`).
+pub fn runs_go_right()
+    ensures { RunsGoRight }
+{
+    stored_answers_go_right();
+}

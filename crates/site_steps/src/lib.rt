@@ -1,0 +1,41 @@
+//! A site: a store of stamped texts under one schema, changed by its own commands and by messages, and asked; and runs
+//! of a site: what comes to it, what it answers, and what its store is after all of it.
+//!
+//! The store is the only owner of policies and entities. Answers come from what stands beside its texts, as these were
+//! read, by an index of the policies and the ancestors that it keeps; no contract speaks of these two. The store at the
+//! end of a run is told without the steps between: it is that of the updates that the site had and of those that it
+//! took. So sites of one schema that took equal sets of updates hold equal stores, in whatever order, as often and in
+//! whatever groups the updates came.
+#![tactic(auto)]
+
+mod answering;
+mod commands;
+mod fault;
+mod input;
+mod judging;
+mod laws;
+mod leaving;
+mod outcome;
+mod ranges;
+mod reply;
+mod site;
+mod under_schema;
+mod updates;
+
+pub use answering::{answer, run, take_bytes};
+pub use fault::SiteFault;
+pub use input::Input;
+pub use json_values::Scratch;
+pub use laws::{equal_updates_leave_equal_stores, inputs_have_one_outcome, runs_go_right};
+pub use leaving::runs_leave_what_they_took;
+pub use outcome::{Put, Taken};
+pub use reply::{Found, Reply};
+pub use site::Site;
+pub use site_soundness::{
+    SchemaTexts, canonical_texts_are_read, json_texts_are_utf8, messages_read_back,
+    names_read_back, summaries_read_back, valid_messages_are_read,
+};
+pub use site_store::{
+    Entity, EntityFault, Policy, Schema, SiteName, Stamp, deltas_are_joined, is_site_name,
+    site_names_are_told, stamps_are_issued, stated_schemas_are_well_formed, updates_have_one_store,
+};

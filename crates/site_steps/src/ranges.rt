@@ -1,0 +1,31 @@
+//! That the names and the stamps of what a site keeps are those that messages may have.
+ghost use Rattle.std.specs.Prelude.{◌≡◌, ◌≤◌, ◌<◌, ◌++◌, ◌∷◌, [], ℕ, List, IsSome};
+ghost use Rattle.values.specs.declared.name.Name.{Name};
+ghost use Rattle.site_store.specs.stamped_store.Contents.{text_under};
+ghost use Rattle.site_store.specs.stamped_store.Deltas.{Summary, delta, summary_of};
+ghost use Rattle.site_store.specs.stamped_store.Greatest.{greatest_count};
+ghost use Rattle.site_store.specs.stamped_store.SiteNames.{IsSiteName};
+ghost use Rattle.site_store.specs.stamped_store.Store.{Store, Update, updates, store_of, issue};
+ghost use Rattle.site_soundness.specs.message_format.Summaries.{AreStamped, IsName, IsStamped};
+ghost use Rattle.site_soundness.specs.message_format.Updates.{AreInRange, stamped};
+
+use site_store::{COUNT_MAX, deltas_are_joined, stamps_are_issued, updates_have_one_store};
+
+/// Proves that names and stamps stay in their ranges: those of the empty store, and of a store that an update is joined
+/// into whose own are in range; so are those of what is sent of such a store. Its greatest count is at most 10^18, a
+/// name that has a text is in range, and so is a stamp that is issued. Does nothing.
+pub(crate) fn ranges_stay()
+    ensures empty { AreInRange (updates (store_of [])) }
+    ensures joined { (s t : Store) (u : Update) → AreInRange (updates s) → IsStamped (stamped u)
+        → t ≡ store_of (updates s ++ u ∷ []) → AreInRange (updates t) }
+    ensures news { (s : Store) (m : Summary) → AreInRange (updates s) → AreInRange (updates (delta s m)) }
+    ensures summary { (s : Store) → AreInRange (updates s) → AreStamped (summary_of s) }
+    ensures counted { (s : Store) → AreInRange (updates s) → greatest_count s ≤ COUNT_MAX }
+    ensures named { (s : Store) (q : Name) → AreInRange (updates s) → IsSome (text_under s q) → IsName q }
+    ensures issued { (s : Store) (n : List ℕ) (q : Name) → IsName q → greatest_count s < COUNT_MAX → IsSiteName n
+        → IsStamped (q, issue s n) }
+{
+    updates_have_one_store();
+    deltas_are_joined();
+    stamps_are_issued();
+}

@@ -1,0 +1,109 @@
+//! Updates of another site, taken by this one.
+ghost use Rattle.std.specs.Prelude.{◌≡◌, ◌++◌, ◌∷◌, [], IsTrue, true, false, MatchResult, string_bytes};
+ghost use Rattle.std.specs.List.{AllByRecursion};
+ghost use Rattle.site_store.specs.stamped_store.EntryOrder.{plain_entry};
+ghost use Rattle.site_store.specs.stamped_store.Reading.{IsEntryRead};
+ghost use Rattle.site_store.specs.stamped_store.Store.{store_of, updates, policy_name, entity_name};
+ghost use Rattle.site_soundness.specs.message_format.Summaries.{IsStamped};
+ghost use Rattle.site_soundness.specs.message_format.Updates.{plain_update, plain_updates};
+ghost use Rattle.site_steps.specs.Admitted.{IsPolicyUnder, IsEntityUnder, IsValidUnder};
+ghost use Rattle.site_steps.specs.Seen.{schema_of, store_in, IsSameSite};
+ghost use Rattle.site_steps.specs.Steps.{TakesUpdates};
+
+use crate::outcome::Taken;
+use crate::ranges::ranges_stay;
+use crate::site::Site;
+use crate::under_schema::readings_stay;
+use site_soundness::Update;
+use site_store::{Entity, Entry, Policy, updates_have_one_store};
+use values::EntityUid;
+
+/// Returns whether an entry was stored.
+fn is_taken<T: Drop>(taken: Result<(), T>) -> bool
+    ensures { MatchResult taken (λ _. result ≡ true) (λ _. result ≡ false) }
+{
+    match taken {
+        Ok(()) => true,
+        Err(_) => false,
+    }
+}
+
+impl Site {
+    /// Joins one update of a policy, unless memory is refused.
+    fn take_policy(&mut self, id: String, entry: Entry<Policy>) -> bool
+        requires in_range { IsStamped (policy_name (string_bytes id), entry.stamp) }
+        requires read { IsEntryRead (IsPolicyUnder (schema_of self.old) (string_bytes id)) entry }
+        ensures taken { IsTrue result → store_in self.new
+            ≡ store_of (updates (store_in self.old) ++ (policy_name (string_bytes id), plain_entry entry) ∷ []) }
+        ensures refused { result ≡ false → store_in self.new ≡ store_in self.old }
+        ensures same { IsSameSite self.old self.new }
+    {
+        readings_stay();
+        ranges_stay();
+        let taken = self.store.take_policy(id, entry);
+        is_taken(taken)
+    }
+
+    /// Joins one update of an entity, unless memory is refused.
+    fn take_entity(&mut self, uid: EntityUid, entry: Entry<Entity>) -> bool
+        requires in_range { IsStamped (entity_name uid, entry.stamp) }
+        requires read { IsEntryRead (IsEntityUnder (schema_of self.old) uid) entry }
+        ensures taken { IsTrue result → store_in self.new
+            ≡ store_of (updates (store_in self.old) ++ (entity_name uid, plain_entry entry) ∷ []) }
+        ensures refused { result ≡ false → store_in self.new ≡ store_in self.old }
+        ensures same { IsSameSite self.old self.new }
+    {
+        readings_stay();
+        ranges_stay();
+        let taken = self.store.take_entity(uid, entry);
+        is_taken(taken)
+    }
+
+    /// Joins one update, unless memory is refused.
+    fn take_one(&mut self, update: Update<Policy, Entity>) -> bool
+        requires { IsValidUnder (schema_of self.old) update }
+        ensures taken { IsTrue result → store_in self.new
+            ≡ store_of (updates (store_in self.old) ++ plain_update update ∷ []) }
+        ensures refused { result ≡ false → store_in self.new ≡ store_in self.old }
+        ensures same { IsSameSite self.old self.new }
+    {
+        match update {
+            Update::Policy { id, entry } => self.take_policy(id.into_string(), entry),
+            Update::Entity { uid, entry } => self.take_entity(uid, entry),
+        }
+    }
+
+    /// Takes updates in their order. What is kept beside the store follows each, as long as that costs less than making
+    /// it anew.
+    fn take_all(&mut self, updates: Vec<Update<Policy, Entity>>) -> Taken
+        requires { AllByRecursion (IsValidUnder (schema_of self.old)) updates.items }
+        ensures takes { TakesUpdates (store_in self.old) (plain_updates updates.items) result (store_in self.new) }
+        ensures same { IsSameSite self.old self.new }
+    {
+        updates_have_one_store();
+        let mut taken = 0;
+        for update in updates {
+            if !self.take_one(update) {
+                return Taken::Short(taken);
+            }
+            taken += 1;
+        }
+        Taken::All(taken)
+    }
+
+    /// Takes updates of another site in their order: each is joined at its name, where the greater entry stands. All
+    /// are counted, also those that lose. Where memory is refused, exactly the first ones are taken, and the rest is
+    /// dropped. An entity may come to be on a cycle; no update is refused for that. What was dropped beside the store
+    /// is made anew behind the updates.
+    ///
+    /// Each update is valid under the site's schema, as those are that [`message_format::read_message`] answers.
+    pub fn take(&mut self, updates: Vec<Update<Policy, Entity>>) -> Taken
+        requires { AllByRecursion (IsValidUnder (schema_of self.old)) updates.items }
+        ensures takes { TakesUpdates (store_in self.old) (plain_updates updates.items) result (store_in self.new) }
+        ensures same { IsSameSite self.old self.new }
+    {
+        let taken = self.take_all(updates);
+        self.store.rebuild();
+        taken
+    }
+}

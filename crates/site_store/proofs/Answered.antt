@@ -1,0 +1,27 @@
+-- The answer over candidates is the answer over all.
+use Rattle.std.specs.Prelude.{◌≡◌, Bool, List, Result, Ok, Err, IfOk}
+use Rattle.std.proofs.Common.{refl, subst}
+use Rattle.values.specs.declared.entity_uid.EntityUid.{EntityUid}
+use Rattle.values.specs.declared.request.Request.{Request}
+use Rattle.ancestor_closure.specs.ancestor_search.Decided.{Decides}
+use Rattle.scope_index.specs.policy_grammar.declared.policy.Policy.{Policy}
+use Rattle.site_meaning.specs.evaluator.Operators.{World}
+use Rattle.site_meaning.specs.authoriser.declared.answer.Answer.{Answer}
+use Rattle.site_meaning.specs.authoriser.Answers.{NamedPolicy, IsAnswer}
+use Rattle.site_meaning.specs.entity_data.declared.entity.Entity.{Entity}
+use Rattle.stamped_store.specs.Store.{StoreEntries, updates, abstract_store, abstract_updates}
+use Rattle.site_meaning.specs.TextsRead.{policies_read}
+use Rattle.site_meaning.proofs.PolicyLemmas.{kept_ascend}
+use Rattle.site_store.specs.Candidates.{AreCandidates, Ascend, CandidatesSuffice}
+
+pub over_same : {E : Type 0} (result : Result Answer E) (W : World) (q : Request) (ps qs : List NamedPolicy) → ps ≡ qs
+    → IfOk result (IsAnswer W q ps) → IfOk result (IsAnswer W q qs)
+over_same result W q ps qs same h = subst (λ (xs : List NamedPolicy). IfOk result (IsAnswer W q xs)) same h
+
+pub over_candidates : {E : Type 0} (result : Result Answer E) (W : World) (above : EntityUid → EntityUid → Bool) → Decides W.parents above
+    → CandidatesSuffice → (q : Request) (k : StoreEntries Policy Entity) (ps : List NamedPolicy)
+    → updates (abstract_store k) ≡ abstract_updates k → AreCandidates W.parents q (policies_read k.policies) ps → Ascend ps
+    → IfOk result (IsAnswer W q ps) → IfOk result (IsAnswer W q (policies_read k.policies))
+over_candidates (Ok a) W above decides suffice q k ps in_order among rise h =
+    (suffice W above decides q (policies_read k.policies) ps a (kept_ascend k (policies_read k.policies) in_order refl) rise among).1 h
+over_candidates (Err e) W above decides suffice q k ps in_order among rise h = tt

@@ -1,0 +1,14 @@
+mod Follows
+mod Giving
+pub mod Unchanged
+mod Read
+mod Skipping
+mod Suffice
+mod Answered
+pub mod WorldSeen
+pub mod AncestorsFollow
+mod Standing
+mod StaysLemmas
+mod Tops
+-- crates below, passed on to those above
+pub use Rattle.stamped_store.proofs as of_stamped_store

@@ -1,0 +1,27 @@
+-- Policies that may be left out of an answer by their scopes.
+-- Source: Cedar reference guide 4.0, "Authorization": a policy whose scope is false is neither satisfied nor erring.
+use Rattle.std.specs.Prelude.{◌↔◌, List, map, Contains, Bool}
+use Rattle.values.specs.declared.entity_uid.EntityUid.{EntityUid}
+use Rattle.values.specs.declared.request.Request.{Request}
+use Rattle.ancestor_closure.specs.ancestor_search.Hierarchy.{Parents}
+use Rattle.ancestor_closure.specs.ancestor_search.Decided.{Decides}
+use Rattle.scope_index.specs.Scopes.{IsScopeTrue}
+use Rattle.site_meaning.specs.evaluator.Operators.{World}
+use Rattle.site_meaning.specs.authoriser.declared.answer.Answer.{Answer}
+use Rattle.site_meaning.specs.authoriser.Answers.{NamedPolicy, IsAnswer}
+use Rattle.site_meaning.specs.authoriser.Laws.{AreIdsAscending}
+
+-- qs are some of the policies ps, and none is missing whose scope is true of the request
+pub record AreCandidates (parents : Parents) (q : Request) (ps qs : List NamedPolicy) : Type 0 where
+  pub among : (p : NamedPolicy) → Contains qs p → Contains ps p
+  pub all : (p : NamedPolicy) → Contains ps p → IsScopeTrue parents p.policy.scope q → Contains qs p
+
+-- the ids of these policies ascend
+abbrev pub Ascend : List NamedPolicy → Type 0
+Ascend ps = AreIdsAscending (map (λ p. p.id) ps)
+
+-- the answers over candidates are those over all, where the ids of both ascend
+abbrev pub CandidatesSuffice : Type 0
+CandidatesSuffice = (W : World) (above : EntityUid → EntityUid → Bool) → Decides W.parents above →
+    (q : Request) (ps qs : List NamedPolicy) (a : Answer) → Ascend ps → Ascend qs → AreCandidates W.parents q ps qs
+    → IsAnswer W q ps a ↔ IsAnswer W q qs a

@@ -1,0 +1,2 @@
+pub mod IndexFollowing
+pub mod Following

@@ -1,0 +1,180 @@
+//! How an index follows a store.
+ghost use Rattle.std.specs.Prelude.{◌≡◌, ◌⊎◌, ℕ, List, None, cond, IsTrue, IfOk, IfSome, OnOk, OnErr, IfErr};
+ghost use Rattle.std.specs.Prelude.{◌++◌, ◌∷◌, [], string_bytes};
+ghost use Rattle.std.specs.Option.{option_copied};
+ghost use Rattle.std.specs.String.{string_cmp};
+ghost use Rattle.std.specs.Str.{bytes_eq};
+ghost use Rattle.scope_index.specs.Keys.{kept_at};
+ghost use Rattle.stamped_store.specs.EntryOrder.{plain_entry, greater};
+ghost use Rattle.stamped_store.specs.Store.{abstract_store, store_of, updates, kept, policy_name, KeepsOtherNames};
+ghost use Rattle.stamped_store.specs.Stored.{taken, value_at_text};
+ghost use Rattle.site_store.specs.Indexed.{policy_at, policy_in, AreIndexed};
+ghost use Rattle.site_store.specs.inner.IndexFollowing.{AreIndexedBut, noted};
+ghost use Rattle.site_store.specs.Staying.{Stays};
+
+use crate::staying::stays;
+use plain::NoMemory;
+use scope_index::{Policy, ScopeIndex};
+use stamped_store::{Entry, PolicyStore};
+use std::alloc::Global;
+
+/// Returns the policy under an id; none where it has no text. Takes no memory.
+fn policy_under<'s, E: Drop>(store: &'s PolicyStore<Policy, E>, id: &str) -> Option<&'s Policy>
+    ensures { option_copied result ≡ policy_at store.now.policies id.now }
+{
+    match store.get_policy(id) {
+        Some(entry) => match &entry.body {
+            Some(text) => Some(&text.read),
+            None => None,
+        },
+        None => None,
+    }
+}
+
+// Makes an index right at one id; it is dropped where memory is refused.
+fn set_right<E: Drop>(
+    index: ScopeIndex,
+    store: &PolicyStore<Policy, E>,
+    id: &str,
+) -> Option<ScopeIndex>
+    requires { AreIndexedBut id.now store.now.policies index }
+    ensures { IfSome result (AreIndexed store.now.policies) }
+{
+    let mut index = index;
+    match policy_under(store, id) {
+        Some(policy) => match index.add(id, policy) {
+            Ok(()) => Some(index),
+            Err(_) => None,
+        },
+        None => {
+            index.remove(id);
+            Some(index)
+        }
+    }
+}
+
+/// Returns the index of a store, where it was right at every id but one; none where there was none, or memory is
+/// refused.
+fn followed<E: Drop>(
+    index: Option<ScopeIndex>,
+    store: &PolicyStore<Policy, E>,
+    id: &str,
+) -> Option<ScopeIndex>
+    requires { IfSome index (AreIndexedBut id.now store.now.policies) }
+    ensures { IfSome result (AreIndexed store.now.policies) }
+{
+    match index {
+        Some(index) => set_right(index, store, id),
+        None => None,
+    }
+}
+
+// Adds the policy of an entry, if it has one.
+fn add_entry(index: &mut ScopeIndex, id: &str, entry: &Entry<Policy>) -> Result<(), NoMemory>
+    ensures { OnOk result ((q : List ℕ) → kept_at index.new q
+        ≡ cond (bytes_eq id.now q) (noted (policy_in entry.now) (kept_at index.old q)) (kept_at index.old q)) }
+{
+    match &entry.body {
+        Some(text) => index.add(id, &text.read),
+        None => Ok(()),
+    }
+}
+
+/// Returns the index of a store, made anew: one pass over all names of policies. Errors: `NoMemory` alone.
+fn index_of<E: Drop>(alloc: Global, store: &PolicyStore<Policy, E>) -> Result<ScopeIndex, NoMemory>
+    ensures { IfOk result (AreIndexed store.now.policies) }
+{
+    let mut index = ScopeIndex::new(alloc);
+    for (id, entry) in store.policies() {
+        add_entry(&mut index, id.as_str(), entry)?;
+    }
+    Ok(index)
+}
+
+/// Makes the index anew where it was dropped, if memory suffices. One that stands is left as it is.
+pub fn stand_index<E: Drop>(
+    alloc: Global,
+    store: &PolicyStore<Policy, E>,
+    index: &mut Option<ScopeIndex>,
+)
+    requires { IfSome index.old (AreIndexed store.now.policies) }
+    ensures indexed { IfSome index.new (AreIndexed store.now.policies) }
+    ensures stays { (index.old ≡ None) ⊎ (index.new ≡ index.old) }
+{
+    if index.is_some() {
+        return;
+    }
+    *index = index_of(alloc, store).ok();
+}
+
+/// Returns whether the index needs not follow once an entry was joined: none stands, or what is stored stays.
+fn needs_nothing<E: Drop>(
+    store: &PolicyStore<Policy, E>,
+    index: &Option<ScopeIndex>,
+    id: &str,
+    entry: &Entry<Policy>,
+) -> bool
+    ensures { IsTrue result → (index.now ≡ None) ⊎ Stays (value_at_text store.now.policies id.now) entry.now }
+{
+    if index.is_none() {
+        return true;
+    }
+    stays(store.get_policy(id), entry)
+}
+
+/// Joins an entry at a policy's id, and has the index follow.
+fn take_and_follow<E: Drop>(
+    alloc: Global,
+    store: &mut PolicyStore<Policy, E>,
+    index: &mut Option<ScopeIndex>,
+    id: String,
+    entry: Entry<Policy>,
+) -> Result<(), (String, Entry<Policy>)>
+    requires { IfSome index.old (AreIndexed store.old.policies) }
+    ensures indexed { IfSome index.new (AreIndexed store.new.policies) }
+    ensures ok { OnOk result (abstract_store store.new
+        ≡ store_of (updates (abstract_store store.old) ++ (policy_name (string_bytes id), plain_entry entry) ∷ [])) }
+    ensures others { OnOk result
+        (KeepsOtherNames (policy_name (string_bytes id)) (abstract_store store.old) (abstract_store store.new)) }
+    ensures kept { OnOk result
+        (store.new ≡ kept (taken string_cmp greater store.old.policies id entry) store.old.entities) }
+    ensures refused { IfErr result (λ pair. pair ≡ (id, entry)) }
+    ensures err { OnErr result (store.new ≡ store.old) }
+    ensures left { OnErr result (index.new ≡ index.old) }
+{
+    let name = String::from_str(alloc, id.as_str());
+    store.take_policy(id, entry)?;
+    let before = index.take();
+    *index = match name {
+        Ok(name) => followed(before, store, name.as_str()),
+        Err(_) => None,
+    };
+    Ok(())
+}
+
+/// Joins an entry at a policy's id, and has the index follow. Where memory is refused for the entry, nothing changes;
+/// where it is refused for the index, that is dropped, and the change stands.
+pub fn take_policy<E: Drop>(
+    alloc: Global,
+    store: &mut PolicyStore<Policy, E>,
+    index: &mut Option<ScopeIndex>,
+    id: String,
+    entry: Entry<Policy>,
+) -> Result<(), (String, Entry<Policy>)>
+    requires { IfSome index.old (AreIndexed store.old.policies) }
+    ensures indexed { IfSome index.new (AreIndexed store.new.policies) }
+    ensures ok { OnOk result (abstract_store store.new
+        ≡ store_of (updates (abstract_store store.old) ++ (policy_name (string_bytes id), plain_entry entry) ∷ [])) }
+    ensures others { OnOk result
+        (KeepsOtherNames (policy_name (string_bytes id)) (abstract_store store.old) (abstract_store store.new)) }
+    ensures kept { OnOk result
+        (store.new ≡ kept (taken string_cmp greater store.old.policies id entry) store.old.entities) }
+    ensures refused { IfErr result (λ pair. pair ≡ (id, entry)) }
+    ensures err { OnErr result (store.new ≡ store.old) }
+    ensures left { OnErr result (index.new ≡ index.old) }
+{
+    if needs_nothing(store, index, id.as_str(), &entry) {
+        return store.take_policy(id, entry);
+    }
+    take_and_follow(alloc, store, index, id, entry)
+}

@@ -1,0 +1,390 @@
+//! The store and what is kept beside it.
+ghost use Rattle.std.specs.Prelude.{◌≡◌, ◌↔◌, ◌++◌, ◌∷◌, [], IfOk, IfSome, OnOk, OnErr, IfErr, IsTrue};
+ghost use Rattle.std.specs.Prelude.{string_bytes, true, false};
+ghost use Rattle.std.specs.String.{string_cmp};
+ghost use Rattle.values.specs.Names.{uid_cmp};
+ghost use Rattle.site_meaning.specs.schema.Views.{schema_view};
+ghost use Rattle.stamped_store.specs.EntryOrder.{plain_entry, greater};
+ghost use Rattle.stamped_store.specs.Reading.{AreEntriesRead};
+ghost use Rattle.stamped_store.specs.Store.{abstract_store, store_of, updates, kept};
+ghost use Rattle.stamped_store.specs.Store.{policy_name, entity_name, KeepsOtherNames};
+ghost use Rattle.stamped_store.specs.Stored.{taken};
+ghost use Rattle.ancestor_closure.specs.ancestor_search.Hierarchy.{IsOnCycle, with_parents};
+ghost use Rattle.site_meaning.specs.authoriser.Answers.{IsAnswer};
+ghost use Rattle.site_meaning.specs.Said.{IsAnswerOver, MakesCycle, MakesNoCycle, parents_with, world_under};
+ghost use Rattle.site_meaning.specs.TextsRead.{entity_at, policies_read};
+ghost use Rattle.site_store.specs.Indexed.{AreIndexed};
+ghost use Rattle.site_store.specs.Kept.{AreAncestorsOf};
+ghost use Rattle.site_store.specs.Seen.{AreBeside};
+
+use crate::ancestors::{ancestors_of, take_entity, would_cycle_by};
+use crate::answering::{answer_by_kept, is_in_order};
+use crate::index::{stand_index, take_policy};
+use crate::pace::Pace;
+use crate::tries::Tries;
+use ancestor_closure::{KeptAncestors, ParentsOf};
+use plain::{NoMemory, Shared};
+use scope_index::{Policy, ScopeIndex};
+use site_meaning::{Answer, Entity, Schema, StoredEntities, world_under};
+use stamped_store::{Entry, PolicyStore, Readings};
+use std::alloc::Global;
+use std::marker::Model;
+use values::{EntityUid, Request};
+
+/// A store under a schema. Contracts see these two.
+#[derive(Drop)]
+pub struct AcceleratedStore {
+    alloc: Global,
+    schema: Shared<Schema>,
+    store: PolicyStore<Policy, Entity>,
+    index: Option<ScopeIndex>,
+    ancestors: Option<KeptAncestors>,
+    pace: Pace,
+    tries: Tries,
+}
+
+impl Model for AcceleratedStore {
+    ghost use Rattle.std.specs.Coded.{codes};
+    ghost use Rattle.site_meaning.specs.schema_types.contracts.cedar.CedarType as cedar;
+    ghost use Rattle.values.specs.ValueCode.{value_code};
+    ghost use Rattle.scope_index.specs.grammar_core.contracts.expr.Expr as expr;
+    ghost use Rattle.std.specs.Option.{IfSome};
+    ghost use Rattle.site_meaning.specs.schema.Views.{schema_view};
+    ghost use Rattle.site_store.specs.Seen.{SeenStore, AreBeside};
+
+    ghost Value = { SeenStore };
+
+    ghost coded = { Prim.hlevel (codes, cedar.the_row.coded, value_code, expr.the_row.coded) };
+
+    ghost view = { λ s. record { schema = s.schema; kept = s.store } };
+
+    ghost invariant = { λ s. AreBeside (schema_view s.schema) s.store s.index s.ancestors };
+}
+
+/// Makes the ancestors anew where they were dropped, if memory suffices, and there are not too many.
+fn stand_ancestors(
+    alloc: Global,
+    schema: &Schema,
+    store: &PolicyStore<Policy, Entity>,
+    ancestors: &mut Option<KeptAncestors>,
+    pace: &mut Pace,
+)
+    requires { IfSome ancestors.old (AreAncestorsOf (schema_view schema.now) store.now.entities) }
+    ensures { IfSome ancestors.new (AreAncestorsOf (schema_view schema.now) store.now.entities) }
+{
+    let entities = store.entities().len();
+    if pace.begin(ancestors.is_some(), entities) {
+        *ancestors = ancestors_of(alloc, schema, store, pace).ok();
+        pace.end(entities);
+    }
+}
+
+/// Makes anew what was dropped, if memory suffices.
+fn stand(
+    alloc: Global,
+    schema: &Schema,
+    store: &PolicyStore<Policy, Entity>,
+    index: &mut Option<ScopeIndex>,
+    ancestors: &mut Option<KeptAncestors>,
+    pace: &mut Pace,
+)
+    requires { AreBeside (schema_view schema.now) store.now index.old ancestors.old }
+    ensures { AreBeside (schema_view schema.now) store.now index.new ancestors.new }
+{
+    stand_index(alloc, store, index);
+    stand_ancestors(alloc, schema, store, ancestors, pace);
+}
+
+/// Returns whether an entity is on a cycle of a graph in which its edges are those that it states.
+fn is_on_cycle_in<G: ParentsOf>(alloc: Global, graph: &G, entity: &Entity) -> Result<bool, NoMemory>
+    ensures { let changed = with_parents (G.parents graph.now) entity.now.uid entity.now.parents in
+        IfOk result (λ yes. IsTrue yes ↔ IsOnCycle changed entity.now.uid) }
+{
+    ancestor_closure::would_cycle(alloc, graph, &entity.uid, entity.parents.as_slice())
+}
+
+/// Returns whether an entity is on a cycle once its edges are those that it states, the hierarchy searched in place.
+fn would_cycle_by_world(
+    alloc: Global,
+    schema: &Schema,
+    store: &PolicyStore<Policy, Entity>,
+    entity: &Entity,
+) -> Result<bool, NoMemory>
+    ensures { IfOk result (λ yes. IsTrue yes
+        ↔ IsOnCycle (parents_with (schema_view schema.now) (entity_at store.now.entities) entity.now) entity.now.uid) }
+{
+    let entities = StoredEntities::of(store);
+    let world = world_under(alloc, &entities, schema);
+    is_on_cycle_in(alloc, &world, entity)
+}
+
+/// Returns whether an entity is on a cycle once its edges are those that it states, by what stands beside the texts.
+fn would_cycle_by_kept(
+    alloc: Global,
+    schema: &Schema,
+    store: &PolicyStore<Policy, Entity>,
+    ancestors: &Option<KeptAncestors>,
+    entity: &Entity,
+) -> Result<bool, NoMemory>
+    requires { IfSome ancestors.now (AreAncestorsOf (schema_view schema.now) store.now.entities) }
+    ensures { IfOk result (λ yes. IsTrue yes
+        ↔ IsOnCycle (parents_with (schema_view schema.now) (entity_at store.now.entities) entity.now) entity.now.uid) }
+{
+    match ancestors {
+        Some(ancestors) => Ok(would_cycle_by(ancestors, entity)),
+        None => would_cycle_by_world(alloc, schema, store, entity),
+    }
+}
+
+impl AcceleratedStore {
+    /// Returns the empty store under a schema, with its index. Its ancestors, those of the schema's actions, take
+    /// memory, and are made by the first [`Self::record_policy`], [`Self::record_entity`] or [`Self::rebuild`]. Takes
+    /// no memory.
+    pub fn new(alloc: Global, schema: Shared<Schema>) -> Self
+        ensures { result ≡ record { schema = schema; kept = kept [] [] } }
+    {
+        AcceleratedStore {
+            alloc,
+            schema,
+            store: PolicyStore::new(alloc),
+            index: Some(ScopeIndex::new(alloc)),
+            ancestors: None,
+            pace: Pace::new(),
+            tries: Tries::new(),
+        }
+    }
+
+    /// Returns the schema.
+    pub fn schema(&self) -> &Schema
+        ensures { result.now ≡ self.now.schema }
+    {
+        self.schema.get()
+    }
+
+    /// Returns the store itself.
+    pub fn store(&self) -> &PolicyStore<Policy, Entity>
+        ensures { result.now ≡ self.now.kept }
+    {
+        &self.store
+    }
+
+    /// Joins an entry at a policy's id. Every other name keeps its entry. Where memory is refused for the entry, id and
+    /// entry come back and nothing changes; where it is refused for the index, that is dropped, and the entry stands.
+    pub fn take_policy(
+        &mut self,
+        id: String,
+        entry: Entry<Policy>,
+    ) -> Result<(), (String, Entry<Policy>)>
+        ensures ok { OnOk result (abstract_store self.new.kept
+            ≡ store_of (updates (abstract_store self.old.kept)
+            ++ (policy_name (string_bytes id), plain_entry entry) ∷ [])) }
+        ensures others { OnOk result (KeepsOtherNames (policy_name (string_bytes id)) (abstract_store self.old.kept)
+            (abstract_store self.new.kept)) }
+        ensures kept { OnOk result (self.new.kept
+            ≡ kept (taken string_cmp greater self.old.kept.policies id entry) self.old.kept.entities) }
+        ensures refused { IfErr result (λ pair. pair ≡ (id, entry)) }
+        ensures err { OnErr result (self.new.kept ≡ self.old.kept) }
+        ensures same { self.new.schema ≡ self.old.schema }
+    {
+        self.tries.note(&entry);
+        take_policy(self.alloc, &mut self.store, &mut self.index, id, entry)
+    }
+
+    /// Joins an entry at an entity's uid. Every other name keeps its entry. Where memory is refused for the entry, uid
+    /// and entry come back and nothing changes; where it is refused for the ancestors, these are dropped, and the entry
+    /// stands. They are dropped, too, where there would be too many, and once following updates has cost more than
+    /// making them anew: then [`Self::rebuild`] does so behind the last one.
+    pub fn take_entity(
+        &mut self,
+        uid: EntityUid,
+        entry: Entry<Entity>,
+    ) -> Result<(), (EntityUid, Entry<Entity>)>
+        ensures ok { OnOk result (abstract_store self.new.kept
+            ≡ store_of (updates (abstract_store self.old.kept)
+            ++ (entity_name uid, plain_entry entry) ∷ [])) }
+        ensures others { OnOk result (KeepsOtherNames (entity_name uid) (abstract_store self.old.kept)
+            (abstract_store self.new.kept)) }
+        ensures kept { OnOk result (self.new.kept
+            ≡ kept self.old.kept.policies (taken uid_cmp greater self.old.kept.entities uid entry)) }
+        ensures refused { IfErr result (λ pair. pair ≡ (uid, entry)) }
+        ensures err { OnErr result (self.new.kept ≡ self.old.kept) }
+        ensures same { self.new.schema ≡ self.old.schema }
+    {
+        take_entity(
+            self.alloc,
+            self.schema.get(),
+            &mut self.store,
+            &mut self.ancestors,
+            &mut self.pace,
+            uid,
+            entry,
+        )
+    }
+
+    /// As [`Self::take_policy`], but what was dropped is made anew before, if memory suffices.
+    pub fn record_policy(
+        &mut self,
+        id: String,
+        entry: Entry<Policy>,
+    ) -> Result<(), (String, Entry<Policy>)>
+        ensures ok { OnOk result (abstract_store self.new.kept
+            ≡ store_of (updates (abstract_store self.old.kept)
+            ++ (policy_name (string_bytes id), plain_entry entry) ∷ [])) }
+        ensures others { OnOk result (KeepsOtherNames (policy_name (string_bytes id)) (abstract_store self.old.kept)
+            (abstract_store self.new.kept)) }
+        ensures kept { OnOk result (self.new.kept
+            ≡ kept (taken string_cmp greater self.old.kept.policies id entry) self.old.kept.entities) }
+        ensures refused { IfErr result (λ pair. pair ≡ (id, entry)) }
+        ensures err { OnErr result (self.new.kept ≡ self.old.kept) }
+        ensures same { self.new.schema ≡ self.old.schema }
+    {
+        self.tries.note(&entry);
+        stand(
+            self.alloc,
+            self.schema.get(),
+            &self.store,
+            &mut self.index,
+            &mut self.ancestors,
+            &mut self.pace,
+        );
+        take_policy(self.alloc, &mut self.store, &mut self.index, id, entry)
+    }
+
+    /// As [`Self::take_entity`], but what was dropped is made anew before, if memory suffices.
+    pub fn record_entity(
+        &mut self,
+        uid: EntityUid,
+        entry: Entry<Entity>,
+    ) -> Result<(), (EntityUid, Entry<Entity>)>
+        ensures ok { OnOk result (abstract_store self.new.kept
+            ≡ store_of (updates (abstract_store self.old.kept)
+            ++ (entity_name uid, plain_entry entry) ∷ [])) }
+        ensures others { OnOk result (KeepsOtherNames (entity_name uid) (abstract_store self.old.kept)
+            (abstract_store self.new.kept)) }
+        ensures kept { OnOk result (self.new.kept
+            ≡ kept self.old.kept.policies (taken uid_cmp greater self.old.kept.entities uid entry)) }
+        ensures refused { IfErr result (λ pair. pair ≡ (uid, entry)) }
+        ensures err { OnErr result (self.new.kept ≡ self.old.kept) }
+        ensures same { self.new.schema ≡ self.old.schema }
+    {
+        stand(
+            self.alloc,
+            self.schema.get(),
+            &self.store,
+            &mut self.index,
+            &mut self.ancestors,
+            &mut self.pace,
+        );
+        take_entity(
+            self.alloc,
+            self.schema.get(),
+            &mut self.store,
+            &mut self.ancestors,
+            &mut self.pace,
+            uid,
+            entry,
+        )
+    }
+
+    /// Makes anew what was dropped, where memory suffices: once, whatever is refused. No entry changes. It is meant for
+    /// the end of a message. Ancestors that were too many are tried again after as many changes as there are entities.
+    pub fn rebuild(&mut self)
+        ensures { self.new ≡ self.old }
+    {
+        stand(
+            self.alloc,
+            self.schema.get(),
+            &self.store,
+            &mut self.index,
+            &mut self.ancestors,
+            &mut self.pace,
+        );
+    }
+
+    /// Returns the answer by what stands beside the texts.
+    fn answer_by_kept(&self, request: &Request) -> Result<Answer, NoMemory>
+        ensures { IfOk result (IsAnswer
+            (world_under (schema_view self.now.schema) (entity_at self.now.kept.entities)) request.now
+            (policies_read self.now.kept.policies)) }
+    {
+        answer_by_kept(
+            self.alloc,
+            self.schema.get(),
+            &self.store,
+            &self.index,
+            &self.ancestors,
+            request,
+            &self.tries,
+        )
+    }
+
+    /// Returns whether an entity is on a cycle once its edges are those that it states, by what stands beside the
+    /// texts.
+    fn would_cycle_by_kept(&self, entity: &Entity) -> Result<bool, NoMemory>
+        ensures { IfOk result (λ yes. IsTrue yes ↔ IsOnCycle
+            (parents_with (schema_view self.now.schema) (entity_at self.now.kept.entities) entity.now)
+            entity.now.uid) }
+    {
+        would_cycle_by_kept(
+            self.alloc,
+            self.schema.get(),
+            &self.store,
+            &self.ancestors,
+            entity,
+        )
+    }
+
+    /// Returns the answer to a request over the store: over the policies and entities that its texts are read as, and
+    /// the actions of the schema.
+    ///
+    /// R is what texts may be read as. The answer is that of the store for each r of R by which each text of the store
+    /// was read as what stands beside it. Where the index stands, and memory suffices, only
+    /// the policies that it offers are tried. Source: Cedar reference guide, "Authorization". Errors: `NoMemory` alone.
+    pub fn answer<R: Readings<Policy, Entity>>(&self, request: &Request) -> Result<Answer, NoMemory>
+        ensures { IfOk result (λ a. (r : R) → AreEntriesRead (R.reads_policy r) (R.reads_entity r) self.now.kept
+            → IsAnswerOver (R.reads_policy r) (R.reads_entity r) (schema_view self.now.schema)
+            (abstract_store self.now.kept) request.now a) }
+    {
+        is_in_order(&self.store);
+        self.answer_by_kept(request)
+    }
+
+    /// Returns whether an entity would be on a cycle once it is put into the store, whatever its uid has there now.
+    /// Cycles of other entities do not matter.
+    ///
+    /// R is what texts may be read as, as at [`Self::answer`]. Errors: `NoMemory` alone.
+    pub fn would_cycle<R: Readings<Policy, Entity>>(
+        &self,
+        entity: &Entity,
+    ) -> Result<bool, NoMemory>
+        ensures yes { IfOk result (λ yes. yes ≡ true → (r : R)
+            → AreEntriesRead (R.reads_policy r) (R.reads_entity r) self.now.kept
+            → MakesCycle (R.reads_entity r) (schema_view self.now.schema) (abstract_store self.now.kept) entity.now) }
+        ensures no { IfOk result (λ yes. yes ≡ false → (r : R)
+            → AreEntriesRead (R.reads_policy r) (R.reads_entity r) self.now.kept
+            → MakesNoCycle (R.reads_entity r) (schema_view self.now.schema) (abstract_store self.now.kept)
+            entity.now) }
+    {
+        is_in_order(&self.store);
+        self.would_cycle_by_kept(entity)
+    }
+
+    /// Drops what is kept beside the store, as where memory is refused for it; for tests alone, which can't have memory
+    /// refused. No entry changes.
+    pub fn drop_kept(&mut self)
+        ensures { self.new ≡ self.old }
+    {
+        self.index = None;
+        self.ancestors = None;
+    }
+
+    /// Returns whether the ancestors and the index stand; for tests alone.
+    pub fn standing(&self) -> (bool, bool) {
+        (self.ancestors.is_some(), self.index.is_some())
+    }
+
+    /// Returns how many policies the last answer tried; for tests alone.
+    pub fn tried(&self) -> usize {
+        self.tries.tried()
+    }
+}

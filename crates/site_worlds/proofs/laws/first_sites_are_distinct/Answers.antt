@@ -1,5 +1,0 @@
-use Rattle.site_worlds.proofs.FirstSites.{first_are_sites}
-use Rattle.site_worlds.proofs.laws.first_sites_are_distinct.Goals as goal
-
-pub returns : goal.returns
-returns c = first_are_sites c.site_names_are_told.ensures.digits c.site_names_are_told.ensures.apart

@@ -1,7 +1,0 @@
-pub mod Sites
-pub mod Worlds
-pub mod Promises
-pub mod Played
-pub mod inner
--- crates below, passed on to those above
-pub use Rattle.site_runs.specs as site_runs

@@ -1,2 +1,0 @@
-pub mod SiteNames
-pub mod SiteWords

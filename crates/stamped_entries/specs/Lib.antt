@@ -1,4 +1,0 @@
-pub mod SiteNames
-pub mod Joins
-pub mod EntryOrder
-pub mod EntryJoins

@@ -1,0 +1,110 @@
+//! Entries of the store: a stamp, and a text or nothing.
+ghost use Rattle.std.specs.Prelude.{Some, refl};
+ghost use Rattle.std.specs.Ordering.{is_eq};
+ghost use Rattle.std.specs.Cmp.{partial_equiv_from_equiv, partial_order_from_agreeing_total};
+ghost use Rattle.std.proofs.lemmas.Cmp.{eq_by_cmp_equiv};
+ghost use Rattle.stamped_store.specs.EntryOrder.{entry_below, greater, read_cmp};
+ghost use Rattle.stamped_store.specs.EntryJoins.{greater_is_join, read_cmp_total};
+
+use crate::{Join, SiteName};
+use plain::Text;
+use std::cmp::Ordering;
+
+/// When and where an entry was issued: ordered by count, then by the bytes of the site's name.
+#[derive(Clone, Copy, PartialEq, Eq, PartialOrd, Ord)]
+pub struct Stamp {
+    /// Any count may stand here; a message with one that is not from 1 to 10^18 is refused where it is read.
+    pub count: u64,
+    /// The name of the site.
+    pub site: SiteName,
+}
+
+/// A text, and what it was read as. No order and no equality looks at the latter.
+#[derive(Drop)]
+pub struct ReadText<P> {
+    /// The text itself.
+    pub text: Text,
+    /// What it was read as.
+    pub read: P,
+}
+
+/// A stamp and a body: nothing (a tombstone), or a text.
+#[derive(Drop)]
+pub struct Entry<P> {
+    /// When and where the entry was issued.
+    pub stamp: Stamp,
+    /// None is a tombstone: the name is taken, and nothing stands there.
+    pub body: Option<ReadText<P>>,
+}
+
+/// Entries are equal where their stamps and bodies are.
+impl<P> PartialEq for Entry<P> {
+    ghost eq = { λ a b. is_eq (read_cmp a b) };
+
+    ghost laws = { partial_equiv_from_equiv (eq_by_cmp_equiv read_cmp_total) };
+
+    fn eq(&self, other: &Entry<P>) -> bool {
+        self.cmp(other).is_eq()
+    }
+}
+
+impl<P> Eq for Entry<P> {
+    ghost laws = { eq_by_cmp_equiv read_cmp_total };
+}
+
+impl<P> PartialOrd for Entry<P> {
+    ghost partial_cmp = { λ a b. Some (read_cmp a b) };
+
+    ghost laws = { partial_order_from_agreeing_total read_cmp read_cmp_total (λ a b. refl) (λ a b. refl) };
+
+    fn partial_cmp(&self, other: &Entry<P>) -> Option<Ordering> {
+        Some(self.cmp(other))
+    }
+}
+
+/// By count, then site, then body: nothing is the least body, and texts go by their bytes. Takes no memory.
+impl<P> Ord for Entry<P> {
+    ghost cmp = { read_cmp };
+
+    ghost total = { read_cmp_total };
+
+    ghost matches_partial_cmp = { λ a b. refl };
+
+    ghost matches_eq = { λ a b. refl };
+
+    fn cmp(&self, other: &Entry<P>) -> Ordering {
+        match self.stamp.cmp(&other.stamp) {
+            Ordering::Less => Ordering::Less,
+            Ordering::Greater => Ordering::Greater,
+            Ordering::Equal => match (&self.body, &other.body) {
+                (None, None) => Ordering::Equal,
+                (None, Some(_)) => Ordering::Less,
+                (Some(_), None) => Ordering::Greater,
+                (Some(a), Some(b)) => a.text.cmp(&b.text),
+            },
+        }
+    }
+}
+
+/// Entries are joined by keeping the greater.
+impl<P: Drop> Join for Entry<P> {
+    ghost is_below = { entry_below };
+
+    ghost joined = { greater };
+
+    ghost laws = { greater_is_join };
+
+    // At its callers, so that no entry is moved for a call.
+    #[inline(always)]
+    fn below(&self, other: &Entry<P>) -> bool {
+        self.cmp(other).is_le()
+    }
+
+    // The greater entry stays, and of two equal ones this one.
+    #[inline(always)]
+    fn join(&mut self, other: Entry<P>) {
+        if !other.below(self) {
+            *self = other;
+        }
+    }
+}

@@ -1,0 +1,107 @@
+-- What a fetch tells, told of a pull's request.
+use Rattle.std.proofs.Common.{◌≡◌, ◌≢◌, ◌∙◌, ℕ, List, [], ◌++◌, length, Option, Some, refl, sym, ap, subst}
+use Rattle.std.proofs.Common.{append_assoc, append-nil}
+use Rattle.std.specs.Prelude.{codes, decimal}
+use Rattle.std.specs.Borrow.{Bor}
+use Rattle.std.specs.Io.KnownBytes.{Appends, Consumes, IsAtEnd}
+use Rattle.http_streams.specs.http_devices.Devices.{FailsAtLast}
+use Rattle.http_streams.specs.http_framing.Reply.{IsBadReply, IsUnfinishedReply, ReadsReply}
+use Rattle.http_streams.specs.Reads.{EndsByOneRead}
+use Rattle.http_streams.specs.declared.fetch.FetchFault.{FetchFault}
+use Rattle.http_streams.specs.declared.fetch.FetchFault.TheVariants as fetch
+use Rattle.http_streams.specs.http_texts.RequestText.{request_start, length_field, body_bytes, request_text}
+use Rattle.state_exchanges.specs.declared.fault.NetworkFault.{NetworkFault}
+use Rattle.state_exchanges.specs.declared.fault.NetworkFault.TheVariants as network
+use Rattle.state_exchanges.specs.declared.fault.PullFault.TheVariants.{Network}
+use Rattle.state_exchanges.specs.Requests.{delta_request}
+use Rattle.state_exchanges.specs.Exchanges.{IsSent, IsRequestBegun, IsAnswered, IsUnanswered}
+use Rattle.state_exchanges.specs.inner.Faults.{pull_fault}
+
+start_is : (m p : List ℕ) → m ≡ codes "POST" → p ≡ codes "/v1/delta" → request_start m p ≡ codes "POST /v1/delta HTTP/1.1\r\nHost: "
+unfolding request_start
+start_is m p hm hp = ap (λ x. request_start x p) hm ∙ ap (λ y. request_start (codes "POST") y) hp
+
+-- the text of the request, in one piece
+pub request_is : (m h p s : Bor (List ℕ)) → m.now ≡ codes "POST" → p.now ≡ codes "/v1/delta"
+    → request_text (record { method = m; host = h; path = p; body = Some s }) ≡ delta_request h.now s.now
+unfolding request_text length_field body_bytes delta_request
+request_is m h p s hm hp =
+    ap (λ (t : List ℕ). t ++ h.now ++ (codes "\r\nContent-Length: " ++ decimal (length s.now)) ++ codes "\r\nConnection: close\r\n\r\n" ++ s.now) (start_is m.now p.now hm hp)
+    ∙ ap (λ (t : List ℕ). t ++ codes "\r\nConnection: close\r\n\r\n" ++ s.now)
+    (sym (append_assoc (codes "POST /v1/delta HTTP/1.1\r\nHost: " ++ h.now) (codes "\r\nContent-Length: ") (decimal (length s.now))))
+
+module _ {R W : Type 0} (left : R → Option (List ℕ)) (reads : R → ℕ → List ℕ → R → Type 0) (read_failed : R → ℕ)
+    (read_fails : R → R → Type 0) (holds : W → Option (List ℕ)) (write_failed : W → ℕ)
+    (write_fails : W → W → Type 0) (text request : List ℕ) (is : text ≡ request) (r r2 : R) (w w2 : W) where
+  pub answered : (status : ℕ) (body bytes front rest : List ℕ) → Consumes (left r) (left r2) bytes → Appends (holds w) (holds w2) text
+      → ReadsReply bytes status body rest → IsUnfinishedReply front → EndsByOneRead left reads r r2 bytes front
+      → IsAnswered left reads holds request r r2 w w2 status body
+  answered status body bytes front rest came went reply less last = record {
+    bytes = bytes;
+    front = front;
+    rest = rest;
+    read = came;
+    written = subst (λ (t : List ℕ). Appends (holds w) (holds w2) t) is went;
+    reply = reply;
+    unfinished = less;
+    by_one_read = last;
+  }
+
+  sent : (bytes : List ℕ) → Consumes (left r) (left r2) bytes → Appends (holds w) (holds w2) text → IsSent left holds request r r2 w w2 bytes
+  sent bytes came went = record { read = came; written = subst (λ (t : List ℕ). Appends (holds w) (holds w2) t) is went }
+
+  -- the whole request was written
+  pub begun : (bytes : List ℕ) → Consumes (left r) (left r2) bytes → Appends (holds w) (holds w2) text → IsRequestBegun left holds request r r2 w w2
+  begun bytes came went = record {
+    bytes = bytes;
+    front = request;
+    back = [];
+    read = came;
+    joined = sym (append-nil request);
+    written = subst (λ (t : List ℕ). Appends (holds w) (holds w2) t) is went;
+  }
+
+  -- a first part of it
+  abbrev pub IsPart : Type 0
+  IsPart = (bytes : List ℕ) × (front : List ℕ) × (back : List ℕ) × Consumes (left r) (left r2) bytes × (text ≡ front ++ back) × Appends (holds w) (holds w2) front
+
+  pub begun_part : IsPart → IsRequestBegun left holds request r r2 w w2
+  begun_part h = record { bytes = h.0; front = h.1; back = h.2; read = h.3; joined = sym is ∙ h.4; written = h.5 }
+
+  pub record Reports (fault : FetchFault) : Type 0 where
+    pub bad : fault ≡ fetch.BadReply → (bytes : List ℕ) × (front : List ℕ) × Consumes (left r) (left r2) bytes
+        × Appends (holds w) (holds w2) text × IsBadReply bytes × IsUnfinishedReply front × EndsByOneRead left reads r r2 bytes front
+    pub ended : fault ≡ fetch.Ended → (bytes : List ℕ) × Consumes (left r) (left r2) bytes
+        × Appends (holds w) (holds w2) text × IsUnfinishedReply bytes × IsAtEnd (left r2) × EndsByOneRead left reads r r2 bytes bytes
+    pub read : fault ≡ fetch.Read → (bytes : List ℕ) × Consumes (left r) (left r2) bytes
+        × Appends (holds w) (holds w2) text × IsUnfinishedReply bytes × FailsAtLast read_failed read_fails r r2
+    pub write : fault ≡ fetch.Write → (r2 ≡ r) × FailsAtLast write_failed write_fails w w2
+    pub part : IsPart
+
+  abbrev Unanswered : NetworkFault → Type 0
+  Unanswered f = IsUnanswered left reads read_failed read_fails holds write_failed write_fails request r r2 w w2 f
+
+  pub unanswered : (fault : FetchFault) → Reports fault → (f : NetworkFault) → pull_fault fault ≡ Network f → Unanswered f
+  unanswered fetch.Read t f e =
+      let same : network.Read ≡ f = cc in
+      let h = t.read refl in
+      subst Unanswered same (h.0, sent h.0 h.1 h.2, h.3, h.4)
+  unanswered fetch.Write t f e =
+      let same : network.Write ≡ f = cc in
+      let h = t.write refl in
+      subst Unanswered same (begun_part t.part, h.0, h.1)
+  unanswered fetch.BadReply t f e =
+      let same : network.BadReply ≡ f = cc in
+      let h = t.bad refl in
+      subst Unanswered same (h.0, h.1, sent h.0 h.2 h.3, h.4, h.5, h.6)
+  unanswered fetch.Ended t f e =
+      let same : network.Ended ≡ f = cc in
+      let h = t.ended refl in
+      subst Unanswered same (h.0, sent h.0 h.1 h.2, h.3, h.4, h.5)
+  unanswered fetch.NoMemory t f e = absurd (cc)
+
+  pub other_status : (status : ℕ) (body : List ℕ) → status ≢ 200 → IsAnswered left reads holds request r r2 w w2 status body
+      → (f : NetworkFault) → Network (network.OtherStatus status) ≡ Network f → Unanswered f
+  other_status status body apart h f e =
+      let same : network.OtherStatus status ≡ f = cc in
+      subst Unanswered same (apart, (body, h))

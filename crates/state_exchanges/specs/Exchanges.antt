@@ -1,0 +1,57 @@
+-- One request and its reply over a reader and a writer, or why there is no reply of status 200.
+-- Sources: RFC 9112, sections 3, 4 and 6; RFC 9110, section 15.3.1.
+use Rattle.std.specs.Prelude.{◌≡◌, ◌≢◌, ℕ, List, ◌++◌, Option}
+use Rattle.std.specs.Io.KnownBytes.{Appends, Consumes, IsAtEnd}
+use Rattle.http_streams.specs.http_devices.Devices.{FailsAtLast}
+use Rattle.http_streams.specs.http_framing.Reply.{IsBadReply, IsUnfinishedReply, ReadsReply}
+use Rattle.http_streams.specs.Reads.{EndsByOneRead}
+use Rattle.state_exchanges.specs.declared.fault.NetworkFault.{NetworkFault}
+use Rattle.state_exchanges.specs.declared.fault.NetworkFault.TheVariants as network
+
+module _ {R W : Type 0} (left : R → Option (List ℕ)) (holds : W → Option (List ℕ)) where
+  -- the request was written, and this was read
+  pub record IsSent (request : List ℕ) (r r2 : R) (w w2 : W) (bytes : List ℕ) : Type 0 where
+    pub read : Consumes (left r) (left r2) bytes
+    pub written : Appends (holds w) (holds w2) request
+
+  -- a first part of the request was written, or all of it
+  pub record IsRequestBegun (request : List ℕ) (r r2 : R) (w w2 : W) : Type 0 where
+    pub bytes : List ℕ
+    pub front : List ℕ
+    pub back : List ℕ
+    pub read : Consumes (left r) (left r2) bytes
+    pub joined : request ≡ front ++ back
+    pub written : Appends (holds w) (holds w2) front
+
+module _ {R W : Type 0} (left : R → Option (List ℕ)) (reads : R → ℕ → List ℕ → R → Type 0)
+    (holds : W → Option (List ℕ)) where
+  -- the request was written, and what was read begins with a reply of this status and body; before the last read less
+  -- than a reply had come
+  pub record IsAnswered (request : List ℕ) (r r2 : R) (w w2 : W) (status : ℕ) (body : List ℕ) : Type 0 where
+    pub bytes : List ℕ
+    pub front : List ℕ
+    pub rest : List ℕ
+    pub read : Consumes (left r) (left r2) bytes
+    pub written : Appends (holds w) (holds w2) request
+    pub reply : ReadsReply bytes status body rest
+    pub unfinished : IsUnfinishedReply front
+    pub by_one_read : EndsByOneRead left reads r r2 bytes front
+
+module _ {R W : Type 0} (left : R → Option (List ℕ)) (reads : R → ℕ → List ℕ → R → Type 0) (read_failed : R → ℕ)
+    (read_fails : R → R → Type 0) (holds : W → Option (List ℕ)) (write_failed : W → ℕ)
+    (write_fails : W → W → Type 0) where
+  -- why there is no reply of status 200: a read failed, which was the last, and less than a reply had come; a write
+  -- failed, which was the last, and nothing was read; what came begins no reply that can be read, which was not known
+  -- before the last read; the input is at its end, as the last read told; or the reply has another status
+  abbrev pub IsUnanswered : List ℕ → R → R → W → W → NetworkFault → Type 0
+  IsUnanswered request r r2 w w2 network.Read = (bytes : List ℕ) × IsSent left holds request r r2 w w2 bytes
+      × IsUnfinishedReply bytes × FailsAtLast read_failed read_fails r r2
+  IsUnanswered request r r2 w w2 network.Write = IsRequestBegun left holds request r r2 w w2 × (r2 ≡ r)
+      × FailsAtLast write_failed write_fails w w2
+  IsUnanswered request r r2 w w2 network.BadReply = (bytes : List ℕ) × (front : List ℕ)
+      × IsSent left holds request r r2 w w2 bytes × IsBadReply bytes × IsUnfinishedReply front
+      × EndsByOneRead left reads r r2 bytes front
+  IsUnanswered request r r2 w w2 network.Ended = (bytes : List ℕ) × IsSent left holds request r r2 w w2 bytes
+      × IsUnfinishedReply bytes × IsAtEnd (left r2) × EndsByOneRead left reads r r2 bytes bytes
+  IsUnanswered request r r2 w w2 (network.OtherStatus status) = (status ≢ 200)
+      × ((body : List ℕ) × IsAnswered left reads holds request r r2 w w2 status body)

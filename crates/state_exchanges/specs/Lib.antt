@@ -1,0 +1,17 @@
+pub mod Messages
+pub mod Merges
+pub mod Outcomes
+pub mod inner
+pub mod Requests
+pub mod Exchanges
+pub mod Pulls
+-- crates below, passed on to those above
+pub use Rattle.schema_decisions.specs as schema_decisions
+pub use Rattle.schema_decisions.specs.decision_texts
+pub use Rattle.schema_decisions.specs.entity_data
+pub use Rattle.schema_decisions.specs.policy_grammar
+pub use Rattle.sync_messages.specs.schema
+pub use Rattle.sync_messages.specs.stamped_store
+pub use Rattle.sync_messages.specs.message_format
+pub use Rattle.http_streams.specs as http_streams
+pub use Rattle.http_streams.specs.http_devices

@@ -1,0 +1,56 @@
+-- What the texts of a schema and of two messages come to: the state of the store of the updates of both, or the first
+-- refusal. Rules of this product: the schema is judged first, then the first message, then the second.
+use Rattle.std.specs.Prelude.{◌≡◌, ◌⊎◌, ℕ, List, ◌++◌}
+use Rattle.schema_decisions.specs.policy_grammar.declared.policy.Policy.{Policy}
+use Rattle.sync_messages.specs.schema.Schemas.{StatedSchema, IsSchemaOf}
+use Rattle.schema_decisions.specs.entity_data.declared.entity.Entity.{Entity}
+use Rattle.sync_messages.specs.stamped_store.Store.{Store, store_of}
+use Rattle.sync_messages.specs.message_format.declared.update.Update.{Update as SentUpdate}
+use Rattle.sync_messages.specs.message_format.Messages.{state_text}
+use Rattle.sync_messages.specs.message_format.Updates.{plain_updates}
+use Rattle.schema_decisions.specs.decision_texts.declared.refusal.Refusal.{Refusal}
+use Rattle.schema_decisions.specs.Checks.{IsSchemaRefused}
+use Rattle.state_exchanges.specs.Messages.{IsMergeableMessage, IsMessageRefused, IsReadBack}
+
+-- ---- under a schema
+
+-- both are messages, and the store is that of the updates of both
+pub record IsStoreOfBoth (s : StatedSchema) (f g : List ℕ) (m : Store) : Type 0 where
+  pub first : List (SentUpdate Policy Entity)
+  pub second : List (SentUpdate Policy Entity)
+  pub first_read : IsMergeableMessage s f first
+  pub second_read : IsMergeableMessage s g second
+  pub store_is : m ≡ store_of (plain_updates first ++ plain_updates second)
+
+-- the first is a message, the second is none
+pub record IsSecondRefused (s : StatedSchema) (f g : List ℕ) (refusal : Refusal) : Type 0 where
+  pub first : List (SentUpdate Policy Entity)
+  pub first_read : IsMergeableMessage s f first
+  pub refused : IsMessageRefused s g refusal
+
+-- which of the two is the first that is none, and why
+abbrev pub AreRefusedUnder : StatedSchema → List ℕ → List ℕ → Refusal → Type 0
+AreRefusedUnder s f g refusal = IsMessageRefused s f refusal ⊎ IsSecondRefused s f g refusal
+
+-- ---- the three texts
+
+-- all are read, and this is the state of the store of the updates of both messages
+pub record IsMerged (schema f g text : List ℕ) : Type 0 where
+  pub stated : StatedSchema
+  pub schema_is : IsSchemaOf schema stated
+  pub store : Store
+  pub both : IsStoreOfBoth stated f g store
+  pub text_is : text ≡ state_text stated.label store
+
+-- the state is a message of the schema again, of the updates of the store
+abbrev pub IsMergedBack : {schema f g text : List ℕ} → IsMerged schema f g text → Type 0
+IsMergedBack {schema} {f} {g} {text} m = IsReadBack m.stated m.store text
+
+-- the messages are the first texts that are refused
+pub record AreNextRefused (schema f g : List ℕ) (refusal : Refusal) : Type 0 where
+  pub stated : StatedSchema
+  pub schema_is : IsSchemaOf schema stated
+  pub refused : AreRefusedUnder stated f g refusal
+
+abbrev pub AreRefused : List ℕ → List ℕ → List ℕ → Refusal → Type 0
+AreRefused schema f g refusal = IsSchemaRefused schema refusal ⊎ AreNextRefused schema f g refusal

@@ -1,0 +1,14 @@
+-- The faults of a fetch among those of a pull.
+use Rattle.schema_decisions.specs.decision_texts.Refusals.{no_memory}
+use Rattle.http_streams.specs.declared.fetch.FetchFault.{FetchFault}
+use Rattle.http_streams.specs.declared.fetch.FetchFault.TheVariants as fetch
+use Rattle.state_exchanges.specs.declared.fault.NetworkFault.TheVariants as network
+use Rattle.state_exchanges.specs.declared.fault.PullFault.{PullFault}
+use Rattle.state_exchanges.specs.declared.fault.PullFault.TheVariants.{Refused, Network}
+
+abbrev pub pull_fault : FetchFault → PullFault
+pull_fault fetch.Read = Network network.Read
+pull_fault fetch.Write = Network network.Write
+pull_fault fetch.BadReply = Network network.BadReply
+pull_fault fetch.Ended = Network network.Ended
+pull_fault fetch.NoMemory = Refused no_memory

@@ -1,0 +1,21 @@
+-- Two messages merged under a schema that is read already.
+use Rattle.std.specs.Prelude.{◌≡◌, ℕ, List, Result, Ok}
+use Rattle.schema_decisions.specs.decision_texts.declared.refusal.Refusal.{Refusal}
+use Rattle.sync_messages.specs.schema.Schemas.{StatedSchema}
+use Rattle.sync_messages.specs.stamped_store.Store.{Store, IsStoreJoin, abstract_store}
+use Rattle.sync_messages.specs.message_format.Messages.{state_text}
+use Rattle.state_exchanges.specs.Messages.{IsReadBack}
+use Rattle.state_exchanges.specs.Merges.{IsStoreOfBoth}
+use Rattle.state_exchanges.specs.declared.joining.Joined.{Joined}
+
+-- the other message was joined into a store, and this is the join of the first store and that one
+pub record IsJoinWith (store : Store) (other : Result Joined Refusal) (both : Store) : Type 0 where
+  pub joined : Joined
+  pub other_is : other ≡ Ok joined
+  pub join : IsStoreJoin store (abstract_store joined.store) both
+
+pub record IsMergedUnder (s : StatedSchema) (f g text : List ℕ) : Type 0 where
+  pub store : Store
+  pub both : IsStoreOfBoth s f g store
+  pub text_is : text ≡ state_text s.label store
+  pub reads_back : IsReadBack s store text

@@ -1,0 +1,55 @@
+//! Why nothing is pulled.
+ghost use Rattle.std.specs.Prelude.{◌≡◌};
+ghost use Rattle.schema_decisions.specs.decision_texts.Refusals.{no_memory};
+ghost use Rattle.state_exchanges.specs.declared.fault.PullFault.TheVariants as pull;
+
+use plain::NoMemory;
+use schema_decisions::Refusal;
+use thiserror::Error;
+
+/// Why there is no reply of status 200.
+#[derive(Clone, Copy, PartialEq, Eq, Debug, Error)]
+pub enum NetworkFault {
+    /// The reader failed (70).
+    #[error("network 70: reading failed")]
+    Read,
+    /// The writer failed (71).
+    #[error("network 71: writing failed")]
+    Write,
+    /// What came begins no reply of one length within the limits (72).
+    #[error("network 72: no HTTP reply of one length within the limits")]
+    BadReply,
+    /// The input ended before the reply did (73).
+    #[error("network 73: connection closed before the end of the reply")]
+    Ended,
+    /// The reply has this status, which is not 200. Its body is not looked at.
+    #[error("network 74: reply with status {0}")]
+    OtherStatus(u16),
+}
+
+/// Why nothing is pulled. There is no new state then.
+#[derive(Clone, Copy, PartialEq, Eq, Debug, Error)]
+pub enum PullFault {
+    /// The schema, the state or the message that came is refused, or memory was (1).
+    #[error(transparent)]
+    Refused(Refusal),
+    /// No reply of status 200 came.
+    #[error(transparent)]
+    Network(NetworkFault),
+}
+
+impl From<Refusal> for PullFault {
+    ghost from_gives = { λ refusal f. f ≡ pull.Refused refusal };
+
+    fn from(refusal: Refusal) -> PullFault {
+        PullFault::Refused(refusal)
+    }
+}
+
+impl From<NoMemory> for PullFault {
+    ghost from_gives = { λ _ f. f ≡ pull.Refused no_memory };
+
+    fn from(error: NoMemory) -> PullFault {
+        PullFault::Refused(Refusal::from(error))
+    }
+}

@@ -1,0 +1,131 @@
+//! A message's updates, joined into a store.
+ghost use Rattle.std.specs.Prelude.{◌≡◌, ◌++◌, ◌∷◌, [], length, IfOk, IfErr, OnOk};
+ghost use Rattle.sync_messages.specs.schema.Views.{schema_view};
+ghost use Rattle.sync_messages.specs.stamped_store.Store.{abstract_store, store_of, updates};
+ghost use Rattle.schema_decisions.specs.decision_texts.Refusals.{no_memory};
+ghost use Rattle.sync_messages.specs.message_format.Messages.{state_text};
+ghost use Rattle.sync_messages.specs.message_format.Updates.{plain_update, plain_updates};
+ghost use Rattle.state_exchanges.specs.Messages.{IsMergeableMessage, IsMessageRefused, IsSendable, IsReadBack, Joins};
+ghost use Rattle.state_exchanges.specs.Messages.{message_refusal};
+
+use plain::NoMemory;
+use schema_decisions::{Policy, Refusal};
+use std::alloc::Global;
+use sync_messages::{
+    Entity, MessageFault, PolicyStore, Schema, SchemaTexts, Update, read_message,
+    updates_have_one_store, valid_messages_are_read, write_state,
+};
+
+/// Returns a fault of a message (50 to 56, or 1), with its place and the number of the refusal inside.
+pub fn message_refusal(fault: MessageFault) -> Refusal
+    ensures { result ≡ message_refusal fault }
+{
+    Refusal {
+        code: fault.code(),
+        place: fault.place(),
+        within: fault.within(),
+    }
+}
+
+/// Returns the updates of a message, or its first fault.
+fn updates_of(
+    alloc: Global,
+    schema: &Schema,
+    bytes: &[u8],
+) -> Result<Vec<Update<Policy, Entity>>, Refusal>
+    ensures read { IfOk result (λ us. IsMergeableMessage (schema_view schema.now) bytes.now us.items) }
+    ensures refused { IfErr result
+        (λ r. (r ≡ no_memory → ⊥) → IsMessageRefused (schema_view schema.now) bytes.now r) }
+{
+    let texts = SchemaTexts::under(schema);
+    match read_message(alloc, schema.label(), &texts, bytes) {
+        Ok(updates) => Ok(updates),
+        Err(fault) => Err(message_refusal(fault)),
+    }
+}
+
+/// Joins one update.
+fn take_one(
+    store: &mut PolicyStore<Policy, Entity>,
+    update: Update<Policy, Entity>,
+) -> Result<(), NoMemory>
+    ensures { OnOk result (abstract_store store.new
+        ≡ store_of (updates (abstract_store store.old) ++ plain_update update ∷ [])) }
+{
+    match update {
+        Update::Policy { id, entry } => match store.take_policy(id.into_string(), entry) {
+            Ok(()) => Ok(()),
+            Err(_) => Err(NoMemory),
+        },
+        Update::Entity { uid, entry } => match store.take_entity(uid, entry) {
+            Ok(()) => Ok(()),
+            Err(_) => Err(NoMemory),
+        },
+    }
+}
+
+/// Joins updates in their order, and counts them.
+fn take_all(
+    store: &mut PolicyStore<Policy, Entity>,
+    came: Vec<Update<Policy, Entity>>,
+) -> Result<usize, NoMemory>
+    ensures store { OnOk result (abstract_store store.new
+        ≡ store_of (updates (abstract_store store.old) ++ plain_updates came.items)) }
+    ensures count { IfOk result (λ n. n ≡ length came.items) }
+{
+    updates_have_one_store();
+    let mut taken = 0;
+    for update in came {
+        take_one(store, update)?;
+        taken += 1;
+    }
+    Ok(taken)
+}
+
+/// What a message was joined into, and how many updates came.
+#[derive(Drop)]
+pub struct Joined {
+    /// The store of the updates of both.
+    pub store: PolicyStore<Policy, Entity>,
+    /// How many updates the message has, also those that lost.
+    pub taken: usize,
+}
+
+/// Joins the updates of a state or a delta into a store, in their order: at each name the greater entry stands.
+///
+/// A message with any fault is refused whole (50 to 56, with its place and the number of the refusal inside). Where
+/// memory is refused (1), the store is dropped, so nothing is left half joined.
+pub fn join_message(
+    alloc: Global,
+    schema: &Schema,
+    store: PolicyStore<Policy, Entity>,
+    bytes: &[u8],
+) -> Result<Joined, Refusal>
+    ensures joined { IfOk result (λ j. Joins (schema_view schema.now) (abstract_store store) bytes.now
+        (abstract_store j.store) j.taken) }
+    ensures sendable { IfOk result (λ j. IsSendable (schema_view schema.now) (abstract_store store)
+        → IsSendable (schema_view schema.now) (abstract_store j.store)) }
+    ensures refused { IfErr result
+        (λ r. (r ≡ no_memory → ⊥) → IsMessageRefused (schema_view schema.now) bytes.now r) }
+{
+    valid_messages_are_read::<Policy, Entity, SchemaTexts<'static>>();
+    let mut store = store;
+    let updates = updates_of(alloc, schema, bytes)?;
+    let taken = take_all(&mut store, updates)?;
+    Ok(Joined { store, taken })
+}
+
+/// Returns a store as a state of the schema. Where its updates are those of messages of the schema, it is read back as
+/// them. Fails for memory alone.
+pub fn state_of(
+    alloc: Global,
+    schema: &Schema,
+    store: &PolicyStore<Policy, Entity>,
+) -> Result<Vec<u8>, NoMemory>
+    ensures text { IfOk result (λ b. b.items ≡ state_text (schema_view schema.now).label (abstract_store store.now)) }
+    ensures reads_back { IfOk result (λ b. IsSendable (schema_view schema.now) (abstract_store store.now)
+        → IsReadBack (schema_view schema.now) (abstract_store store.now) b.items) }
+{
+    valid_messages_are_read::<Policy, Entity, SchemaTexts<'static>>();
+    write_state(alloc, schema.label(), store)
+}

@@ -1,0 +1,37 @@
+//! Laws of merged states; the functions do nothing.
+ghost use Rattle.std.specs.Prelude.{ℕ, List};
+ghost use Rattle.schema_decisions.specs.schema_types.declared.fault.SchemaFault.{SchemaFault};
+ghost use Rattle.sync_messages.specs.schema.SchemaEntries.{SchemaEntries as SchemaKept};
+ghost use Rattle.sync_messages.specs.schema.Schemas.{IsSchemaOf, RefusedFor};
+ghost use Rattle.sync_messages.specs.schema.Views.{schema_view};
+ghost use Rattle.state_exchanges.specs.Outcomes.{HaveOneOutcome, OrderDoesNotMatter, RepeatsDoNotMatter};
+ghost use Rattle.state_exchanges.specs.Outcomes.{GroupsDoNotMatter};
+
+use schema_decisions::Policy;
+use sync_messages::{
+    Entity, SchemaTexts, bytes_have_one_outcome, messages_have_one_outcome,
+    stored_texts_have_one_reading, updates_have_one_store,
+};
+
+/// Proves that two messages come to the same state whichever way round they are merged, again with either of them, and,
+/// with a third, in whatever groups.
+pub fn order_and_repeats_do_not_matter()
+    ensures order { OrderDoesNotMatter }
+    ensures repeats { RepeatsDoNotMatter }
+    ensures groups { GroupsDoNotMatter }
+{
+    updates_have_one_store();
+    bytes_have_one_outcome();
+}
+
+/// Proves that the texts of a schema and of two messages come to exactly one thing: a state or a refusal. It is said of
+/// bytes that state a schema, as it is kept, and of those that state none.
+pub fn merges_have_one_outcome()
+    ensures stated { (bytes f g : List ℕ) (schema : SchemaKept) → IsSchemaOf bytes (schema_view schema)
+        → HaveOneOutcome bytes f g }
+    ensures unstated { (bytes f g : List ℕ) (fault : SchemaFault) → RefusedFor bytes fault → HaveOneOutcome bytes f g }
+{
+    bytes_have_one_outcome();
+    messages_have_one_outcome::<Policy, Entity, SchemaTexts<'static>>();
+    stored_texts_have_one_reading();
+}

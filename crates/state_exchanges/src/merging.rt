@@ -1,0 +1,61 @@
+//! Two messages, merged.
+ghost use Rattle.std.specs.Prelude.{◌≡◌, IfOk, IfErr, Err};
+ghost use Rattle.sync_messages.specs.schema.Views.{schema_view};
+ghost use Rattle.sync_messages.specs.stamped_store.Store.{abstract_store};
+ghost use Rattle.schema_decisions.specs.decision_texts.Refusals.{no_memory};
+ghost use Rattle.state_exchanges.specs.Merges.{IsMerged, IsMergedBack, AreRefused, AreRefusedUnder};
+ghost use Rattle.state_exchanges.specs.inner.Merging.{IsJoinWith, IsMergedUnder};
+
+use crate::joining::{Joined, join_message, state_of};
+use plain::NoMemory;
+use schema_decisions::{Policy, Refusal, schema_in};
+use stamped_store::laws::stores_are_joined;
+use std::alloc::Global;
+use sync_messages::{Entity, PolicyStore, Schema, updates_have_one_store};
+
+/// Returns the join of a store and of what a message was joined into, or why that message was refused.
+fn joined_with(
+    store: PolicyStore<Policy, Entity>,
+    other: Result<Joined, Refusal>,
+) -> Result<PolicyStore<Policy, Entity>, Refusal>
+    ensures joined { IfOk result (λ t. IsJoinWith (abstract_store store) other (abstract_store t)) }
+    ensures refused { IfErr result (λ r. (r ≡ no_memory → ⊥) → other ≡ Err r) }
+{
+    let mut both = store;
+    match other {
+        Ok(joined) => match both.merge(joined.store) {
+            Ok(()) => Ok(both),
+            Err(_) => Err(Refusal::from(NoMemory)),
+        },
+        Err(refusal) => Err(refusal),
+    }
+}
+
+/// Returns the state of the store of the updates of two messages of a schema, or the refusal of the first that is none.
+fn merge_under(alloc: Global, schema: &Schema, f: &[u8], g: &[u8]) -> Result<Vec<u8>, Refusal>
+    ensures merged { IfOk result (λ b. IsMergedUnder (schema_view schema.now) f.now g.now b.items) }
+    ensures refused { IfErr result
+        (λ r. (r ≡ no_memory → ⊥) → AreRefusedUnder (schema_view schema.now) f.now g.now r) }
+{
+    updates_have_one_store();
+    stores_are_joined();
+    let Joined { store, taken: _ } = join_message(alloc, schema, PolicyStore::new(alloc), f)?;
+    let second = join_message(alloc, schema, PolicyStore::new(alloc), g);
+    let both = joined_with(store, second)?;
+    Ok(state_of(alloc, schema, &both)?)
+}
+
+/// Returns the state of the store of the updates of two messages, each a state or a delta, under the schema that bytes
+/// state. It is the same bytes whichever way round they are, and merged with either again; and it is read back as the
+/// updates of that store.
+///
+/// Refused in this order: the schema (20 to 25, without a place), the first message, the second (both 50 to 56, with
+/// its place and the number of the refusal inside). `NoMemory` (1) may come at any point; then there is no state.
+pub fn merge_texts(alloc: Global, schema: &[u8], f: &[u8], g: &[u8]) -> Result<Vec<u8>, Refusal>
+    ensures merged { IfOk result
+        (λ b. (m : IsMerged schema.now f.now g.now b.items) × IsMergedBack m) }
+    ensures refused { IfErr result (λ r. (r ≡ no_memory → ⊥) → AreRefused schema.now f.now g.now r) }
+{
+    let schema = schema_in(alloc, schema)?;
+    merge_under(alloc, &schema, f, g)
+}

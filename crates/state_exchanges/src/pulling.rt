@@ -1,0 +1,206 @@
+//! What another site has that is news, pulled.
+ghost use Rattle.std.specs.Prelude.{◌≡◌, ◌≢◌, ◌⊎◌, ℕ, List, Ok, Err, IfOk, IfErr, OnErr, MatchResult, option_map};
+ghost use Rattle.sync_messages.specs.schema.Schemas.{StatedSchema};
+ghost use Rattle.sync_messages.specs.schema.Views.{schema_view};
+ghost use Rattle.sync_messages.specs.stamped_store.Store.{Store, abstract_store};
+ghost use Rattle.schema_decisions.specs.decision_texts.declared.refusal.Refusal.{Refusal};
+ghost use Rattle.schema_decisions.specs.decision_texts.Refusals.{no_memory};
+ghost use Rattle.state_exchanges.specs.Messages.{IsMessageRefused, IsSendable};
+ghost use Rattle.state_exchanges.specs.declared.fault.NetworkFault.{NetworkFault};
+ghost use Rattle.state_exchanges.specs.Requests.{Holds, IsReady, request_for};
+ghost use Rattle.state_exchanges.specs.Exchanges.{IsAnswered, IsUnanswered, IsRequestBegun};
+ghost use Rattle.state_exchanges.specs.Pulls.{IsPulled, IsRefusedFirst, IsStateRefused};
+
+use crate::asking::ask;
+use crate::fault::PullFault;
+use crate::joining::{Joined, join_message, state_of};
+use http_streams::{Sink, Source};
+use plain::NoMemory;
+use schema_decisions::{Policy, Refusal, schema_in};
+use std::alloc::Global;
+use sync_messages::{Entity, PolicyStore, Schema, write_summary};
+
+/// What was pulled.
+#[derive(Drop)]
+pub struct Pulled {
+    /// The new state, as a message.
+    pub state: Vec<u8>,
+    /// How many updates came, also those that lost.
+    pub taken: usize,
+}
+
+/// Returns the store of a state; empty where it is absent.
+fn store_in(
+    alloc: Global,
+    schema: &Schema,
+    state: Option<&[u8]>,
+) -> Result<PolicyStore<Policy, Entity>, Refusal>
+    ensures holds { IfOk result (λ m. Holds (schema_view schema.now) (option_map (λ b. b.now) state.entry)
+        (abstract_store m)) }
+    ensures sendable { IfOk result (λ m. IsSendable (schema_view schema.now) (abstract_store m)) }
+    ensures refused { IfErr result (λ r. (r ≡ no_memory → ⊥)
+        → IsStateRefused (schema_view schema.now) (option_map (λ b. b.now) state.entry) r) }
+{
+    match state {
+        Some(bytes) => match join_message(alloc, schema, PolicyStore::new(alloc), bytes) {
+            Ok(joined) => {
+                let Joined { store, taken: _ } = joined;
+                Ok(store)
+            }
+            Err(refusal) => Err(refusal),
+        },
+        None => Ok(PolicyStore::new(alloc)),
+    }
+}
+
+/// Joins the message that came, and writes the new state.
+fn take_reply(
+    alloc: Global,
+    schema: &Schema,
+    store: PolicyStore<Policy, Entity>,
+    message: &[u8],
+) -> Result<Pulled, Refusal>
+    requires { IsSendable (schema_view schema.now) (abstract_store store) }
+    ensures pulled { IfOk result
+        (λ p. IsPulled (schema_view schema.now) (abstract_store store) message.now p.state.items p.taken) }
+    ensures refused { IfErr result
+        (λ r. (r ≡ no_memory → ⊥) → IsMessageRefused (schema_view schema.now) message.now r) }
+{
+    let Joined { store, taken } = join_message(alloc, schema, store, message)?;
+    let state = state_of(alloc, schema, &store)?;
+    Ok(Pulled { state, taken })
+}
+
+/// Returns what was pulled, or why not, among the faults of a pull.
+fn told(pulled: Result<Pulled, Refusal>) -> Result<Pulled, PullFault>
+    ensures { MatchResult pulled (λ p. result ≡ Ok p) (λ r. result ≡ Err (PullFault.Refused r)) }
+{
+    match pulled {
+        Ok(pulled) => Ok(pulled),
+        Err(refusal) => Err(PullFault::Refused(refusal)),
+    }
+}
+
+/// Asks for what is news to whoever has a store of a schema, and answers the body of the reply.
+fn news_for<R: Source, W: Sink>(
+    alloc: Global,
+    schema: &Schema,
+    store: &PolicyStore<Policy, Entity>,
+    host: &[u8],
+    reader: &mut R,
+    writer: &mut W,
+) -> Result<Vec<u8>, PullFault>
+    ensures answered { IfOk result (λ body. IsAnswered R.left R.reads W.holds
+        (request_for host.now (schema_view schema.now) (abstract_store store.now)) reader.old reader.new writer.old
+        writer.new 200 body.items) }
+    ensures refused { (r : Refusal) → result ≡ Err (PullFault.Refused r) → r ≡ no_memory }
+    ensures network { (f : NetworkFault) → result ≡ Err (PullFault.Network f)
+        → IsUnanswered R.left R.reads R.failed R.fails W.holds W.failed W.fails
+        (request_for host.now (schema_view schema.now) (abstract_store store.now)) reader.old reader.new writer.old
+        writer.new f }
+    ensures err { OnErr result (((reader.new ≡ reader.old) × (writer.new ≡ writer.old)) ⊎ IsRequestBegun R.left W.holds
+        (request_for host.now (schema_view schema.now) (abstract_store store.now)) reader.old reader.new writer.old
+        writer.new) }
+    ensures reads { result ≢ Err (PullFault.Network NetworkFault.Read) → R.failed reader.new ≡ R.failed reader.old }
+    ensures writes { result ≢ Err (PullFault.Network NetworkFault.Write) → W.failed writer.new ≡ W.failed writer.old }
+{
+    match write_summary(alloc, schema.label(), store) {
+        Ok(summary) => ask(alloc, host, &summary, reader, writer),
+        Err(_) => Err(PullFault::from(NoMemory)),
+    }
+}
+
+/// Pulls under a schema that is read, into a store whose updates are valid.
+fn pull_under<R: Source, W: Sink>(
+    alloc: Global,
+    schema: &Schema,
+    store: PolicyStore<Policy, Entity>,
+    host: &[u8],
+    reader: &mut R,
+    writer: &mut W,
+) -> Result<Pulled, PullFault>
+    requires { IsSendable (schema_view schema.now) (abstract_store store) }
+    ensures pulled { IfOk result (λ p. (body : List ℕ) × IsAnswered R.left R.reads W.holds
+        (request_for host.now (schema_view schema.now) (abstract_store store)) reader.old reader.new writer.old
+        writer.new 200 body
+        × IsPulled (schema_view schema.now) (abstract_store store) body p.state.items p.taken) }
+    ensures refused { (r : Refusal) → result ≡ Err (PullFault.Refused r) → r ≢ no_memory
+        → (body : List ℕ) × IsAnswered R.left R.reads W.holds
+        (request_for host.now (schema_view schema.now) (abstract_store store)) reader.old reader.new writer.old
+        writer.new 200 body
+        × IsMessageRefused (schema_view schema.now) body r }
+    ensures network { (f : NetworkFault) → result ≡ Err (PullFault.Network f)
+        → IsUnanswered R.left R.reads R.failed R.fails W.holds W.failed W.fails
+        (request_for host.now (schema_view schema.now) (abstract_store store)) reader.old reader.new writer.old
+        writer.new f }
+    ensures err { OnErr result (((reader.new ≡ reader.old) × (writer.new ≡ writer.old)) ⊎ IsRequestBegun R.left W.holds
+        (request_for host.now (schema_view schema.now) (abstract_store store)) reader.old reader.new writer.old
+        writer.new) }
+    ensures reads { result ≢ Err (PullFault.Network NetworkFault.Read) → R.failed reader.new ≡ R.failed reader.old }
+    ensures writes { result ≢ Err (PullFault.Network NetworkFault.Write) → W.failed writer.new ≡ W.failed writer.old }
+{
+    match news_for(alloc, schema, &store, host, reader, writer) {
+        Ok(body) => told(take_reply(alloc, schema, store, &body)),
+        Err(fault) => Err(fault),
+    }
+}
+
+/// Asks the site behind a reader and a writer for what is news to whoever has a state, and joins it.
+///
+/// `schema` is the text of the schema, `state` a state or a delta of it, absent for an empty store, and `host` what the
+/// field `Host` says. One request is written, `POST /v1/delta` with the summary of the state, and its reply is read;
+/// the updates of its body are joined, and the new state is answered, with their number. No site takes part
+/// in it on this side, and none is named: nothing is stamped.
+///
+/// Refused in this order: the schema (20 to 25, without a place), the state (50 to 56, with its place and the number of
+/// the refusal inside), both before anything is sent; the network's faults (70 to 73, or a reply of another status than
+/// 200); the message that came (50 to 56). `NoMemory` (1) may come at any point, also when the updates are taken. After
+/// any of these there is no new state.
+pub fn pull_over<R: Source, W: Sink>(
+    alloc: Global,
+    schema: &[u8],
+    state: Option<&[u8]>,
+    host: &[u8],
+    reader: &mut R,
+    writer: &mut W,
+) -> Result<Pulled, PullFault>
+    // The request was sent, a reply of status 200 came, and its body was joined.
+    ensures pulled { IfOk result (λ p. (s : StatedSchema) × (m : Store) × (body : List ℕ)
+        × IsReady schema.now (option_map (λ b. b.now) state.entry) s m
+        × IsAnswered R.left R.reads W.holds (request_for host.now s m) reader.old reader.new writer.old writer.new
+        200 body
+        × IsPulled s m body p.state.items p.taken) }
+
+    // The texts are refused, and nothing was sent; or a reply of status 200 came, and its body is refused.
+    ensures refused { (r : Refusal) → result ≡ Err (PullFault.Refused r) → r ≢ no_memory
+        → (IsRefusedFirst schema.now (option_map (λ b. b.now) state.entry) r × (reader.new ≡ reader.old)
+        × (writer.new ≡ writer.old))
+        ⊎ ((s : StatedSchema) × (m : Store) × (body : List ℕ)
+        × IsReady schema.now (option_map (λ b. b.now) state.entry) s m
+        × IsAnswered R.left R.reads W.holds (request_for host.now s m) reader.old reader.new writer.old writer.new
+        200 body
+        × IsMessageRefused s body r) }
+
+    // The texts are read, and no reply of status 200 came.
+    ensures network { (f : NetworkFault) → result ≡ Err (PullFault.Network f) → (s : StatedSchema) × (m : Store)
+        × IsReady schema.now (option_map (λ b. b.now) state.entry) s m
+        × IsUnanswered R.left R.reads R.failed R.fails W.holds W.failed W.fails (request_for host.now s m)
+        reader.old reader.new writer.old writer.new f }
+
+    // After any fault nothing was sent, or a first part of the request, or all of it.
+    ensures err { OnErr result (((reader.new ≡ reader.old) × (writer.new ≡ writer.old))
+        ⊎ ((s : StatedSchema) × (m : Store) × IsReady schema.now (option_map (λ b. b.now) state.entry) s m
+        × IsRequestBegun R.left W.holds (request_for host.now s m) reader.old reader.new writer.old writer.new)) }
+
+    // No failure of a device is passed over.
+    ensures reads { result ≢ Err (PullFault.Network NetworkFault.Read) → R.failed reader.new ≡ R.failed reader.old }
+    ensures writes { result ≢ Err (PullFault.Network NetworkFault.Write) → W.failed writer.new ≡ W.failed writer.old }
+{
+    match schema_in(alloc, schema) {
+        Ok(schema) => match store_in(alloc, &schema, state) {
+            Ok(store) => pull_under(alloc, &schema, store, host, reader, writer),
+            Err(refusal) => Err(PullFault::Refused(refusal)),
+        },
+        Err(refusal) => Err(PullFault::Refused(refusal)),
+    }
+}

@@ -1,9 +1,0 @@
-pub mod Written
-pub mod ReadBack
-pub mod News
-pub mod Walking
-pub mod Entries
-pub mod Found
-pub mod Taking
-pub mod Outcomes
-pub mod Raised

@@ -1,5 +1,0 @@
-use Rattle.static_types.proofs.Listed.{listed}
-use Rattle.static_types.proofs.environment.TypingEnvironment.is_action_ancestor.Goals as goal
-
-pub returns : goal.returns
-returns c = listed _ c.args.above.now c.is_action_above.result c.is_action_above.ensures

@@ -1,4 +1,0 @@
-pub mod Joins
-pub mod Layers
-pub mod Parts
-pub mod Rows

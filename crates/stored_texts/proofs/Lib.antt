@@ -1,5 +1,0 @@
-pub mod CanonicalTexts
-pub mod FaultLemmas
-pub mod Readings
--- crates below, passed on to those above
-pub use Rattle.validator.proofs.of_expressions

@@ -1,5 +1,0 @@
-use Rattle.stored_texts.proofs.CanonicalTexts.{canonical_is_read}
-use Rattle.stored_texts.proofs.laws.canonical_texts_are_read.Goals as goal
-
-pub returns : goal.returns
-returns c = canonical_is_read c.canonical_texts_are_read.ensures.back

@@ -1,0 +1,31 @@
+-- That each text comes to exactly one thing under a schema.
+use Rattle.std.specs.Prelude.{ℕ, List}
+use Rattle.values.specs.declared.entity_uid.EntityUid.{EntityUid}
+use Rattle.validator.specs.entities.schema.Schemas.{StatedSchema}
+use Rattle.validator.specs.entities.schema.WellFormed.{IsWellFormed}
+use Rattle.validator.specs.entities.entity_data.declared.entity.Entity.{Entity}
+use Rattle.validator.specs.entities.Canonical.{canonical_text}
+use Rattle.validator.specs.entities.CanonicalLaws.{IsReadFrom}
+use Rattle.message_format.specs.declared.bodies.BodyFault.TheVariants.{OtherName}
+use Rattle.message_format.specs.Bodies.{HasOneOutcome, HasOutcome}
+use Rattle.sync_messages.specs.Texts.{ReadsPolicy, RefusesPolicy, ReadsEntity, RefusesEntity}
+
+-- a text is that of one policy that passes, or refused for one fault, and not both
+abbrev pub PoliciesHaveOneReading : Type 0
+PoliciesHaveOneReading = (s : StatedSchema) (text : List ℕ) → HasOneOutcome (ReadsPolicy s text) (RefusesPolicy s text)
+    × HasOutcome (ReadsPolicy s text) (RefusesPolicy s text)
+
+-- and so it is of entities, under each uid
+abbrev pub EntitiesHaveOneReading : Type 0
+EntitiesHaveOneReading = (s : StatedSchema) (uid : EntityUid) (text : List ℕ)
+    → HasOneOutcome (ReadsEntity s uid text) (RefusesEntity s uid text)
+    × HasOutcome (ReadsEntity s uid text) (RefusesEntity s uid text)
+
+-- no policy is refused as the text of another name
+abbrev pub PoliciesHaveNoOtherName : Type 0
+PoliciesHaveNoOtherName = (s : StatedSchema) (text : List ℕ) → RefusesPolicy s text OtherName → ⊥
+
+-- The canonical text of an entity that was read from bytes is read as that entity, under its uid.
+abbrev pub CanonicalTextsAreRead : Type 0
+CanonicalTextsAreRead = (s : StatedSchema) (bytes : List ℕ) (e : Entity) → IsWellFormed s → IsReadFrom s bytes e
+    → ReadsEntity s e.uid (canonical_text e) e

@@ -1,0 +1,204 @@
+//! Texts of policies and of entities, read under a schema.
+ghost use Rattle.std.specs.Prelude.{◌≡◌, ◌≢◌, ℕ, List, IfOk, IfErr, MatchResult, Ok, Err};
+ghost use Rattle.std.specs.Str.{bytes_eq};
+ghost use Rattle.serde_json.specs.View.{view};
+ghost use Rattle.json_words.specs.ReadsAs.{ReadsAs, AlwaysReadsAs, or_fault, demand};
+ghost use Rattle.json_words.specs.Json.{json_of};
+ghost use Rattle.validator.specs.entities.ancestor_search.Decided.{is_same};
+ghost use Rattle.message_format.specs.policy_grammar.Faults as grammar;
+ghost use Rattle.message_format.specs.policy_grammar.PolicyText.{IsPolicyText};
+ghost use Rattle.validator.specs.entities.schema.Schemas.{StatedSchema};
+ghost use Rattle.validator.specs.entities.schema.Views.{schema_view};
+ghost use Rattle.validator.specs.entities.Entities.{entity_stated_in};
+ghost use Rattle.validator.specs.entities.Canonical.{canonical_text};
+ghost use Rattle.validator.specs.Faults as validation;
+ghost use Rattle.validator.specs.Passing.{Passes};
+ghost use Rattle.plain.specs.Refused.{OrNoMemory};
+ghost use Rattle.sync_messages.specs.Texts.{ReadsPolicy, RefusesPolicy, RefusesEntity, entity_of_text, refused_by};
+
+use message_format::{
+    Bodies, BodyFault, Policy, ReadFault, Readings, Scratch, parse_policy, read_json_by,
+};
+use serde_json::Value;
+use std::alloc::Global;
+use validator::{Entity, EntityFault, Schema, TypeFault, canonical_text, check, read_entity};
+use values::EntityUid;
+
+/// What texts are read as under a schema. Contracts see what the schema states.
+#[derive(Clone, Copy)]
+pub struct SchemaTexts<'a> {
+    /// The schema.
+    pub schema: &'a Schema,
+}
+
+impl<'a> SchemaTexts<'a> {
+    /// Texts under this schema. Takes no memory.
+    pub fn under(schema: &'a Schema) -> Self
+        ensures { result.schema.now ≡ schema.now }
+    {
+        SchemaTexts { schema }
+    }
+}
+
+impl Readings<Policy, Entity> for SchemaTexts<'_> {
+    ghost use Rattle.validator.specs.entities.schema.Views.{schema_view};
+    ghost use Rattle.sync_messages.specs.Texts.{ReadsPolicy, ReadsEntity};
+
+    ghost reads_policy = { λ t _ text p. ReadsPolicy (schema_view t.schema.now) text p };
+
+    ghost reads_entity = { λ t uid text e. ReadsEntity (schema_view t.schema.now) uid text e };
+}
+
+/// Returns the fault of a text that is no policy's, by its number.
+fn grammar_fault(fault: ReadFault) -> BodyFault
+    ensures memory { fault ≡ ReadFault.NoMemory → result ≡ BodyFault.NoMemory }
+    ensures refused { fault ≢ ReadFault.NoMemory → result ≡ BodyFault.Refused (grammar.code_of fault) }
+{
+    match fault {
+        ReadFault::NoMemory => BodyFault::NoMemory,
+        _ => BodyFault::Refused(fault.code()),
+    }
+}
+
+/// Returns the fault of a policy that does not pass, by its number.
+fn validation_fault(fault: TypeFault) -> BodyFault
+    ensures memory { fault ≡ TypeFault.NoMemory → result ≡ BodyFault.NoMemory }
+    ensures refused { fault ≢ TypeFault.NoMemory → result ≡ BodyFault.Refused (validation.code_of fault) }
+{
+    match fault {
+        TypeFault::NoMemory => BodyFault::NoMemory,
+        _ => BodyFault::Refused(fault.code()),
+    }
+}
+
+/// Returns the policy that a text is, whether it passes or not.
+fn policy_in(alloc: Global, text: &str) -> Result<Policy, BodyFault>
+    ensures read { IfOk result (IsPolicyText text.now) }
+    ensures refused { IfErr result (λ f. (s : StatedSchema)
+        → OrNoMemory BodyFault.NoMemory (RefusesPolicy s text.now) f) }
+{
+    match parse_policy(alloc, text) {
+        Ok(policy) => Ok(policy),
+        Err(fault) => Err(grammar_fault(fault)),
+    }
+}
+
+/// Checks that the policy of a text passes.
+fn demand_passing(alloc: Global, schema: &Schema, policy: &Policy) -> Result<(), BodyFault>
+    ensures passes { IfOk result (λ _. Passes (schema_view schema.now) policy.now) }
+    ensures refused { IfErr result (λ f. (text : List ℕ) → IsPolicyText text policy.now
+        → OrNoMemory BodyFault.NoMemory (RefusesPolicy (schema_view schema.now) text) f) }
+{
+    match check(alloc, schema, policy) {
+        Ok(_) => Ok(()),
+        Err(fault) => Err(validation_fault(fault)),
+    }
+}
+
+/// Returns what goes on to be kept, or the fault for which it does not.
+fn where_passing<P: Drop>(policy: P, passing: Result<(), BodyFault>) -> Result<P, BodyFault>
+    ensures { MatchResult passing (λ _. result ≡ Ok policy) (λ f. result ≡ Err f) }
+{
+    match passing {
+        Ok(()) => Ok(policy),
+        Err(cause) => Err(cause),
+    }
+}
+
+/// Returns the policy that a text is, where it passes.
+fn passing_policy(alloc: Global, schema: &Schema, text: &str) -> Result<Policy, BodyFault>
+    ensures read { IfOk result (ReadsPolicy (schema_view schema.now) text.now) }
+    ensures refused { IfErr result (OrNoMemory BodyFault.NoMemory (RefusesPolicy (schema_view schema.now) text.now)) }
+{
+    match policy_in(alloc, text) {
+        Ok(policy) => {
+            let passing = demand_passing(alloc, schema, &policy);
+            where_passing(policy, passing)
+        }
+        Err(fault) => Err(fault),
+    }
+}
+
+/// Returns the JSON of a text.
+fn json_in(alloc: Global, scratch: &mut Scratch, text: &str) -> Result<Value, BodyFault>
+    ensures { ReadsAs BodyFault.NoMemory view result (or_fault (BodyFault.Refused 30) (json_of text.now)) }
+{
+    match read_json_by(scratch, alloc, text.as_bytes())? {
+        Some(json) => Ok(json),
+        None => Err(BodyFault::Refused(30)),
+    }
+}
+
+/// Returns the entity that JSON states, or its fault by number.
+fn allowed_entity(alloc: Global, schema: &Schema, json: &Value) -> Result<Entity, BodyFault>
+    ensures { ReadsAs BodyFault.NoMemory (λ e. e) result
+        (refused_by (entity_stated_in (schema_view schema.now) (view json.now))) }
+{
+    match read_entity(alloc, schema, json) {
+        Ok(entity) => Ok(entity),
+        Err(EntityFault::NoMemory) => Err(BodyFault::NoMemory),
+        Err(fault) => Err(BodyFault::Refused(fault.code())),
+    }
+}
+
+/// Checks that a text is the canonical one of an entity.
+fn demand_canonical(alloc: Global, entity: &Entity, text: &str) -> Result<(), BodyFault>
+    ensures { ReadsAs BodyFault.NoMemory (λ u. u) result
+        (demand (BodyFault.Refused 57) (bytes_eq (canonical_text entity.now) text.now)) }
+{
+    let canonical = canonical_text(alloc, entity)?;
+    if canonical.as_slice() == text.as_bytes() {
+        Ok(())
+    } else {
+        Err(BodyFault::Refused(57))
+    }
+}
+
+/// Checks that an entity is of this uid.
+fn demand_uid(entity: &Entity, uid: &EntityUid) -> Result<(), BodyFault>
+    ensures { AlwaysReadsAs (λ u. u) result (demand BodyFault.OtherName (is_same entity.now.uid uid.now)) }
+{
+    if entity.uid == *uid {
+        Ok(())
+    } else {
+        Err(BodyFault::OtherName)
+    }
+}
+
+/// Returns the entity whose canonical text this is.
+#[tactic(auto, unfolding(crate::specs::Texts::entity_of_text))]
+fn canonical_entity(
+    alloc: Global,
+    scratch: &mut Scratch,
+    schema: &Schema,
+    uid: &EntityUid,
+    text: &str,
+) -> Result<Entity, BodyFault>
+    ensures { ReadsAs BodyFault.NoMemory (λ e. e) result (entity_of_text (schema_view schema.now) uid.now text.now) }
+{
+    let json = json_in(alloc, scratch, text)?;
+    let entity = allowed_entity(alloc, schema, &json)?;
+    demand_canonical(alloc, &entity, text)?;
+    demand_uid(&entity, uid)?;
+    Ok(entity)
+}
+
+impl Bodies<Policy, Entity> for SchemaTexts<'_> {
+    ghost refuses_policy = { λ t _ text f. RefusesPolicy (schema_view t.schema.now) text f };
+
+    ghost refuses_entity = { λ t uid text f. RefusesEntity (schema_view t.schema.now) uid text f };
+
+    fn read_policy(&self, alloc: Global, _id: &str, text: &str) -> Result<Policy, BodyFault> {
+        passing_policy(alloc, self.schema, text)
+    }
+
+    fn read_entity(
+        &self,
+        alloc: Global,
+        scratch: &mut Scratch,
+        uid: &EntityUid,
+        text: &str,
+    ) -> Result<Entity, BodyFault> {
+        canonical_entity(alloc, scratch, self.schema, uid, text)
+    }
+}

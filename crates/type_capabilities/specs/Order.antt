@@ -1,0 +1,142 @@
+-- An order of expressions: by form, then by what stands in it beside its operands, then by the operands from the left.
+-- Sets, records and patterns come by the number of their parts first. A rule of this product, for look-ups alone.
+use Rattle.std.specs.Prelude.{ℕ, List, [], ◌∷◌, map, length}
+use Rattle.std.specs.declared.cmp.Ordering.{Ordering}
+use Rattle.std.specs.declared.cmp.Ordering.TheVariants.{Equal}
+use Rattle.std.specs.Ordering.{ordering_then, nat_cmp, int_cmp, bool_cmp}
+use Rattle.std.specs.Cmp.Lexicographic.{slice_cmp}
+use Rattle.values.specs.Uids.{text_cmp, uid_cmp}
+use Rattle.grammar_core.specs.declared.leaf.Literal.{Literal}
+use Rattle.grammar_core.specs.declared.leaf.Literal.TheVariants as literal
+use Rattle.grammar_core.specs.declared.leaf.Variable.{Variable}
+use Rattle.grammar_core.specs.declared.leaf.Variable.TheVariants as variable
+use Rattle.grammar_core.specs.declared.operator.Unary.{Unary}
+use Rattle.grammar_core.specs.declared.operator.Unary.TheVariants as unary
+use Rattle.grammar_core.specs.declared.operator.Binary.{Binary}
+use Rattle.grammar_core.specs.declared.operator.Binary.TheVariants as binary
+use Rattle.grammar_core.specs.declared.operator.UnaryCall.{UnaryCall}
+use Rattle.grammar_core.specs.declared.operator.UnaryCall.TheVariants as unary_call
+use Rattle.grammar_core.specs.declared.operator.BinaryCall.{BinaryCall}
+use Rattle.grammar_core.specs.declared.operator.BinaryCall.TheVariants as binary_call
+use Rattle.grammar_core.specs.declared.expr.Named.{Named}
+use Rattle.grammar_core.specs.declared.expr.Expr.{Expr}
+use Rattle.grammar_core.specs.declared.expr.Expr.TheViews.{out-Expr}
+use Rattle.grammar_core.specs.declared.expr.Expr.TheOpen.{Expr-F}
+use Rattle.grammar_core.specs.declared.expr.Expr.TheFolds.{fold-Expr}
+
+abbrev pub literal_rank : Literal → ℕ
+literal_rank (literal.Boolean b) = 0
+literal_rank (literal.Long z) = 1
+literal_rank (literal.Text s) = 2
+literal_rank (literal.Entity u) = 3
+
+abbrev pub literal_cmp : Literal → Literal → Ordering
+literal_cmp (literal.Boolean a) (literal.Boolean b) = bool_cmp a b
+literal_cmp (literal.Long y) (literal.Long z) = int_cmp y z
+literal_cmp (literal.Text s) (literal.Text t) = text_cmp s t
+literal_cmp (literal.Entity u) (literal.Entity v) = uid_cmp u v
+literal_cmp l m = nat_cmp (literal_rank l) (literal_rank m)
+
+abbrev pub variable_rank : Variable → ℕ
+variable_rank variable.Principal = 0
+variable_rank variable.Action = 1
+variable_rank variable.Resource = 2
+variable_rank variable.Context = 3
+
+abbrev pub unary_rank : Unary → ℕ
+unary_rank unary.Not = 0
+unary_rank unary.Negate = 1
+unary_rank (unary.Like p) = 2
+unary_rank (unary.Is n) = 3
+
+-- by the number of the literal texts, then text by text
+abbrev pub pattern_cmp : List (List ℕ) → List (List ℕ) → Ordering
+pattern_cmp p q = ordering_then (nat_cmp (length p) (length q)) (slice_cmp text_cmp p q)
+
+abbrev pub unary_cmp : Unary → Unary → Ordering
+unary_cmp (unary.Like p) (unary.Like q) = pattern_cmp p q
+unary_cmp (unary.Is m) (unary.Is n) = text_cmp m n
+unary_cmp o p = nat_cmp (unary_rank o) (unary_rank p)
+
+abbrev pub binary_rank : Binary → ℕ
+binary_rank binary.Equal = 0
+binary_rank binary.In = 1
+binary_rank binary.Less = 2
+binary_rank binary.LessOrEqual = 3
+binary_rank binary.Add = 4
+binary_rank binary.Subtract = 5
+binary_rank binary.Multiply = 6
+binary_rank binary.Contains = 7
+binary_rank binary.ContainsAll = 8
+binary_rank binary.ContainsAny = 9
+
+abbrev pub unary_call_rank : UnaryCall → ℕ
+unary_call_rank unary_call.Ip = 0
+unary_call_rank unary_call.Decimal = 1
+unary_call_rank unary_call.IsIpv4 = 2
+unary_call_rank unary_call.IsIpv6 = 3
+unary_call_rank unary_call.IsLoopback = 4
+unary_call_rank unary_call.IsMulticast = 5
+
+abbrev pub binary_call_rank : BinaryCall → ℕ
+binary_call_rank binary_call.LessThan = 0
+binary_call_rank binary_call.LessThanOrEqual = 1
+binary_call_rank binary_call.GreaterThan = 2
+binary_call_rank binary_call.GreaterThanOrEqual = 3
+binary_call_rank binary_call.IsInRange = 4
+
+-- the place of a form
+abbrev pub kind : {X : Type 0} → Expr-F X → ℕ
+kind (Expr-F.Literal l) = 0
+kind (Expr-F.Variable x) = 1
+kind (Expr-F.If a b c) = 2
+kind (Expr-F.And a b) = 3
+kind (Expr-F.Or a b) = 4
+kind (Expr-F.Unary o a) = 5
+kind (Expr-F.Binary o a b) = 6
+kind (Expr-F.Field a k) = 7
+kind (Expr-F.Has a k) = 8
+kind (Expr-F.Set xs) = 9
+kind (Expr-F.Record fs) = 10
+kind (Expr-F.UnaryCall c a) = 11
+kind (Expr-F.BinaryCall c a b) = 12
+
+abbrev pub kind_of : Expr → ℕ
+kind_of = fold-Expr ℕ kind
+
+abbrev pub names : {X : Type 0} → List (Named X) → List (List ℕ)
+names fs = map (λ f. f.name) fs
+
+abbrev pub names_cmp : {X Y : Type 0} → List (Named X) → List (Named Y) → Ordering
+names_cmp fs gs = slice_cmp text_cmp (names fs) (names gs)
+
+-- place by place, as far as both go
+abbrev pub each_cmp : List (Expr → Ordering) → List Expr → Ordering
+each_cmp [] ys = Equal
+each_cmp (f ∷ fs) [] = Equal
+each_cmp (f ∷ fs) (y ∷ ys) = ordering_then (f y) (each_cmp fs ys)
+
+-- a form, whose operands compare so, with another
+abbrev pub layers_cmp : Expr-F (Expr → Ordering) → Expr-F Expr → Ordering
+layers_cmp (Expr-F.Literal l) (Expr-F.Literal m) = literal_cmp l m
+layers_cmp (Expr-F.Variable x) (Expr-F.Variable y) = nat_cmp (variable_rank x) (variable_rank y)
+layers_cmp (Expr-F.If a b c) (Expr-F.If d e f) = ordering_then (ordering_then (a d) (b e)) (c f)
+layers_cmp (Expr-F.And a b) (Expr-F.And c d) = ordering_then (a c) (b d)
+layers_cmp (Expr-F.Or a b) (Expr-F.Or c d) = ordering_then (a c) (b d)
+layers_cmp (Expr-F.Unary o a) (Expr-F.Unary p b) = ordering_then (unary_cmp o p) (a b)
+layers_cmp (Expr-F.Binary o a b) (Expr-F.Binary p c d) =
+    ordering_then (ordering_then (nat_cmp (binary_rank o) (binary_rank p)) (a c)) (b d)
+layers_cmp (Expr-F.Field a k) (Expr-F.Field b l) = ordering_then (text_cmp k l) (a b)
+layers_cmp (Expr-F.Has a k) (Expr-F.Has b l) = ordering_then (text_cmp k l) (a b)
+layers_cmp (Expr-F.Set fs) (Expr-F.Set ys) = ordering_then (nat_cmp (length fs) (length ys)) (each_cmp fs ys)
+layers_cmp (Expr-F.Record fs) (Expr-F.Record gs) =
+    ordering_then (ordering_then (nat_cmp (length fs) (length gs)) (names_cmp fs gs))
+    (each_cmp (map (λ f. f.value) fs) (map (λ g. g.value) gs))
+layers_cmp (Expr-F.UnaryCall c a) (Expr-F.UnaryCall d b) =
+    ordering_then (nat_cmp (unary_call_rank c) (unary_call_rank d)) (a b)
+layers_cmp (Expr-F.BinaryCall e a b) (Expr-F.BinaryCall f c d) =
+    ordering_then (ordering_then (nat_cmp (binary_call_rank e) (binary_call_rank f)) (a c)) (b d)
+layers_cmp l m = nat_cmp (kind l) (kind m)
+
+abbrev pub expr_cmp : Expr → Expr → Ordering
+expr_cmp = fold-Expr (Expr → Ordering) (λ l y. layers_cmp l (out-Expr y))

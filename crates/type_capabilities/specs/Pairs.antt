@@ -1,0 +1,41 @@
+-- Pairs of an expression and the name of a field, and their order: by names, and then by expressions. A rule of this
+-- product; that a field known to be there may be read is Cedar's (reference guide 4.0, "Policy validation", `has`).
+use Rattle.std.specs.Prelude.{ℕ, List, map}
+use Rattle.std.proofs.Common.{ap, ◌∙◌}
+use Rattle.std.specs.declared.cmp.Ordering.{Ordering}
+use Rattle.std.specs.Ordering.{ordering_then}
+use Rattle.std.specs.Cmp.{IsTotalOrder}
+use Rattle.std.specs.FinMap.{IsAntisymmetric}
+use Rattle.std.proofs.lemmas.Cmp.{on_total, then_total, nat_list_cmp_total}
+use Rattle.values.specs.Uids.{text_cmp, text_cmp-IsAntisymmetric, both_equal}
+use Rattle.grammar_core.specs.declared.expr.Expr.{Expr}
+use Rattle.type_capabilities.specs.Order.{expr_cmp}
+use Rattle.type_capabilities.specs.Ordered.{expr_cmp-IsTotalOrder, expr_cmp-IsAntisymmetric}
+use Rattle.type_capabilities.specs.declared.pair.Pair.{Pair}
+
+abbrev pub PairValue : Type 0
+PairValue = Expr × List ℕ
+
+abbrev pub pair_of : Pair → PairValue
+pair_of p = (p.whole.now, p.name.now)
+
+abbrev pub pairs : List Pair → List PairValue
+pairs ps = map pair_of ps
+
+abbrev pub pair_cmp : PairValue → PairValue → Ordering
+pair_cmp p q = ordering_then (text_cmp p.1 q.1) (expr_cmp p.0 q.0)
+
+abbrev pub borrowed_cmp : Pair → Pair → Ordering
+borrowed_cmp p q = pair_cmp (pair_of p) (pair_of q)
+
+pub pair_cmp-IsTotalOrder : IsTotalOrder pair_cmp
+pair_cmp-IsTotalOrder = then_total (on_total (λ p. p.1) nat_list_cmp_total) (on_total (λ p. p.0) expr_cmp-IsTotalOrder)
+
+pub pair_cmp-IsAntisymmetric : IsAntisymmetric pair_cmp
+pair_cmp-IsAntisymmetric p q e =
+    let h = both_equal (text_cmp p.1 q.1) (expr_cmp p.0 q.0) e in
+    ap (λ x. (x, p.1)) (expr_cmp-IsAntisymmetric p.0 q.0 h.1)
+    ∙ ap (λ k. (q.0, k)) (text_cmp-IsAntisymmetric p.1 q.1 h.0)
+
+pub borrowed_cmp-IsTotalOrder : IsTotalOrder borrowed_cmp
+borrowed_cmp-IsTotalOrder = on_total pair_of pair_cmp-IsTotalOrder

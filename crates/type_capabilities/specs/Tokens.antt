@@ -1,0 +1,387 @@
+-- An expression as a list of tokens, which gives it back: of each form what stands in it beside its operands, and then
+-- the tokens of these. The tokens also give the order of expressions. A rule of this product.
+use Rattle.std.specs.Prelude.{
+  ◌≡◌,
+  ℕ,
+  suc,
+  ℤ,
+  pos,
+  List,
+  [],
+  ◌∷◌,
+  ◌++◌,
+  map,
+  length,
+  take,
+  drop,
+  Bool,
+  true,
+  false,
+  cond,
+  ◌==◌,
+  refl,
+}
+use Rattle.std.proofs.Common.{ap, sym, ◌∙◌, append_assoc}
+use Rattle.std.proofs.lemmas.List.{append-nil}
+use Rattle.grammar_core.specs.declared.leaf.Literal.{Literal}
+use Rattle.grammar_core.specs.declared.leaf.Literal.TheVariants as literal
+use Rattle.grammar_core.specs.declared.leaf.Variable.{Variable}
+use Rattle.grammar_core.specs.declared.leaf.Variable.TheVariants as variable
+use Rattle.grammar_core.specs.declared.operator.Unary.{Unary}
+use Rattle.grammar_core.specs.declared.operator.Unary.TheVariants as unary
+use Rattle.grammar_core.specs.declared.operator.Binary.{Binary}
+use Rattle.grammar_core.specs.declared.operator.Binary.TheVariants as binary
+use Rattle.grammar_core.specs.declared.operator.UnaryCall.{UnaryCall}
+use Rattle.grammar_core.specs.declared.operator.UnaryCall.TheVariants as unary_call
+use Rattle.grammar_core.specs.declared.operator.BinaryCall.{BinaryCall}
+use Rattle.grammar_core.specs.declared.operator.BinaryCall.TheVariants as binary_call
+use Rattle.grammar_core.specs.declared.expr.Named.{Named}
+use Rattle.grammar_core.specs.declared.expr.Expr.{Expr}
+use Rattle.grammar_core.specs.declared.expr.Expr.TheVariants as form
+use Rattle.grammar_core.specs.declared.expr.Expr.TheViews.{roll-Expr, out-Expr, roll-out-Expr}
+use Rattle.grammar_core.specs.declared.expr.Expr.TheOpen.{Expr-F}
+use Rattle.grammar_core.specs.declared.expr.Expr.TheFolds.{fold-Expr}
+use Rattle.grammar_core.proofs.Forms.{Every, Cases, by_forms, field_all, fold_literal, fold_variable, fold_if, fold_and}
+use Rattle.grammar_core.proofs.Forms.{fold_or, fold_unary, fold_binary, fold_field, fold_has, fold_set, fold_record}
+use Rattle.grammar_core.proofs.Forms.{fold_unary_call, fold_binary_call}
+use Rattle.type_capabilities.specs.Order.{variable_rank, binary_rank, unary_call_rank, binary_call_rank, names}
+
+-- a token: the form, the place of what stands in it, a count, a number, and texts
+abbrev pub Content : Type 0
+Content = ℕ × (ℕ × (ℤ × List (List ℕ)))
+
+abbrev pub Token : Type 0
+Token = ℕ × Content
+
+abbrev pub as_number : Bool → ℤ
+as_number false = pos 0
+as_number true = pos 1
+
+abbrev is_one : ℤ → Bool
+is_one (pos n) = n == 1
+is_one z = false
+
+is_one-as_number : (b : Bool) → is_one (as_number b) ≡ b
+is_one-as_number false = refl
+is_one-as_number true = refl
+
+abbrev nothing : Content
+nothing = (0, (0, (pos 0, [])))
+
+abbrev pub literal_content : Literal → Content
+literal_content (literal.Boolean b) = (0, (0, (as_number b, [])))
+literal_content (literal.Long z) = (1, (0, (z, [])))
+literal_content (literal.Text s) = (2, (0, (pos 0, s ∷ [])))
+literal_content (literal.Entity u) = (3, (0, (pos 0, u.type_name ∷ u.id ∷ [])))
+
+abbrev pub unary_content : Unary → Content
+unary_content unary.Not = (0, (0, (pos 0, [])))
+unary_content unary.Negate = (1, (0, (pos 0, [])))
+unary_content (unary.Like p) = (2, (length p, (pos 0, p)))
+unary_content (unary.Is n) = (3, (0, (pos 0, n ∷ [])))
+
+abbrev pub head : {X : Type 0} → Expr-F X → Token
+head (Expr-F.Literal l) = (0, literal_content l)
+head (Expr-F.Variable x) = (1, (variable_rank x, (0, (pos 0, []))))
+head (Expr-F.If a b c) = (2, nothing)
+head (Expr-F.And a b) = (3, nothing)
+head (Expr-F.Or a b) = (4, nothing)
+head (Expr-F.Unary o a) = (5, unary_content o)
+head (Expr-F.Binary o a b) = (6, (binary_rank o, (0, (pos 0, []))))
+head (Expr-F.Field a k) = (7, (0, (0, (pos 0, k ∷ []))))
+head (Expr-F.Has a k) = (8, (0, (0, (pos 0, k ∷ []))))
+head (Expr-F.Set xs) = (9, (0, (length xs, (pos 0, []))))
+head (Expr-F.Record fs) = (10, (0, (length fs, (pos 0, names fs))))
+head (Expr-F.UnaryCall c a) = (11, (unary_call_rank c, (0, (pos 0, []))))
+head (Expr-F.BinaryCall c a b) = (12, (binary_call_rank c, (0, (pos 0, []))))
+
+abbrev pub operands : {X : Type 0} → Expr-F X → List X
+operands (Expr-F.Literal l) = []
+operands (Expr-F.Variable x) = []
+operands (Expr-F.If a b c) = a ∷ b ∷ c ∷ []
+operands (Expr-F.And a b) = a ∷ b ∷ []
+operands (Expr-F.Or a b) = a ∷ b ∷ []
+operands (Expr-F.Unary o a) = a ∷ []
+operands (Expr-F.Binary o a b) = a ∷ b ∷ []
+operands (Expr-F.Field a k) = a ∷ []
+operands (Expr-F.Has a k) = a ∷ []
+operands (Expr-F.Set xs) = xs
+operands (Expr-F.Record fs) = map (λ f. f.value) fs
+operands (Expr-F.UnaryCall c a) = a ∷ []
+operands (Expr-F.BinaryCall c a b) = a ∷ b ∷ []
+
+abbrev pub joined : List (List Token) → List Token
+joined [] = []
+joined (ts ∷ tss) = ts ++ joined tss
+
+abbrev pub tokens_step : Expr-F (List Token) → List Token
+tokens_step l = head l ∷ joined (operands l)
+
+abbrev pub tokens : Expr → List Token
+tokens = fold-Expr (List Token) tokens_step
+
+-- the tokens of a form over expressions
+abbrev pub layer_tokens : Expr-F Expr → List Token
+layer_tokens l = head l ∷ joined (map tokens (operands l))
+
+-- ---- fields whose values were folded
+
+pub same_length : {X Y : Type 0} (f : X → Y) (xs : List X) → length (map f xs) ≡ length xs
+same_length f [] = refl
+same_length f (x ∷ xs) = ap suc (same_length f xs)
+
+module _ (A : Type 0) (step : Expr-F A → A) where
+  pub same_names : (fs : List (Named Expr)) → names (map (field_all A step) fs) ≡ names fs
+  same_names [] = refl
+  same_names (f ∷ fs) = ap (λ ks. f.name ∷ ks) (same_names fs)
+
+  pub folded_values : (fs : List (Named Expr))
+      → map (λ f. f.value) (map (field_all A step) fs) ≡ map (fold-Expr A step) (map (λ f. f.value) fs)
+  folded_values [] = refl
+  folded_values (f ∷ fs) = ap (λ vs. fold-Expr A step f.value ∷ vs) (folded_values fs)
+
+pub every_value : (P : Expr → Type 0) (fs : List (Named Expr)) → Every (λ f. P f.value) fs
+    → Every P (map (λ f. f.value) fs)
+every_value P [] h = tt
+every_value P (f ∷ fs) h = (h.0, every_value P fs h.1)
+
+-- ---- the tokens of each form
+
+pub tokens_set : (xs : List Expr) → tokens (form.Set xs) ≡ layer_tokens (Expr-F.Set xs)
+tokens_set xs = fold_set (List Token) tokens_step xs
+    ∙ ap (λ n. (9, (0, (n, (pos 0, [])))) ∷ joined (map tokens xs)) (same_length tokens xs)
+
+pub tokens_record : (fs : List (Named Expr)) → tokens (form.Record fs) ≡ layer_tokens (Expr-F.Record fs)
+tokens_record fs =
+    let all = map (field_all (List Token) tokens_step) fs in
+    fold_record (List Token) tokens_step fs
+    ∙ (ap (λ n. (10, (0, (n, (pos 0, names all)))) ∷ joined (map (λ f. f.value) all))
+    (same_length (field_all (List Token) tokens_step) fs)
+    ∙ (ap (λ ks. (10, (0, (length fs, (pos 0, ks)))) ∷ joined (map (λ f. f.value) all))
+    (same_names (List Token) tokens_step fs)
+    ∙ ap (λ vs. (10, (0, (length fs, (pos 0, names fs)))) ∷ joined vs) (folded_values (List Token) tokens_step fs)))
+
+tokens_roll : (l : Expr-F Expr) → tokens (roll-Expr l) ≡ layer_tokens l
+tokens_roll (Expr-F.Literal l) = ap tokens (form.rolls-Literal l) ∙ fold_literal (List Token) tokens_step l
+tokens_roll (Expr-F.Variable x) = ap tokens (form.rolls-Variable x) ∙ fold_variable (List Token) tokens_step x
+tokens_roll (Expr-F.If a b c) = ap tokens (form.rolls-If a b c) ∙ fold_if (List Token) tokens_step a b c
+tokens_roll (Expr-F.And a b) = ap tokens (form.rolls-And a b) ∙ fold_and (List Token) tokens_step a b
+tokens_roll (Expr-F.Or a b) = ap tokens (form.rolls-Or a b) ∙ fold_or (List Token) tokens_step a b
+tokens_roll (Expr-F.Unary o a) = ap tokens (form.rolls-Unary o a) ∙ fold_unary (List Token) tokens_step o a
+tokens_roll (Expr-F.Binary o a b) = ap tokens (form.rolls-Binary o a b) ∙ fold_binary (List Token) tokens_step o a b
+tokens_roll (Expr-F.Field a k) = ap tokens (form.rolls-Field a k) ∙ fold_field (List Token) tokens_step a k
+tokens_roll (Expr-F.Has a k) = ap tokens (form.rolls-Has a k) ∙ fold_has (List Token) tokens_step a k
+tokens_roll (Expr-F.Set xs) = ap tokens (form.rolls-Set xs) ∙ tokens_set xs
+tokens_roll (Expr-F.Record fs) = ap tokens (form.rolls-Record fs) ∙ tokens_record fs
+tokens_roll (Expr-F.UnaryCall c a) =
+    ap tokens (form.rolls-UnaryCall c a) ∙ fold_unary_call (List Token) tokens_step c a
+tokens_roll (Expr-F.BinaryCall c a b) =
+    ap tokens (form.rolls-BinaryCall c a b) ∙ fold_binary_call (List Token) tokens_step c a b
+
+pub tokens_out : (x : Expr) → tokens x ≡ layer_tokens (out-Expr x)
+tokens_out x = ap tokens (sym (roll-out-Expr x)) ∙ tokens_roll (out-Expr x)
+
+-- ---- reading back, the last token first
+
+abbrev text_1 : List (List ℕ) → List ℕ
+text_1 [] = []
+text_1 (t ∷ ts) = t
+
+abbrev text_2 : List (List ℕ) → List ℕ
+text_2 [] = []
+text_2 (t ∷ ts) = text_1 ts
+
+abbrev literal_of : ℕ → ℤ → List (List ℕ) → Literal
+literal_of r z ts =
+    cond (r == 0) (literal.Boolean (is_one z)) (cond (r == 1) (literal.Long z)
+    (cond (r == 2) (literal.Text (text_1 ts)) (literal.Entity (record { type_name = text_1 ts; id = text_2 ts }))))
+
+abbrev variable_of : ℕ → Variable
+variable_of r =
+    cond (r == 0) variable.Principal (cond (r == 1) variable.Action (cond (r == 2) variable.Resource variable.Context))
+
+abbrev unary_of : ℕ → List (List ℕ) → Unary
+unary_of r ts =
+    cond (r == 0) unary.Not (cond (r == 1) unary.Negate (cond (r == 2) (unary.Like ts) (unary.Is (text_1 ts))))
+
+abbrev binary_of : ℕ → Binary
+binary_of r =
+    cond (r == 0) binary.Equal (cond (r == 1) binary.In (cond (r == 2) binary.Less (cond (r == 3) binary.LessOrEqual
+    (cond (r == 4) binary.Add (cond (r == 5) binary.Subtract (cond (r == 6) binary.Multiply
+    (cond (r == 7) binary.Contains (cond (r == 8) binary.ContainsAll binary.ContainsAny))))))))
+
+abbrev unary_call_of : ℕ → UnaryCall
+unary_call_of r =
+    cond (r == 0) unary_call.Ip (cond (r == 1) unary_call.Decimal (cond (r == 2) unary_call.IsIpv4
+    (cond (r == 3) unary_call.IsIpv6 (cond (r == 4) unary_call.IsLoopback unary_call.IsMulticast))))
+
+abbrev binary_call_of : ℕ → BinaryCall
+binary_call_of r =
+    cond (r == 0) binary_call.LessThan (cond (r == 1) binary_call.LessThanOrEqual
+    (cond (r == 2) binary_call.GreaterThan (cond (r == 3) binary_call.GreaterThanOrEqual binary_call.IsInRange)))
+
+-- what was read, of which a form takes as many as it has operands
+
+abbrev first : List Expr → Expr
+first [] = form.Literal (literal.Boolean false)
+first (x ∷ st) = x
+
+abbrev behind : List Expr → List Expr
+behind [] = []
+behind (x ∷ st) = st
+
+abbrev named : List (List ℕ) → List Expr → List (Named Expr)
+named [] xs = []
+named (k ∷ ks) [] = []
+named (k ∷ ks) (x ∷ xs) = record { name = k; value = x } ∷ named ks xs
+
+abbrev build : ℕ → ℕ → ℕ → ℤ → List (List ℕ) → List Expr → List Expr
+build n r c z ts st =
+    cond (n == 0) (form.Literal (literal_of r z ts) ∷ st) (cond (n == 1) (form.Variable (variable_of r) ∷ st)
+    (cond (n == 2) (form.If (first st) (first (behind st)) (first (behind (behind st))) ∷ behind (behind (behind st)))
+    (cond (n == 3) (form.And (first st) (first (behind st)) ∷ behind (behind st))
+    (cond (n == 4) (form.Or (first st) (first (behind st)) ∷ behind (behind st))
+    (cond (n == 5) (form.Unary (unary_of r ts) (first st) ∷ behind st)
+    (cond (n == 6) (form.Binary (binary_of r) (first st) (first (behind st)) ∷ behind (behind st))
+    (cond (n == 7) (form.Field (first st) (text_1 ts) ∷ behind st)
+    (cond (n == 8) (form.Has (first st) (text_1 ts) ∷ behind st)
+    (cond (n == 9) (form.Set (take c st) ∷ drop c st)
+    (cond (n == 10) (form.Record (named ts (take c st)) ∷ drop c st)
+    (cond (n == 11) (form.UnaryCall (unary_call_of r) (first st) ∷ behind st)
+    (form.BinaryCall (binary_call_of r) (first st) (first (behind st)) ∷ behind (behind st)))))))))))))
+
+abbrev read_one : Token → List Expr → List Expr
+read_one t st = build t.0 t.1.0 t.1.1.0 t.1.1.1.0 t.1.1.1.1 st
+
+abbrev read : List Token → List Expr
+read [] = []
+read (t ∷ ts) = read_one t (read ts)
+
+literal_read : (l : Literal) (st : List Expr) → read_one (0, literal_content l) st ≡ form.Literal l ∷ st
+literal_read (literal.Boolean b) st = ap (λ c. form.Literal (literal.Boolean c) ∷ st) (is_one-as_number b)
+literal_read (literal.Long z) st = refl
+literal_read (literal.Text s) st = refl
+literal_read (literal.Entity u) st = refl
+
+variable_back : (x : Variable) → variable_of (variable_rank x) ≡ x
+variable_back variable.Principal = refl
+variable_back variable.Action = refl
+variable_back variable.Resource = refl
+variable_back variable.Context = refl
+
+unary_back : (o : Unary) → unary_of (unary_content o).0 (unary_content o).1.1.1 ≡ o
+unary_back unary.Not = refl
+unary_back unary.Negate = refl
+unary_back (unary.Like p) = refl
+unary_back (unary.Is n) = refl
+
+binary_back : (o : Binary) → binary_of (binary_rank o) ≡ o
+binary_back binary.Equal = refl
+binary_back binary.In = refl
+binary_back binary.Less = refl
+binary_back binary.LessOrEqual = refl
+binary_back binary.Add = refl
+binary_back binary.Subtract = refl
+binary_back binary.Multiply = refl
+binary_back binary.Contains = refl
+binary_back binary.ContainsAll = refl
+binary_back binary.ContainsAny = refl
+
+unary_call_back : (c : UnaryCall) → unary_call_of (unary_call_rank c) ≡ c
+unary_call_back unary_call.Ip = refl
+unary_call_back unary_call.Decimal = refl
+unary_call_back unary_call.IsIpv4 = refl
+unary_call_back unary_call.IsIpv6 = refl
+unary_call_back unary_call.IsLoopback = refl
+unary_call_back unary_call.IsMulticast = refl
+
+binary_call_back : (c : BinaryCall) → binary_call_of (binary_call_rank c) ≡ c
+binary_call_back binary_call.LessThan = refl
+binary_call_back binary_call.LessThanOrEqual = refl
+binary_call_back binary_call.GreaterThan = refl
+binary_call_back binary_call.GreaterThanOrEqual = refl
+binary_call_back binary_call.IsInRange = refl
+
+take_front : (xs st : List Expr) → take (length xs) (xs ++ st) ≡ xs
+take_front [] st = refl
+take_front (x ∷ xs) st = ap (λ ys. x ∷ ys) (take_front xs st)
+
+drop_front : (xs st : List Expr) → drop (length xs) (xs ++ st) ≡ st
+drop_front [] st = refl
+drop_front (x ∷ xs) st = drop_front xs st
+
+named_back : (fs : List (Named Expr)) → named (names fs) (map (λ f. f.value) fs) ≡ fs
+named_back [] = refl
+named_back (f ∷ fs) = ap (λ gs. f ∷ gs) (named_back fs)
+
+abbrev IsReadBack : Expr → Type 0
+IsReadBack x = (ts : List Token) → read (tokens x ++ ts) ≡ x ∷ read ts
+
+operands_back : (xs : List Expr) → Every IsReadBack xs → (ts : List Token)
+    → read (joined (map tokens xs) ++ ts) ≡ xs ++ read ts
+operands_back [] h ts = refl
+operands_back (x ∷ xs) h ts =
+    ap read (append_assoc (tokens x) (joined (map tokens xs)) ts)
+    ∙ (h.0 (joined (map tokens xs) ++ ts) ∙ ap (λ st. x ∷ st) (operands_back xs h.1 ts))
+
+-- where a form is built of its operands, it is read back
+from_operands : (x : Expr) (l : Expr-F Expr) → tokens x ≡ layer_tokens l → Every IsReadBack (operands l)
+    → ((st : List Expr) → read_one (head l) (operands l ++ st) ≡ x ∷ st) → IsReadBack x
+from_operands x l e h b ts =
+    ap (λ us. read (us ++ ts)) e ∙ (ap (read_one (head l)) (operands_back (operands l) h ts) ∙ b (read ts))
+
+set_built : (xs st : List Expr) → read_one (head (Expr-F.Set xs)) (xs ++ st) ≡ form.Set xs ∷ st
+set_built xs st =
+    ap (λ ys. form.Set ys ∷ drop (length xs) (xs ++ st)) (take_front xs st)
+    ∙ ap (λ ys. form.Set xs ∷ ys) (drop_front xs st)
+
+record_built : (fs : List (Named Expr)) (st : List Expr)
+    → read_one (head (Expr-F.Record fs)) (map (λ f. f.value) fs ++ st) ≡ form.Record fs ∷ st
+record_built fs st =
+    let xs = map (λ f. f.value) fs in
+    ap (λ n. form.Record (named (names fs) (take n (xs ++ st))) ∷ drop n (xs ++ st))
+    (sym (same_length {X = Named Expr} {Y = Expr} (λ f. f.value) fs))
+    ∙ (ap (λ ys. form.Record (named (names fs) ys) ∷ drop (length xs) (xs ++ st)) (take_front xs st)
+    ∙ (ap (λ gs. form.Record gs ∷ drop (length xs) (xs ++ st)) (named_back fs)
+    ∙ ap (λ ys. form.Record fs ∷ ys) (drop_front xs st)))
+
+all_read_back : Cases IsReadBack
+all_read_back = record {
+  literal = λ l. from_operands (form.Literal l) (Expr-F.Literal l) (fold_literal (List Token) tokens_step l) tt
+      (literal_read l);
+  variable = λ x. from_operands (form.Variable x) (Expr-F.Variable x) (fold_variable (List Token) tokens_step x) tt
+      (λ st. ap (λ y. form.Variable y ∷ st) (variable_back x));
+  if_form = λ a b c f g h. from_operands (form.If a b c) (Expr-F.If a b c) (fold_if (List Token) tokens_step a b c)
+      (f, (g, (h, tt))) (λ st. refl);
+  and_form = λ a b f g. from_operands (form.And a b) (Expr-F.And a b) (fold_and (List Token) tokens_step a b)
+      (f, (g, tt)) (λ st. refl);
+  or_form = λ a b f g. from_operands (form.Or a b) (Expr-F.Or a b) (fold_or (List Token) tokens_step a b)
+      (f, (g, tt)) (λ st. refl);
+  unary = λ o a f. from_operands (form.Unary o a) (Expr-F.Unary o a) (fold_unary (List Token) tokens_step o a)
+      (f, tt) (λ st. ap (λ p. form.Unary p a ∷ st) (unary_back o));
+  binary = λ o a b f g. from_operands (form.Binary o a b) (Expr-F.Binary o a b)
+      (fold_binary (List Token) tokens_step o a b) (f, (g, tt))
+      (λ st. ap (λ p. form.Binary p a b ∷ st) (binary_back o));
+  field = λ a k f. from_operands (form.Field a k) (Expr-F.Field a k) (fold_field (List Token) tokens_step a k)
+      (f, tt) (λ st. refl);
+  has = λ a k f. from_operands (form.Has a k) (Expr-F.Has a k) (fold_has (List Token) tokens_step a k)
+      (f, tt) (λ st. refl);
+  set = λ xs h. from_operands (form.Set xs) (Expr-F.Set xs) (tokens_set xs) h (set_built xs);
+  record_form = λ fs h. from_operands (form.Record fs) (Expr-F.Record fs) (tokens_record fs)
+      (every_value IsReadBack fs h) (record_built fs);
+  unary_call = λ c a f. from_operands (form.UnaryCall c a) (Expr-F.UnaryCall c a)
+      (fold_unary_call (List Token) tokens_step c a) (f, tt)
+      (λ st. ap (λ d. form.UnaryCall d a ∷ st) (unary_call_back c));
+  binary_call = λ c a b f g. from_operands (form.BinaryCall c a b) (Expr-F.BinaryCall c a b)
+      (fold_binary_call (List Token) tokens_step c a b) (f, (g, tt))
+      (λ st. ap (λ d. form.BinaryCall d a b ∷ st) (binary_call_back c));
+}
+
+from_tokens-tokens : (x : Expr) → first (read (tokens x)) ≡ x
+from_tokens-tokens x =
+    ap (λ ts. first (read ts)) (sym (append-nil (tokens x))) ∙ ap first (by_forms IsReadBack all_read_back x [])
+
+-- expressions with the same tokens are the same
+pub same_from_tokens : (x y : Expr) → tokens x ≡ tokens y → x ≡ y
+same_from_tokens x y e =
+    sym (from_tokens-tokens x) ∙ (ap (λ ts. first (read ts)) e ∙ from_tokens-tokens y)

@@ -1,0 +1,183 @@
+//! The stack.
+ghost use Rattle.std.specs.Prelude.{◌≡◌, ◌<◌, ◌↔◌, ℕ, [], ◌∷◌, ◌++◌, IsTrue, OnOk, OnErr, Contains, take, length, Some};
+ghost use Rattle.std.specs.Prelude.{cond};
+ghost use Rattle.std.specs.List.{slice_get};
+ghost use Rattle.std.specs.Ordering.{is_eq};
+ghost use Rattle.type_capabilities.specs.Pairs.{PairValue, pair_of, pairs, pair_cmp};
+ghost use Rattle.type_capabilities.specs.Stacks.{AreFound, place_of};
+
+use crate::pair::{Pair, is_same};
+use plain::NoMemory;
+use std::alloc::Global;
+use std::collections::BTreeMap;
+use std::marker::Model;
+
+/// Pairs as a stack: what is put on top is taken away first. Contracts see the list of the pairs, the lowest first.
+///
+/// A pair is found by one look-up in an ordered map. What is taken away stays behind the top, so that it takes no time,
+/// and neither memory nor a look-up to put the same pairs again.
+#[derive(Drop)]
+pub struct Known<'a> {
+    /// The pairs, and behind them some that were taken away.
+    stack: Vec<Pair<'a>>,
+    height: usize,
+    /// Of each pair in `stack` the lowest place where it stands.
+    places: BTreeMap<Pair<'a>, usize>,
+}
+
+impl<'a> Model for Known<'a> {
+    ghost use Rattle.std.specs.Prelude.{◌≤◌, List, take, length};
+    ghost use Rattle.type_capabilities.specs.Pairs.{PairValue, pairs};
+    ghost use Rattle.type_capabilities.specs.Stacks.{AreFound, place_of};
+    ghost use Rattle.std.specs.Coded.{codes};
+    ghost use Rattle.grammar_core.specs.contracts.expr.Expr as e;
+
+    ghost Value = { List PairValue };
+
+    ghost coded = { Prim.hlevel (codes, e.the_row.coded) };
+
+    ghost view = { λ k. take k.height (pairs k.stack.items) };
+
+    ghost invariant = { λ k. (k.height ≤ length k.stack.items)
+        × AreFound (pairs k.stack.items) (λ p. place_of k.places p) };
+}
+
+/// Returns whether the pair stands at this place.
+fn stands_at(stack: &[Pair<'_>], at: usize, pair: &Pair<'_>) -> bool
+    ensures { IsTrue result ↔ (slice_get (pairs stack.now) at ≡ Some (pair_of pair.now)) }
+{
+    match stack.get(at) {
+        Some(found) => is_same(found, pair),
+        None => false,
+    }
+}
+
+/// Returns whether the pair stands below this height.
+fn stands_below<'a>(
+    stack: &[Pair<'a>],
+    places: &BTreeMap<Pair<'a>, usize>,
+    pair: &Pair<'a>,
+    height: usize,
+) -> bool
+    ensures { AreFound (pairs stack.now) (λ p. place_of places.now p)
+        → (IsTrue result ↔ Contains (take height (pairs stack.now)) (pair_of pair.now)) }
+{
+    match places.get(pair) {
+        Some(at) => *at < height && stands_at(stack, *at, pair),
+        None => false,
+    }
+}
+
+/// Notes where a pair stands.
+fn note<'a>(
+    places: &mut BTreeMap<Pair<'a>, usize>,
+    pair: Pair<'a>,
+    at: usize,
+) -> Result<(), NoMemory>
+    ensures ok { OnOk result ((p : PairValue) → place_of places.new p
+        ≡ cond (is_eq (pair_cmp (pair_of pair.entry) p)) (Some at) (place_of places.old p)) }
+    ensures err { OnErr result ((p : PairValue) → place_of places.new p ≡ place_of places.old p) }
+{
+    places.insert(pair, at)?;
+    Ok(())
+}
+
+/// Puts a pair that does not stand there behind the others, and notes where it stands.
+fn put_new<'a>(
+    stack: &mut Vec<Pair<'a>>,
+    places: &mut BTreeMap<Pair<'a>, usize>,
+    pair: Pair<'a>,
+) -> Result<(), NoMemory>
+    ensures found { AreFound (pairs stack.old.items) (λ p. place_of places.old p)
+        → ¬ Contains (pairs stack.old.items) (pair_of pair.entry)
+        → AreFound (pairs stack.new.items) (λ p. place_of places.new p) }
+    ensures ok { OnOk result (stack.new.items ≡ stack.old.items ++ pair.entry ∷ []) }
+    ensures err { OnErr result (stack.new.items ≡ stack.old.items) }
+{
+    note(places, pair, stack.len())?;
+    stack.push(pair)?;
+    Ok(())
+}
+
+/// Puts a pair behind the others.
+fn put<'a>(
+    stack: &mut Vec<Pair<'a>>,
+    places: &mut BTreeMap<Pair<'a>, usize>,
+    pair: Pair<'a>,
+) -> Result<(), NoMemory>
+    ensures found { AreFound (pairs stack.old.items) (λ p. place_of places.old p)
+        → AreFound (pairs stack.new.items) (λ p. place_of places.new p) }
+    ensures ok { OnOk result (stack.new.items ≡ stack.old.items ++ pair.entry ∷ []) }
+    ensures err { OnErr result (stack.new.items ≡ stack.old.items) }
+{
+    if stands_below(stack.as_slice(), places, &pair, stack.len()) {
+        stack.push(pair)?;
+        return Ok(());
+    }
+    put_new(stack, places, pair)
+}
+
+impl<'a> Known<'a> {
+    /// Returns the empty stack; takes no memory.
+    pub fn new(alloc: Global) -> Known<'a>
+        ensures { result ≡ [] }
+    {
+        Known {
+            stack: Vec::new(alloc),
+            height: 0,
+            places: BTreeMap::new(alloc),
+        }
+    }
+
+    /// Returns how many pairs there are.
+    pub fn len(&self) -> usize
+        ensures { result ≡ length self.now }
+    {
+        self.height
+    }
+
+    /// Returns whether the pair is there; takes no memory, and as many comparisons as the logarithm of all pairs that
+    /// were ever put.
+    pub fn knows(&self, pair: &Pair<'a>) -> bool
+        ensures { IsTrue result ↔ Contains self.now (pair_of pair.now) }
+    {
+        stands_below(self.stack.as_slice(), &self.places, pair, self.height)
+    }
+
+    /// Puts a pair on top, or leaves all as it was at `NoMemory`. Where it is the one that was last taken away from
+    /// there, it takes one comparison and no memory.
+    pub fn push(&mut self, pair: Pair<'a>) -> Result<(), NoMemory>
+        ensures ok { OnOk result (self.new ≡ self.old ++ pair_of pair.entry ∷ []) }
+        ensures err { OnErr result (self.new ≡ self.old) }
+    {
+        if stands_at(self.stack.as_slice(), self.height, &pair) {
+            self.height += 1;
+            return Ok(());
+        }
+        self.stack.truncate(self.height);
+        put(&mut self.stack, &mut self.places, pair)?;
+        self.height += 1;
+        Ok(())
+    }
+
+    /// Puts these pairs on top, in order; at `NoMemory` some of them, the first ones.
+    pub fn push_all(&mut self, these: &[Pair<'a>]) -> Result<(), NoMemory>
+        ensures ok { OnOk result (self.new ≡ self.old ++ pairs these.now) }
+        ensures err { OnErr result
+            ((n : ℕ) × (n < length these.now) × (self.new ≡ self.old ++ pairs (take n these.now))) }
+    {
+        for pair in these {
+            self.push(*pair)?;
+        }
+        Ok(())
+    }
+
+    /// Takes away what stands above this height; takes no time that grows with it.
+    pub fn forget_above(&mut self, height: usize)
+        ensures { self.new ≡ take height self.old }
+    {
+        if height < self.height {
+            self.height = height;
+        }
+    }
+}

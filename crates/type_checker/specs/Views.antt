@@ -1,0 +1,109 @@
+-- What the types and the faults at hand are, and what they are typed against, as the rules of typing have them.
+use Rattle.std.specs.Prelude.{◌≡◌, ◌≢◌, ℕ, List, [], ◌∷◌, Result, Ok, Err, IfErr, MatchResult}
+use Rattle.std.specs.Prelude.{Bool, true, false, if◌then◌else◌, IsTrue, Option, Some, IsSome}
+use Rattle.std.specs.Str.{bytes_eq}
+use Rattle.std.specs.Borrow.{Bor}
+use Rattle.typing.specs.Types as types
+use Rattle.typing.specs.Types.{true_type, false_type, boolean_type, long_type, text_type, entity_type, set_type}
+use Rattle.typing.specs.Types.{record_type, decimal_type, ipaddr_type, FieldTypes, no_field_types, field_type}
+use Rattle.typing.specs.Environment as environment
+use Rattle.typing.specs.Environment.{Environment}
+use Rattle.typing.specs.Rows.{Row}
+use Rattle.schema_types.specs.CedarViews.{cedar_view, cedar_fields_view}
+use Rattle.entities.specs.schema.Views.{schema_view, environment_view}
+use Rattle.type_checker.specs.FromSchemas.{static, static_fields, typing_environment_of}
+use Rattle.type_checker.specs.declared.fault.ExpressionFault.{ExpressionFault}
+use Rattle.type_checker.specs.declared.fault.ExpressionFault.TheVariants.{Unexpected, NoCommonType}
+use Rattle.type_checker.specs.declared.fault.ExpressionFault.TheVariants.{AttributeMayBeMissing}
+use Rattle.type_checker.specs.declared.fault.ExpressionFault.TheVariants.{EmptySet, BadExtensionLiteral, NoMemory}
+use Rattle.type_checker.specs.declared.static_type.BooleanType.{BooleanType}
+use Rattle.type_checker.specs.declared.static_type.BooleanType.TheVariants as truth
+use Rattle.type_checker.specs.declared.static_type.Leaf.{Leaf}
+use Rattle.type_checker.specs.declared.static_type.Leaf.TheVariants as leaf
+use Rattle.type_checker.specs.declared.static_type.StaticType.{StaticType, fold-StaticType}
+use Rattle.type_checker.specs.declared.static_type.StaticType.TheOpen.{StaticType-F}
+use Rattle.type_checker.specs.declared.environment.TypingEnvironment.{TypingEnvironment}
+
+-- ---- types
+
+abbrev pub boolean_view : BooleanType → types.StaticType
+boolean_view truth.True = true_type
+boolean_view truth.False = false_type
+boolean_view truth.Either = boolean_type
+
+abbrev pub leaf_view : Leaf → types.StaticType
+leaf_view (leaf.Boolean b) = boolean_view b
+leaf_view leaf.Long = long_type
+leaf_view leaf.Text = text_type
+leaf_view (leaf.Entity n) = entity_type n.now
+leaf_view leaf.Decimal = decimal_type
+leaf_view leaf.Ipaddr = ipaddr_type
+
+abbrev pub built_fields : List (Bor (List ℕ) × types.StaticType × Bool) → FieldTypes
+built_fields [] = no_field_types
+built_fields (f ∷ fs) = field_type f.0.now f.1 f.2 (built_fields fs)
+
+abbrev pub static_step : StaticType-F types.StaticType → types.StaticType
+static_step (StaticType-F.Leaf l) = leaf_view l
+static_step (StaticType-F.DeclaredSet t) = set_type (static (cedar_view t.now))
+static_step (StaticType-F.DeclaredRecord fs) = record_type (static_fields (cedar_fields_view fs.now))
+static_step (StaticType-F.Set t) = set_type t
+static_step (StaticType-F.Record fs) = record_type (built_fields fs)
+
+abbrev pub static_view : StaticType → types.StaticType
+static_view = fold-StaticType types.StaticType static_step
+
+-- ---- what is held
+
+-- What an expression built of parts is kept once, and each copy is one holder more; what is declared is lent.
+pub record Holding : Type 0 where
+  pub is_held : Bool
+  -- whether it has a field of this name that is held
+  pub at : List ℕ → Bool
+
+abbrev pub held_in : List (Bor (List ℕ) × Holding × Bool) → List ℕ → Bool
+held_in [] k = false
+held_in (f ∷ fs) k = if bytes_eq k f.0.now then f.1.is_held else held_in fs k
+
+abbrev pub holding_step : StaticType-F Holding → Holding
+holding_step (StaticType-F.Leaf l) = record { is_held = false; at = λ k. false }
+holding_step (StaticType-F.DeclaredSet t) = record { is_held = false; at = λ k. false }
+holding_step (StaticType-F.DeclaredRecord fs) = record { is_held = false; at = λ k. false }
+holding_step (StaticType-F.Set t) = record { is_held = true; at = λ k. false }
+holding_step (StaticType-F.Record fs) = record { is_held = true; at = held_in fs }
+
+abbrev pub holding : StaticType → Holding
+holding = fold-StaticType Holding holding_step
+
+-- Memory may be taken for the common type of t and another: there is one, and it is not t, or t is held.
+abbrev pub MayTakeMemory : StaticType → Option types.StaticType → Type 0
+MayTakeMemory t o = IsSome o × (o ≡ Some (static_view t) → IsTrue (holding t).is_held)
+
+-- ---- faults
+
+-- A refused growth tells of no fault of typing. It is given one here since every case has to be; whoever states what a
+-- fault tells leaves that case out first, as `Answers` does below.
+abbrev pub fault_view : ExpressionFault → environment.ExpressionFault
+fault_view Unexpected = environment.unexpected
+fault_view NoCommonType = environment.no_common_type
+fault_view AttributeMayBeMissing = environment.attribute_may_be_missing
+fault_view EmptySet = environment.empty_set
+fault_view BadExtensionLiteral = environment.bad_extension_literal
+fault_view NoMemory = environment.unexpected
+
+-- what was returned is what the row says, unless memory was refused
+abbrev pub Answers : Result StaticType ExpressionFault → Row → Type 0
+Answers r row = MatchResult r (λ t. row ≡ Ok (static_view t)) (λ f. f ≢ NoMemory → row ≡ Err (fault_view f))
+
+-- memory was asked for only where P holds
+abbrev pub TakesMemoryOnly : Type 0 → Result StaticType ExpressionFault → Type 0
+TakesMemoryOnly P r = IfErr r (λ f. f ≡ NoMemory → P)
+
+-- no memory was asked for
+abbrev pub TakesNoMemory : Result StaticType ExpressionFault → Type 0
+TakesNoMemory r = IfErr r (λ f. f ≢ NoMemory)
+
+-- ---- environments
+
+abbrev pub typing_environment : TypingEnvironment → Environment
+typing_environment e = typing_environment_of (schema_view e.schema.now) (environment_view e.environment.now)

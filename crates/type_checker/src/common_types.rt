@@ -1,0 +1,170 @@
+//! The common type of two.
+ghost use Rattle.std.specs.Prelude.{◌≡◌, Some, option_map, IfOk, IfErr, IfSome};
+ghost use Rattle.typing.specs.Types.{set_type, record_type, common, common_fields};
+ghost use Rattle.type_checker.specs.Views.{boolean_view, leaf_view, static_view, MayTakeMemory};
+ghost use Rattle.type_checker.specs.inner.Parts.{part_view, built_view, fields_view};
+
+use crate::parts::{Fields, Part, TypeKind};
+use crate::same_types::same_fields;
+use crate::static_type::{BooleanType, Leaf, StaticType};
+use crate::type_joins::{Join, join_of, paired};
+use plain::{Items, NoMemory, Shared};
+use std::alloc::Global;
+
+/// Returns the common type of two types, where there is one, or `NoMemory`: of equal types that type, of types of
+/// booleans that differ any boolean, of sets by their members, and of records with equal keys and equal requirements
+/// field by field.
+///
+/// Takes time linear in the smaller one's parts. Where it is the left one, as of one declared type with itself, that is
+/// copied; so memory is taken only where it is another.
+pub fn common<'a>(
+    alloc: Global,
+    left: &StaticType<'a>,
+    right: &StaticType<'a>,
+) -> Result<Option<StaticType<'a>>, NoMemory>
+    ensures is { IfOk result (λ o. option_map (λ t. static_view t) o
+        ≡ common (static_view left.now) (static_view right.now)) }
+    ensures memory { IfErr result (λ _.
+        MayTakeMemory left.now (common (static_view left.now) (static_view right.now))) }
+{
+    match join_of(Part::Built(left), Part::Built(right)) {
+        Join::Apart => Ok(None),
+        Join::Left => Ok(Some(left.copy()?)),
+        Join::Wider => common_of(alloc, Part::Built(left), Part::Built(right)),
+    }
+}
+
+/// Returns the common type of two types of booleans.
+fn common_boolean(left: BooleanType, right: BooleanType) -> BooleanType
+    ensures { common (boolean_view left) (boolean_view right) ≡ Some (boolean_view result) }
+{
+    match left {
+        BooleanType::True => match right {
+            BooleanType::True => BooleanType::True,
+            BooleanType::False | BooleanType::Either => BooleanType::Either,
+        },
+        BooleanType::False => match right {
+            BooleanType::False => BooleanType::False,
+            BooleanType::True | BooleanType::Either => BooleanType::Either,
+        },
+        BooleanType::Either => BooleanType::Either,
+    }
+}
+
+fn common_leaf<'a>(left: Leaf<'a>, right: Leaf<'a>) -> Option<Leaf<'a>>
+    ensures { option_map leaf_view result ≡ common (leaf_view left.entry) (leaf_view right.entry) }
+{
+    match (left, right) {
+        (Leaf::Boolean(a), Leaf::Boolean(b)) => Some(Leaf::Boolean(common_boolean(a, b))),
+        (Leaf::Long, Leaf::Long) => Some(Leaf::Long),
+        (Leaf::Text, Leaf::Text) => Some(Leaf::Text),
+        (Leaf::Entity(a), Leaf::Entity(b)) => {
+            if a.as_str() == b.as_str() {
+                Some(Leaf::Entity(a))
+            } else {
+                None
+            }
+        }
+        (Leaf::Decimal, Leaf::Decimal) => Some(Leaf::Decimal),
+        (Leaf::Ipaddr, Leaf::Ipaddr) => Some(Leaf::Ipaddr),
+        _ => None,
+    }
+}
+
+/// Returns the type of sets of these members, where there are any.
+fn set_of<'a>(
+    alloc: Global,
+    member: Option<StaticType<'a>>,
+) -> Result<Option<StaticType<'a>>, NoMemory>
+    ensures { IfOk result (λ o. option_map (λ t. static_view t) o
+        ≡ option_map set_type (option_map (λ t. static_view t) member.entry)) }
+{
+    match member {
+        Some(ty) => Ok(Some(StaticType::Set(Shared::new(alloc, ty)?))),
+        None => Ok(None),
+    }
+}
+
+/// Returns the type of two records that the schema declares with the same fields; None says nothing. Takes no memory.
+fn declared_record<'a>(left: Fields<'_, 'a>, right: Fields<'_, 'a>) -> Option<StaticType<'a>>
+    ensures { IfSome result (λ t. Some (static_view t)
+        ≡ option_map record_type (common_fields (fields_view left.entry) (fields_view right.entry))) }
+{
+    match (left, right) {
+        (Fields::Declared(a), Fields::Declared(b)) => {
+            if same_fields(a, b) {
+                Some(StaticType::DeclaredRecord(a))
+            } else {
+                None
+            }
+        }
+        _ => None,
+    }
+}
+
+/// Returns the type of records with these fields.
+fn record_of<'a>(
+    alloc: Global,
+    fields: Vec<(&'a str, StaticType<'a>, bool)>,
+) -> Result<Option<StaticType<'a>>, NoMemory>
+    ensures { IfOk result (λ o. option_map (λ t. static_view t) o
+        ≡ Some (record_type (built_view fields.entry.items))) }
+{
+    let fields = Shared::new(alloc, Items::from_vec(fields))?;
+    Ok(Some(StaticType::Record(fields)))
+}
+
+#[cycle(common_of)]
+fn common_of<'a>(
+    alloc: Global,
+    left: Part<'_, 'a>,
+    right: Part<'_, 'a>,
+) -> Result<Option<StaticType<'a>>, NoMemory>
+    ensures { IfOk result (λ o. option_map (λ t. static_view t) o
+        ≡ common (part_view left.entry) (part_view right.entry)) }
+{
+    match (left.kind(), right.kind()) {
+        (TypeKind::Leaf(a), TypeKind::Leaf(b)) => Ok(leaf_type(common_leaf(a, b))),
+        (TypeKind::Set(a), TypeKind::Set(b)) => set_of(alloc, common_of(alloc, a, b)?),
+        (TypeKind::Record(a), TypeKind::Record(b)) => match declared_record(a, b) {
+            Some(ty) => Ok(Some(ty)),
+            None => common_record(alloc, a, b),
+        },
+        _ => Ok(None),
+    }
+}
+
+fn leaf_type<'a>(leaf: Option<Leaf<'a>>) -> Option<StaticType<'a>>
+    ensures { option_map (λ t. static_view t) result ≡ option_map leaf_view leaf.entry }
+{
+    match leaf {
+        Some(leaf) => Some(StaticType::Leaf(leaf)),
+        None => None,
+    }
+}
+
+#[cycle(common_of)]
+fn common_record<'a>(
+    alloc: Global,
+    left: Fields<'_, 'a>,
+    right: Fields<'_, 'a>,
+) -> Result<Option<StaticType<'a>>, NoMemory>
+    ensures { IfOk result (λ o. option_map (λ t. static_view t) o
+        ≡ option_map record_type (common_fields (fields_view left.entry) (fields_view right.entry))) }
+{
+    let mut fields = Vec::new(alloc);
+    let count = left.len();
+    for at in 0..count {
+        match paired(left.get(at), right.get(at)) {
+            Some(pair) => match common_of(alloc, pair.left, pair.right)? {
+                Some(ty) => fields.push((pair.key, ty, pair.required))?,
+                None => return Ok(None),
+            },
+            None => return Ok(None),
+        }
+    }
+    match right.get(count) {
+        Some(_) => Ok(None),
+        None => record_of(alloc, fields),
+    }
+}

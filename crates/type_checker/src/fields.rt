@@ -1,0 +1,159 @@
+//! The types of fields and attributes.
+ghost use Rattle.std.specs.Prelude.{◌≡◌, false, IsTrue, if◌then◌else◌};
+ghost use Rattle.typing.specs.Types.{field_declared_at, true_type};
+ghost use Rattle.typing.specs.Rows.{field_type_of, has_type, access_type, record_has, entity_has};
+ghost use Rattle.schema_types.specs.CedarViews.{cedar_fields_view};
+ghost use Rattle.type_checker.specs.FromSchemas.{static_fields};
+ghost use Rattle.type_checker.specs.Views.{boolean_view, static_view, holding, typing_environment, Answers};
+ghost use Rattle.type_checker.specs.Views.{TakesNoMemory, TakesMemoryOnly};
+ghost use Rattle.type_checker.specs.inner.Parts.{built_view, fields_view, held_at, found_held, found_view};
+
+use crate::environment::TypingEnvironment;
+use crate::fault::ExpressionFault;
+use crate::parts::{Fields, Part, TypeKind};
+use crate::static_type::{BooleanType, Leaf, StaticType};
+use plain::Text;
+use schema_types::CedarType;
+
+/// Returns what a record type that an expression built says of a key, by a walk over its fields.
+fn found_built<'r, 'a>(
+    fields: &'r [(&'a str, StaticType<'a>, bool)],
+    key: &str,
+) -> Option<(Part<'r, 'a>, bool)>
+    ensures declared { found_view result ≡ field_declared_at key.now (built_view fields.now) }
+    ensures held { found_held result ≡ held_at key.now fields.now }
+{
+    for field in fields {
+        if key == field.0 {
+            return Some((Part::Built(&field.1), field.2));
+        }
+    }
+    None
+}
+
+/// Returns what a record type that the schema declares says of a key, by a walk over its fields.
+fn found_declared<'r, 'a>(
+    fields: &'a [(Text, CedarType, bool)],
+    key: &str,
+) -> Option<(Part<'r, 'a>, bool)>
+    ensures declared { found_view result ≡ field_declared_at key.now (static_fields (cedar_fields_view fields.now)) }
+    ensures lent { found_held result ≡ false }
+{
+    for field in fields {
+        if key == field.0.as_str() {
+            return Some((Part::Declared(&field.1), field.2));
+        }
+    }
+    None
+}
+
+/// Returns what a record type says of a key, by a walk over its fields.
+fn found<'r, 'a>(fields: Fields<'r, 'a>, key: &str) -> Option<(Part<'r, 'a>, bool)>
+    ensures { found_view result ≡ field_declared_at key.now (fields_view fields.entry) }
+{
+    match fields {
+        Fields::Built(fields) => found_built(fields, key),
+        Fields::Declared(fields) => found_declared(fields, key),
+    }
+}
+
+/// Returns the type of a field that is required, or optional and known.
+fn access<'a>(
+    is_known: bool,
+    declared: Option<(Part<'_, 'a>, bool)>,
+) -> Result<StaticType<'a>, ExpressionFault>
+    ensures row { Answers result (access_type is_known (found_view declared.entry)) }
+    ensures memory { TakesMemoryOnly (IsTrue (found_held declared.entry)) result }
+{
+    match declared {
+        Some((part, required)) => {
+            if required || is_known {
+                Ok(part.taken()?)
+            } else {
+                Err(ExpressionFault::AttributeMayBeMissing)
+            }
+        }
+        None => Err(ExpressionFault::AttributeMayBeMissing),
+    }
+}
+
+/// Returns whether a record has a field.
+fn record_has(is_known: bool, declared: Option<(Part<'_, '_>, bool)>) -> BooleanType
+    ensures { boolean_view result ≡ if is_known then true_type else record_has (found_view declared.entry) }
+{
+    if is_known {
+        return BooleanType::True;
+    }
+    match declared {
+        Some((_, true)) => BooleanType::True,
+        Some((_, false)) => BooleanType::Either,
+        None => BooleanType::False,
+    }
+}
+
+/// Returns whether an entity, which may not be stored, has an attribute.
+fn entity_has(is_known: bool, declared: Option<(Part<'_, '_>, bool)>) -> BooleanType
+    ensures { boolean_view result ≡ if is_known then true_type else entity_has (found_view declared.entry) }
+{
+    if is_known {
+        return BooleanType::True;
+    }
+    match declared {
+        Some(_) => BooleanType::Either,
+        None => BooleanType::False,
+    }
+}
+
+/// Returns the type of `e.f`, by the type of `e` and whether it is known that `e` has the field. It takes no memory,
+/// and it is `NoMemory` only where an expression built the field's type, and its holders are as many as can be counted.
+///
+/// Takes logarithmic time where `e` is an entity.
+///
+/// Refused where `e` is neither a record nor an entity, and where the field is not declared, or optional and not known.
+pub fn field_type<'a>(
+    env: TypingEnvironment<'a>,
+    is_known: bool,
+    key: &str,
+    whole: &StaticType<'a>,
+) -> Result<StaticType<'a>, ExpressionFault>
+    ensures row { Answers result
+        (field_type_of (typing_environment env.entry) is_known key.now (static_view whole.now)) }
+    ensures memory { TakesMemoryOnly (IsTrue ((holding whole.now).at key.now)) result }
+{
+    match whole {
+        StaticType::Leaf(Leaf::Entity(name)) => access(is_known, env.attribute(*name, key)),
+        StaticType::DeclaredRecord(fields) => access(is_known, found_declared(*fields, key)),
+        StaticType::Record(fields) => access(is_known, found_built(fields.get().as_slice(), key)),
+        StaticType::Leaf(Leaf::Boolean(_) | Leaf::Long | Leaf::Text | Leaf::Decimal | Leaf::Ipaddr)
+        | StaticType::DeclaredSet(_)
+        | StaticType::Set(_) => Err(ExpressionFault::Unexpected),
+    }
+}
+
+/// Returns the type of `e has f`, by the type of `e` and whether it is known that `e` has the field; takes no memory,
+/// and logarithmic time where `e` is an entity.
+///
+/// Refused where `e` is neither a record nor an entity.
+pub fn has_type<'a>(
+    env: TypingEnvironment<'a>,
+    is_known: bool,
+    key: &str,
+    whole: &StaticType<'a>,
+) -> Result<StaticType<'a>, ExpressionFault>
+    ensures row { Answers result
+        (has_type (typing_environment env.entry) is_known key.now (static_view whole.now)) }
+    ensures memory { TakesNoMemory result }
+{
+    let part = Part::Built(whole);
+    match part.kind() {
+        TypeKind::Record(fields) => Ok(StaticType::boolean(record_has(
+            is_known,
+            found(fields, key),
+        ))),
+        TypeKind::Leaf(Leaf::Entity(name)) => Ok(StaticType::boolean(entity_has(
+            is_known,
+            env.attribute(name, key),
+        ))),
+        _ => Err(ExpressionFault::Unexpected),
+    }
+}

@@ -1,0 +1,155 @@
+//! The types of literals.
+ghost use Rattle.std.specs.Prelude.{◌≡◌, map, option_map, IfOk};
+ghost use Rattle.typing.specs.Types.{truth_type, common, common_of, record_type};
+ghost use Rattle.typing.specs.Types.{put_each, put_required, no_field_types};
+ghost use Rattle.typing.specs.Rows.{literal_type, set_of_common, set_literal_type};
+ghost use Rattle.type_checker.specs.Views.{boolean_view, static_view, Answers};
+ghost use Rattle.type_checker.specs.inner.Parts.{built_view, map_fields};
+
+use crate::common_types::common;
+use crate::fault::ExpressionFault;
+use crate::static_type::{BooleanType, Leaf, StaticType};
+use grammar_core::{Expr, Literal, Named};
+use plain::{Items, NoMemory, Shared};
+use std::alloc::Global;
+use std::collections::BTreeMap;
+
+/// Returns the type of a boolean that is known.
+pub(crate) fn truth_type(truth: bool) -> BooleanType
+    ensures { boolean_view result ≡ truth_type truth }
+{
+    if truth {
+        BooleanType::True
+    } else {
+        BooleanType::False
+    }
+}
+
+/// Returns the type of a literal; takes no memory.
+pub fn literal_type<'a>(literal: &'a Literal) -> StaticType<'a>
+    ensures { static_view result ≡ literal_type literal.now }
+{
+    match literal {
+        Literal::Boolean(truth) => StaticType::boolean(truth_type(*truth)),
+        Literal::Long(_) => StaticType::Leaf(Leaf::Long),
+        Literal::Text(_) => StaticType::Leaf(Leaf::Text),
+        Literal::Entity(uid) => StaticType::Leaf(Leaf::Entity(&uid.type_name)),
+    }
+}
+
+/// Returns the common type of those so far and one more, where there is one.
+fn joined_with<'a>(
+    alloc: Global,
+    joined: StaticType<'a>,
+    ty: &StaticType<'a>,
+) -> Result<Option<StaticType<'a>>, NoMemory>
+    ensures { IfOk result (λ o. option_map (λ t. static_view t) o
+        ≡ common (static_view joined.entry) (static_view ty.now)) }
+{
+    let wider = common(alloc, &joined, ty);
+    drop(joined);
+    wider
+}
+
+/// Returns the type of sets of these members, of which there is at least one.
+fn set_type_of<'a>(
+    alloc: Global,
+    first: &StaticType<'a>,
+    rest: &[StaticType<'a>],
+) -> Result<StaticType<'a>, ExpressionFault>
+    ensures { Answers result
+        (set_of_common (common_of (static_view first.now) (map (λ t. static_view t) rest.now))) }
+{
+    let mut joined = first.copy()?;
+    for ty in rest {
+        match joined_with(alloc, joined, ty)? {
+            Some(wider) => joined = wider,
+            None => return Err(ExpressionFault::NoCommonType),
+        }
+    }
+    Ok(StaticType::Set(Shared::new(alloc, joined)?))
+}
+
+/// Returns the type of a set literal whose members have these types, or `NoMemory`.
+///
+/// Refused where there are no members, and where they have no common type.
+pub fn set_literal_type<'a>(
+    alloc: Global,
+    members: Vec<StaticType<'a>>,
+) -> Result<StaticType<'a>, ExpressionFault>
+    ensures { Answers result (set_literal_type (map (λ t. static_view t) members.entry.items)) }
+{
+    match members.as_slice() {
+        [] => Err(ExpressionFault::EmptySet),
+        [first, rest @ ..] => set_type_of(alloc, first, rest),
+    }
+}
+
+/// Gives a key its type, whether it had one or not.
+fn put_field<'a>(
+    map: BTreeMap<&'a str, StaticType<'a>>,
+    key: &'a str,
+    ty: StaticType<'a>,
+) -> Result<BTreeMap<&'a str, StaticType<'a>>, NoMemory>
+    ensures { IfOk result (λ m. map_fields m.entries
+        ≡ put_required key.now (static_view ty.entry) (map_fields map.entry.entries)) }
+{
+    let mut map = map;
+    drop(map.insert(key, ty)?);
+    Ok(map)
+}
+
+/// Returns the fields of a record type, all of them required.
+fn listed_fields<'a>(
+    alloc: Global,
+    map: BTreeMap<&'a str, StaticType<'a>>,
+) -> Result<Vec<(&'a str, StaticType<'a>, bool)>, NoMemory>
+    ensures { IfOk result (λ fs. built_view fs.items ≡ map_fields map.entry.entries) }
+{
+    let mut fields = Vec::new(alloc);
+    for (key, ty) in map {
+        fields.push((key, ty, true))?;
+    }
+    Ok(fields)
+}
+
+/// Each name with its type; of equal names the last one's.
+fn typed_fields<'a>(
+    alloc: Global,
+    fields: &'a [Named<Expr>],
+    types: Vec<StaticType<'a>>,
+) -> Result<BTreeMap<&'a str, StaticType<'a>>, NoMemory>
+    ensures { IfOk result (λ m. map_fields m.entries
+        ≡ put_each (map (λ f. f.name) fields.now) (map (λ t. static_view t) types.entry.items) no_field_types) }
+{
+    let mut map = BTreeMap::new(alloc);
+    let mut at: usize = 0;
+    for ty in types {
+        match fields.get(at) {
+            Some(field) => {
+                map = put_field(map, field.name.as_str(), ty)?;
+                at += 1;
+            }
+            None => {
+                drop(ty);
+                return Ok(map);
+            }
+        }
+    }
+    Ok(map)
+}
+
+/// Returns the type of a record literal whose fields have these types, in the order in which they are written, or
+/// `NoMemory`.
+pub fn record_literal_type<'a>(
+    alloc: Global,
+    fields: &'a [Named<Expr>],
+    types: Vec<StaticType<'a>>,
+) -> Result<StaticType<'a>, NoMemory>
+    ensures { IfOk result (λ t. static_view t
+        ≡ record_type (put_each (map (λ f. f.name) fields.now) (map (λ t. static_view t) types.entry.items)
+        no_field_types)) }
+{
+    let fields = listed_fields(alloc, typed_fields(alloc, fields, types)?)?;
+    Ok(StaticType::Record(Shared::new(alloc, Items::from_vec(fields))?))
+}

@@ -1,0 +1,317 @@
+//! What operators and calls demand of their operands' types, and their types then.
+ghost use Rattle.std.specs.Prelude.{◌≡◌, Ok, option_map};
+ghost use Rattle.grammar_core.specs.declared.operator.Unary.TheVariants.{Not};
+ghost use Rattle.grammar_core.specs.declared.operator.Binary.TheVariants.{In};
+ghost use Rattle.typing.specs.Types.{common};
+ghost use Rattle.typing.specs.Rows.{unary_type, binary_type, address_test_type, call_type};
+ghost use Rattle.typing.specs.Rows.{if_common, equal_type, may_be_in, of_numbers};
+ghost use Rattle.type_checker.specs.Views.{boolean_view, leaf_view, static_view};
+ghost use Rattle.type_checker.specs.Views.{typing_environment, Answers, TakesNoMemory};
+ghost use Rattle.type_checker.specs.inner.Parts.{part_view, kind_view};
+ghost use Rattle.type_checker.specs.inner.Rows.{entity_type_in, entities_in, are_unequal, contains_type, sets_type};
+ghost use Rattle.type_checker.specs.inner.Rows.{is_decimal, is_ipaddr};
+
+use crate::environment::{TypingEnvironment, is_action_type};
+use crate::fault::ExpressionFault;
+use crate::literal_types::truth_type;
+use crate::parts::{Part, TypeKind};
+use crate::static_type::{BooleanType, Leaf, StaticType};
+use crate::type_joins::{Join, join_of};
+use grammar_core::{Binary, BinaryCall, Unary};
+use std::alloc::Global;
+use values::TypeName;
+
+/// Returns the type of a boolean that is turned round.
+fn turned(truth: BooleanType) -> BooleanType
+    ensures { unary_type Not (boolean_view truth) ≡ Ok (boolean_view result) }
+{
+    match truth {
+        BooleanType::True => BooleanType::False,
+        BooleanType::False => BooleanType::True,
+        BooleanType::Either => BooleanType::Either,
+    }
+}
+
+fn unary_of<'a>(
+    operator: &Unary,
+    operand: TypeKind<'_, 'a>,
+) -> Result<StaticType<'a>, ExpressionFault>
+    ensures row { Answers result (unary_type operator.now (kind_view operand.entry)) }
+    ensures memory { TakesNoMemory result }
+{
+    match (operator, operand) {
+        (Unary::Not, TypeKind::Leaf(Leaf::Boolean(truth))) => {
+            Ok(StaticType::boolean(turned(truth)))
+        }
+        (Unary::Negate, TypeKind::Leaf(Leaf::Long)) => Ok(StaticType::Leaf(Leaf::Long)),
+        (Unary::Like(_), TypeKind::Leaf(Leaf::Text)) => {
+            Ok(StaticType::boolean(BooleanType::Either))
+        }
+        (Unary::Is(name), TypeKind::Leaf(Leaf::Entity(found))) => {
+            let truth = found.as_str() == name.as_str();
+            Ok(StaticType::boolean(truth_type(truth)))
+        }
+        _ => Err(ExpressionFault::Unexpected),
+    }
+}
+
+/// Returns the type of an operator's result on an operand of this type; takes no memory.
+///
+/// Refused where the operator demands another.
+pub fn unary_type<'a>(
+    operator: &Unary,
+    operand: StaticType<'a>,
+) -> Result<StaticType<'a>, ExpressionFault>
+    ensures row { Answers result (unary_type operator.now (static_view operand.entry)) }
+    ensures memory { TakesNoMemory result }
+{
+    let row = unary_of(operator, Part::Built(&operand).kind());
+    drop(operand);
+    row
+}
+
+/// Returns the type of an operator's result on operands of these types; takes no memory, and time linear in the smaller
+/// one's parts.
+///
+/// Refused where the operator demands other kinds of types, and then where it demands a common type and there is none.
+pub fn binary_type<'a>(
+    _alloc: Global,
+    env: TypingEnvironment<'a>,
+    operator: Binary,
+    left: StaticType<'a>,
+    right: StaticType<'a>,
+) -> Result<StaticType<'a>, ExpressionFault>
+    ensures row { Answers result
+        (binary_type (typing_environment env.entry) operator (static_view left.entry) (static_view right.entry)) }
+    ensures memory { TakesNoMemory result }
+{
+    let row = binary_of(env, operator, Part::Built(&left), Part::Built(&right));
+    drop(left);
+    drop(right);
+    row
+}
+
+fn binary_of<'a>(
+    env: TypingEnvironment<'a>,
+    operator: Binary,
+    left: Part<'_, 'a>,
+    right: Part<'_, 'a>,
+) -> Result<StaticType<'a>, ExpressionFault>
+    ensures row { Answers result
+        (binary_type (typing_environment env.entry) operator (part_view left.entry) (part_view right.entry)) }
+    ensures memory { TakesNoMemory result }
+{
+    let (one, other) = (left.kind(), right.kind());
+    match operator {
+        Binary::Equal => equal_of(left, right),
+        Binary::In => in_of(env, one, other),
+        Binary::Less | Binary::LessOrEqual => {
+            of_numbers(Leaf::Boolean(BooleanType::Either), one, other)
+        }
+        Binary::Add | Binary::Subtract | Binary::Multiply => of_numbers(Leaf::Long, one, other),
+        Binary::Contains => contains_of(one, right),
+        Binary::ContainsAll | Binary::ContainsAny => sets_of(one, other),
+    }
+}
+
+/// Any boolean where two types have a common type.
+fn if_common<'a>(left: Part<'_, 'a>, right: Part<'_, 'a>) -> Result<StaticType<'a>, ExpressionFault>
+    ensures row { Answers result (if_common (common (part_view left.entry) (part_view right.entry))) }
+    ensures memory { TakesNoMemory result }
+{
+    match join_of(left, right) {
+        Join::Apart => Err(ExpressionFault::NoCommonType),
+        Join::Left | Join::Wider => Ok(StaticType::boolean(BooleanType::Either)),
+    }
+}
+
+/// Returns the name where a type is an entity type.
+fn entity_of<'a>(kind: TypeKind<'_, 'a>) -> Option<&'a TypeName>
+    ensures { option_map (λ n. n.now) result ≡ entity_type_in (kind_view kind.entry) }
+{
+    match kind {
+        TypeKind::Leaf(Leaf::Entity(name)) => Some(name),
+        _ => None,
+    }
+}
+
+/// Returns the name where a type is an entity type, or a set of one.
+fn entities_of<'a>(kind: TypeKind<'_, 'a>) -> Option<&'a TypeName>
+    ensures { option_map (λ n. n.now) result ≡ entities_in (kind_view kind.entry) }
+{
+    match kind {
+        TypeKind::Set(member) => entity_of(member.kind()),
+        TypeKind::Leaf(_) | TypeKind::Record(_) => entity_of(kind),
+    }
+}
+
+/// False for entities of two types; else any boolean where there is a common type.
+fn equal_of<'a>(left: Part<'_, 'a>, right: Part<'_, 'a>) -> Result<StaticType<'a>, ExpressionFault>
+    ensures row { Answers result (equal_type (part_view left.entry) (part_view right.entry)) }
+    ensures memory { TakesNoMemory result }
+{
+    if are_unequal(entity_of(left.kind()), entity_of(right.kind())) {
+        return Ok(StaticType::boolean(BooleanType::False));
+    }
+    if_common(left, right)
+}
+
+/// Returns whether there are two names, and they differ.
+fn are_unequal(left: Option<&TypeName>, right: Option<&TypeName>) -> bool
+    ensures { result ≡ are_unequal (option_map (λ n. n.now) left.entry) (option_map (λ n. n.now) right.entry) }
+{
+    match left {
+        Some(a) => match right {
+            Some(b) => a.as_str() != b.as_str(),
+            None => false,
+        },
+        None => false,
+    }
+}
+
+/// Returns whether an entity of one type may be in one of another.
+fn may_be_in(env: TypingEnvironment<'_>, left: &TypeName, right: &TypeName) -> bool
+    ensures { result ≡ may_be_in (typing_environment env.entry) left.now right.now }
+{
+    is_action_type(left)
+        || is_action_type(right)
+        || left.as_str() == right.as_str()
+        || env.may_be_below(left, right)
+}
+
+fn in_of<'a>(
+    env: TypingEnvironment<'a>,
+    left: TypeKind<'_, 'a>,
+    right: TypeKind<'_, 'a>,
+) -> Result<StaticType<'a>, ExpressionFault>
+    ensures row { Answers result
+        (binary_type (typing_environment env.entry) In (kind_view left.entry) (kind_view right.entry)) }
+    ensures memory { TakesNoMemory result }
+{
+    let (Some(below), Some(above)) = (entity_of(left), entities_of(right)) else {
+        return Err(ExpressionFault::Unexpected);
+    };
+    if may_be_in(env, below, above) {
+        Ok(StaticType::boolean(BooleanType::Either))
+    } else {
+        Ok(StaticType::boolean(BooleanType::False))
+    }
+}
+
+/// This type, of two numbers.
+fn of_numbers<'a>(
+    given: Leaf<'a>,
+    left: TypeKind<'_, 'a>,
+    right: TypeKind<'_, 'a>,
+) -> Result<StaticType<'a>, ExpressionFault>
+    ensures row { Answers result (of_numbers (leaf_view given.entry) (kind_view left.entry) (kind_view right.entry)) }
+    ensures memory { TakesNoMemory result }
+{
+    match (left, right) {
+        (TypeKind::Leaf(Leaf::Long), TypeKind::Leaf(Leaf::Long)) => Ok(StaticType::Leaf(given)),
+        _ => Err(ExpressionFault::Unexpected),
+    }
+}
+
+fn contains_of<'a>(
+    left: TypeKind<'_, 'a>,
+    right: Part<'_, 'a>,
+) -> Result<StaticType<'a>, ExpressionFault>
+    ensures row { Answers result (contains_type (kind_view left.entry) (part_view right.entry)) }
+    ensures memory { TakesNoMemory result }
+{
+    match left {
+        TypeKind::Set(member) => if_common(member, right),
+        TypeKind::Leaf(_) | TypeKind::Record(_) => Err(ExpressionFault::Unexpected),
+    }
+}
+
+fn sets_of<'a>(
+    left: TypeKind<'_, 'a>,
+    right: TypeKind<'_, 'a>,
+) -> Result<StaticType<'a>, ExpressionFault>
+    ensures row { Answers result (sets_type (kind_view left.entry) (kind_view right.entry)) }
+    ensures memory { TakesNoMemory result }
+{
+    match right {
+        TypeKind::Set(member) => contains_of(left, member),
+        TypeKind::Leaf(_) | TypeKind::Record(_) => Err(ExpressionFault::Unexpected),
+    }
+}
+
+/// Returns the type of a test of an address, by its operand's type; takes no memory.
+///
+/// Refused where that is another.
+pub fn address_test_type<'a>(operand: StaticType<'a>) -> Result<StaticType<'a>, ExpressionFault>
+    ensures row { Answers result (address_test_type (static_view operand.entry)) }
+    ensures memory { TakesNoMemory result }
+{
+    let row = address_test_of(Part::Built(&operand).kind());
+    drop(operand);
+    row
+}
+
+fn address_test_of<'a>(operand: TypeKind<'_, 'a>) -> Result<StaticType<'a>, ExpressionFault>
+    ensures row { Answers result (address_test_type (kind_view operand.entry)) }
+    ensures memory { TakesNoMemory result }
+{
+    match operand {
+        TypeKind::Leaf(Leaf::Ipaddr) => Ok(StaticType::boolean(BooleanType::Either)),
+        _ => Err(ExpressionFault::Unexpected),
+    }
+}
+
+/// Returns the type of a method of an extension, by its operands' types; takes no memory.
+///
+/// Refused where these are not of the extension.
+pub fn call_type<'a>(
+    called: BinaryCall,
+    left: StaticType<'a>,
+    right: StaticType<'a>,
+) -> Result<StaticType<'a>, ExpressionFault>
+    ensures row { Answers result (call_type called (static_view left.entry) (static_view right.entry)) }
+    ensures memory { TakesNoMemory result }
+{
+    let row = call_of(
+        called,
+        Part::Built(&left).kind(),
+        Part::Built(&right).kind(),
+    );
+    drop(left);
+    drop(right);
+    row
+}
+
+fn is_decimal(kind: TypeKind<'_, '_>) -> bool
+    ensures { result ≡ is_decimal (kind_view kind.entry) }
+{
+    matches!(kind, TypeKind::Leaf(Leaf::Decimal))
+}
+
+fn is_ipaddr(kind: TypeKind<'_, '_>) -> bool
+    ensures { result ≡ is_ipaddr (kind_view kind.entry) }
+{
+    matches!(kind, TypeKind::Leaf(Leaf::Ipaddr))
+}
+
+fn call_of<'a>(
+    called: BinaryCall,
+    left: TypeKind<'_, 'a>,
+    right: TypeKind<'_, 'a>,
+) -> Result<StaticType<'a>, ExpressionFault>
+    ensures row { Answers result (call_type called (kind_view left.entry) (kind_view right.entry)) }
+    ensures memory { TakesNoMemory result }
+{
+    let fits = match called {
+        BinaryCall::LessThan
+        | BinaryCall::LessThanOrEqual
+        | BinaryCall::GreaterThan
+        | BinaryCall::GreaterThanOrEqual => is_decimal(left) && is_decimal(right),
+        BinaryCall::IsInRange => is_ipaddr(left) && is_ipaddr(right),
+    };
+    if fits {
+        Ok(StaticType::boolean(BooleanType::Either))
+    } else {
+        Err(ExpressionFault::Unexpected)
+    }
+}

@@ -1,0 +1,182 @@
+//! Types of expressions.
+ghost use Rattle.std.specs.Prelude.{◌≡◌, ◌↔◌, IsTrue, IfOk, IfErr, MatchOption};
+ghost use Rattle.std.specs.Bool.{Decides};
+ghost use Rattle.typing.specs.Types.{false_type, IsBoolean};
+ghost use Rattle.typing.specs.Rows.{MayBeTrue, MayBeFalse};
+ghost use Rattle.schema_types.specs.CedarViews.{cedar_view};
+ghost use Rattle.type_checker.specs.FromSchemas.{static};
+ghost use Rattle.type_checker.specs.Views.{boolean_view, static_view, holding};
+
+use crate::parts::{Part, TypeKind};
+use plain::{Items, NoMemory, Shared, Text};
+use schema_types::CedarType;
+use values::TypeName;
+
+/// A type of booleans.
+#[derive(Clone, Copy, PartialEq, Eq)]
+pub enum BooleanType {
+    /// Known to be true, whatever the request.
+    True,
+    /// Known to be false.
+    False,
+    /// Either.
+    Either,
+}
+
+impl BooleanType {
+    /// Returns whether booleans of this type may be true.
+    pub fn may_be_true(self) -> bool
+        ensures { IsTrue result ↔ MayBeTrue (boolean_view self) }
+    {
+        match self {
+            BooleanType::True => true,
+            BooleanType::Either => true,
+            BooleanType::False => false,
+        }
+    }
+
+    /// Returns whether booleans of this type are known to be false.
+    pub fn is_false(self) -> bool
+        ensures { Decides result (boolean_view self ≡ false_type) }
+    {
+        match self {
+            BooleanType::False => true,
+            BooleanType::True | BooleanType::Either => false,
+        }
+    }
+
+    /// Returns whether booleans of this type may be false.
+    pub fn may_be_false(self) -> bool
+        ensures { IsTrue result ↔ MayBeFalse (boolean_view self) }
+    {
+        match self {
+            BooleanType::False => true,
+            BooleanType::Either => true,
+            BooleanType::True => false,
+        }
+    }
+}
+
+/// A type without parts.
+#[derive(Clone, Copy)]
+pub enum Leaf<'a> {
+    Boolean(BooleanType),
+    Long,
+    Text,
+    /// Entities of one type.
+    Entity(&'a TypeName),
+    Decimal,
+    Ipaddr,
+}
+
+/// The type of an expression. What the schema declares is borrowed from it, and names from the schema and the
+/// expression. What an expression builds is kept once and held by each copy.
+///
+/// Source: Cedar reference guide, "Policy validation".
+#[derive(Drop)]
+pub enum StaticType<'a> {
+    Leaf(Leaf<'a>),
+    /// A set that the schema declares, by the type of its members.
+    DeclaredSet(&'a CedarType),
+    /// A record that the schema declares: each key with its type, and whether it is required.
+    DeclaredRecord(&'a [(Text, CedarType, bool)]),
+    /// A set, by the type of its members.
+    Set(Shared<StaticType<'a>>),
+    /// Each key with its type, and whether it is required.
+    Record(Shared<Items<(&'a str, StaticType<'a>, bool)>>),
+}
+
+impl<'a> StaticType<'a> {
+    /// Returns the type of the values of a type that the schema declares; takes no memory.
+    pub fn declared(ty: &'a CedarType) -> StaticType<'a>
+        ensures { static_view result ≡ static (cedar_view ty.now) }
+    {
+        match ty {
+            CedarType::Text => StaticType::Leaf(Leaf::Text),
+            CedarType::Long => StaticType::Leaf(Leaf::Long),
+            CedarType::Boolean => StaticType::Leaf(Leaf::Boolean(BooleanType::Either)),
+            CedarType::Decimal => StaticType::Leaf(Leaf::Decimal),
+            CedarType::Ipaddr => StaticType::Leaf(Leaf::Ipaddr),
+            CedarType::Set(element) => StaticType::DeclaredSet(element.get()),
+            CedarType::Record(fields) => StaticType::DeclaredRecord(fields.get().as_slice()),
+            CedarType::Entity(name) => StaticType::Leaf(Leaf::Entity(name)),
+        }
+    }
+
+    /// Returns a type of booleans; takes no memory.
+    pub fn boolean(truth: BooleanType) -> StaticType<'a>
+        ensures { static_view result ≡ boolean_view truth }
+    {
+        StaticType::Leaf(Leaf::Boolean(truth))
+    }
+
+    /// Returns the same type. It takes no memory, and it is `NoMemory` only where it is held, and the holders of what
+    /// an expression built are as many as can be counted.
+    pub fn copy(&self) -> Result<StaticType<'a>, NoMemory>
+        ensures same { IfOk result (λ t. static_view t ≡ static_view self.now) }
+        ensures memory { IfErr result (λ _. IsTrue (holding self.now).is_held) }
+    {
+        match self {
+            StaticType::Leaf(leaf) => Ok(StaticType::Leaf(same_leaf(leaf))),
+            StaticType::DeclaredSet(member) => Ok(StaticType::DeclaredSet(*member)),
+            StaticType::DeclaredRecord(fields) => Ok(StaticType::DeclaredRecord(*fields)),
+            StaticType::Set(member) => Ok(StaticType::Set(member.share()?)),
+            StaticType::Record(fields) => Ok(StaticType::Record(fields.share()?)),
+        }
+    }
+
+    /// Returns which type of booleans it is, or None where it is another; takes no memory.
+    pub fn as_boolean(&self) -> Option<BooleanType>
+        ensures { MatchOption result (¬ IsBoolean (static_view self.now))
+            (λ b. static_view self.now ≡ boolean_view b) }
+    {
+        match Part::Built(self).kind() {
+            TypeKind::Leaf(Leaf::Boolean(truth)) => Some(truth),
+            _ => None,
+        }
+    }
+
+    /// Returns whether it is the type False; takes no memory.
+    pub fn is_false(&self) -> bool
+        ensures { Decides result (static_view self.now ≡ false_type) }
+    {
+        match self.as_boolean() {
+            Some(truth) => truth.is_false(),
+            None => false,
+        }
+    }
+
+    /// Returns whether it is a type of booleans that may be true; takes no memory.
+    pub fn may_be_true(&self) -> bool
+        ensures { IsTrue result ↔ MayBeTrue (static_view self.now) }
+    {
+        match self.as_boolean() {
+            Some(truth) => truth.may_be_true(),
+            None => false,
+        }
+    }
+
+    /// Returns whether it is a type of booleans that may be false; takes no memory.
+    pub fn may_be_false(&self) -> bool
+        ensures { IsTrue result ↔ MayBeFalse (static_view self.now) }
+    {
+        match self.as_boolean() {
+            Some(truth) => truth.may_be_false(),
+            None => false,
+        }
+    }
+}
+
+/// Returns the same leaf.
+pub(crate) fn same_leaf<'a>(leaf: &Leaf<'a>) -> Leaf<'a>
+    ensures { result ≡ leaf.now }
+{
+    match leaf {
+        Leaf::Boolean(truth) => Leaf::Boolean(*truth),
+        Leaf::Long => Leaf::Long,
+        Leaf::Text => Leaf::Text,
+        Leaf::Entity(name) => Leaf::Entity(*name),
+        Leaf::Decimal => Leaf::Decimal,
+        Leaf::Ipaddr => Leaf::Ipaddr,
+    }
+}

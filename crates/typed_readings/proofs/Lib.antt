@@ -1,7 +1,0 @@
-pub mod Values
-pub mod Readings
-pub mod Worlds
-pub mod Stored
-pub mod Answers
--- crates below, passed on to those above
-pub use Rattle.stored_texts.proofs.of_expressions

@@ -1,3 +1,0 @@
-pub mod Knowledge
-pub mod TableViews
-pub mod inner

@@ -1,0 +1,145 @@
+#!/usr/bin/env python3
+"""Checks that the fifteen crates that others build on give out what they promise, each call and type under its own name.
+
+    tools/surface.py
+
+Each name of SURFACE has to be declared in the root of its crate, or passed on there by `pub use`, which the gate compiles; and so on down to the
+crate that declares it, with a doc comment. It prints what is missing, and ends with status 1 where something is. tools/made_docs.py makes
+docs/surface.md of the same list. Standard library alone.
+"""
+import os
+import re
+import sys
+
+HERE = os.path.dirname(os.path.abspath(__file__))
+sys.path.insert(0, HERE)
+import made_docs  # noqa: E402
+
+SURFACE = {
+    "extensions": ["Decimal", "IpNet"],
+    "values": ["TypeName", "EntityUid", "Name", "Record", "Set", "Value", "Request"],
+    "policy_grammar": ["tokens", "parse_policy", "parse_policies", "parse_uid", "Policy", "Scope", "Expr", "Pattern", "ReadFault"],
+    "schema": ["read_schema", "Schema", "CedarType", "Environment", "EntityDecl", "SchemaFault"],
+    "entities": ["read_entity", "read_context", "read_request", "canonical_text", "Entity", "EntityFault"],
+    "ancestor_closure": ["Ancestry", "Hierarchy", "Searched", "Closed"],
+    "evaluator": ["evaluate", "Lookup", "EvalFault"],
+    "validator": ["check", "Verdict", "TypeFault"],
+    "authoriser": ["decide", "Answer", "Decision"],
+    "scope_index": ["ScopeIndex"],
+    "stamped_store": ["Stamp", "Entry", "Join", "Stamped", "Short", "PolicyStore"],
+    "sync_messages": [
+        "write_state", "write_delta", "write_summary", "read_message", "read_summary", "Update", "Summary", "MessageFault",
+    ],
+    "site": ["Site", "Put", "Taken", "SiteFault", "run", "Input", "Reply", "simulate", "Event", "World", "is_site_name"],
+    "http_service": [
+        "serve", "StreamFault", "fetch", "FetchFault", "Ask", "Source", "Sink", "Counted", "Fed", "Kept", "answer_line", "error_line",
+    ],
+    "program": [
+        "line_of", "Line", "LineFault", "decide_texts", "check_texts", "decide_under", "pull_over", "merge_texts", "drill_text", "run",
+    ],
+}
+
+
+def roots():
+    """The root of each crate that is a library, as a text."""
+    folder = f"{made_docs.TOP}/crates"
+    return {it: made_docs.text_of(f"crates/{it}/src/lib.rt") for it in os.listdir(folder) if os.path.isfile(f"{folder}/{it}/src/lib.rt")}
+
+
+def paths_of(root):
+    """Where a root takes each of its public names from: a map from the name to the path's words."""
+    found = {}
+    for one in re.finditer(r"(?m)^pub use ((?:\w+::)+)(?:\{([^}]*)\}|(\w+));", root):
+        for name in re.findall(r"\w+", one[2] or one[3]):
+            found[name] = [*one[1].rstrip(":").split("::"), name]
+    return found
+
+
+class Surface:
+    """Where the crates' names are declared."""
+
+    def __init__(self):
+        self.roots = roots()
+        self.paths = {crate: paths_of(root) for crate, root in self.roots.items()}
+        self.files = {}
+
+    def items(self, crate, module):
+        """The public items of a file, with the methods of its types."""
+        path = f"crates/{crate}/src/{module}.rt"
+        if path not in self.files:
+            self.files[path] = made_docs.items_of(path) if os.path.isfile(f"{made_docs.TOP}/{path}") else ([], [])
+        return self.files[path]
+
+    def declared(self, crate, name):
+        """The item that a crate gives out by this name, and the crate that declares it; or none."""
+        words = self.paths[crate].get(name, ["lib", name])
+        if words[0] not in self.roots or os.path.isfile(f"{made_docs.TOP}/crates/{crate}/src/{words[0]}.rt"):
+            return self.item(crate, "/".join(words[:-1]), name)
+        return self.declared(words[0], name) if len(words) == 2 else self.item(words[0], "/".join(words[1:-1]), name)
+
+    def item(self, crate, module, name):
+        item = next((it for it in self.items(crate, module)[0] if it.name == name), None)
+        return item and (item, crate)
+
+    def methods(self, crate, item):
+        """The public methods of a type, wherever its crate has them; of a trait all."""
+        if item.kind == "trait":
+            return [it.name for it in item.parts]
+        folder = f"{made_docs.TOP}/crates/{crate}/src"
+        named = []
+        for path in sorted(os.listdir(folder)):
+            if path.endswith(".rt"):
+                named += [it.name for type_name, it in self.items(crate, path[:-3])[1] if type_name == item.name and it.kind != "law"]
+        return list(dict.fromkeys(named))
+
+
+def rows():
+    """The names of SURFACE, each with its crate, its item, or none, and its methods."""
+    surface = Surface()
+    for crate, names in SURFACE.items():
+        for name in names:
+            found = surface.declared(crate, name)
+            yield crate, name, found and found[0], surface.methods(found[1], found[0]) if found else []
+
+
+PAGE = """# The surface
+
+Made from the sources by `tools/made_docs.py`: to change it, change a doc comment there.
+
+What a program that builds on Weirbowl names: fifteen crates, lowest first, each with its calls and
+types, and with a type's own methods. `tools/surface.py`, which `./test` runs, fails where one is
+missing. A call that allocates takes `alloc: Global` first, behind `self`, and may return
+`NoMemory`; an error implements `Error`, and its `code` is a number of docs/codes.md. The contract
+of a call says exactly what it gives: docs/proved.md lists them, docs/DECISIONS.md tells where they
+differ from what was specified.
+"""
+
+
+def page():
+    """The text of docs/surface.md."""
+    lines, last = [PAGE], None
+    for crate, name, item, methods in rows():
+        if crate != last:
+            lines += [*([""] if last else []), f"## `{crate}`", "", *made_docs.wrapped(f"{made_docs.purpose_of(crate)}."), ""]
+            last = crate
+        says = made_docs.clause(item.says, 120) if item else "missing"
+        lines += made_docs.wrapped(f"- `{name}`: {says}. {made_docs.quoted(methods)}".rstrip())
+    return "\n".join(lines) + "\n"
+
+
+def missing():
+    for crate, name, item, _ in rows():
+        if item is None:
+            yield f"{crate} gives out no {name}"
+        elif not item.says:
+            yield f"{crate}::{name} has no doc comment"
+
+
+def main():
+    found = list(missing())
+    print("\n".join(found) or f"{sum(map(len, SURFACE.values()))} names of {len(SURFACE)} crates are given out")
+    return 1 if found else 0
+
+
+if __name__ == "__main__":
+    sys.exit(main())
