@@ -3,7 +3,7 @@
 
     [PROGRAM=FILE] examples/service.py
 
-Every route, a connection that is kept, requests sent together, clients that send garbage, cut off or stall, two sites
+Every route, a connection that is kept, requests sent together, clients that send garbage, cut off, stall or are idle, two sites
 that exchange until they are equal, `pull` and `merge`, and what ends a command. PROGRAM names another binary than the
 built one. Standard library alone.
 """
@@ -267,6 +267,31 @@ def a_client_that_stalls(port):
         same("who waited", REPLY, to_end(waiting))
 
 
+def idle_clients():
+    """With --idle 1 three clients that send nothing and one that sends half a request hold up a fifth for a second each,
+    and one that takes no reply for a second more."""
+    site, port = begin("idle", "--idle", "1")
+    silent = [opened(port) for _ in range(4)]
+    silent[3].sendall(ASK[:10])
+    greedy = opened(port)
+    greedy.setblocking(False)
+    try:
+        while True:
+            greedy.send(1000 * ASK)
+    except BlockingIOError:
+        pass
+    began = time.monotonic()
+    same("who comes behind idle clients", LINE.decode(), asked(port, "GET", "/v1/policies/absent")[1])
+    took = time.monotonic() - began
+    same("how long it waited for them", True, 3 < took < 12)
+    for link in silent:
+        link.settimeout(20)
+        same("a client that was idle", b"", link.recv(1))
+        link.close()
+    greedy.close()
+    same("the site behind idle clients is still there", None, site.poll())
+
+
 def garbage(port):
     chance = random.Random(7)
     for length in (1, 3, 17, 300, 5000, 70000):
@@ -355,6 +380,9 @@ def refusals(one, file):
     ends("a site of 32 bytes", 0, "", "serve", *schema, "--site", 32 * "n", "--connections", "0", *nowhere)
     ends("too many connections", 2, "", "serve", *schema, "--site", "north", *nowhere, "--connections", "4294967296")
     ends("no address", 2, "", "serve", *schema, "--site", "north")
+    for idle in ("0", "86401", "1.5", "", "-1"):
+        ends(f"idle for {idle}", 2, "", *serve, *nowhere, f"--idle={idle}")
+    ends("idle for a day", 0, "", *serve, *nowhere, "--idle", "86400")
     ends("no file", 3, f"fault: {none}", *serve, *nowhere, "--state", none)
     ends("a state of another schema", 1, refusal(52), *serve, "--listen", "nowhere", "--state", other)
     ends("no schema", 1, refusal(20), "serve", "--schema", "policies.cedar", "--site", "east", "--listen", "nowhere")
@@ -379,6 +407,7 @@ def main():
     _, two = begin("south")
     two_sites(one, two)
     refusals(one, pulls_and_merges(one, two))
+    idle_clients()
     print(f"service: {len(wrong)} wrong" if wrong else "service: as it should be")
     return 1 if wrong else 0
 

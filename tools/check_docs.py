@@ -4,7 +4,7 @@
     tools/check_docs.py
 
 - README.md's picture has the layers of crates.txt; in crates.txt each crate stands on crates before it, and in the picture on its own layer or on those of
-  rows below it, but for those of ACROSS.
+  rows below it.
 - Each crate of crates.txt that is no test and measures nothing stands, in bold, in docs/proved.md, and no other does; so does each law by its name.
 - docs/definitions.md is what tools/made_docs.py makes of the sources.
 - Of the twelve files of docs/reading.md each is one that the whole program's contract rests on, with its lines; so many files and lines as it says are.
@@ -33,8 +33,6 @@ BESIDE_CODES = {"200", "409", "422", "503"}
 INSIDE = re.compile(r"(?<![\w/.])((?:specs|proofs|src|must-fail|wrong-bodies)/[\w./-]*\w)(?![\w*])")
 NAMED = re.compile(r"(?<![\w/.])((?:docs|bench|tools|examples|rows)/[\w./-]*\w|crates/\w+/(?:src|specs|proofs)/[\w/]+\.\w+)")
 
-# what the small program reads stands on names and entities, of the layer that its own layer is below
-ACROSS = {"decision_texts"}
 # of which docs/surface.md has some 12,000
 MOST_BYTES = 162_000
 # between a case and its outcome
@@ -81,10 +79,10 @@ def about_layers():
     for line in text_of("crates.txt").split("\n"):
         name, _, named = line.partition("#")[0].partition(":")
         for other in named.split():
-            if other in crates() and other not in before and name.strip() not in ACROSS:
+            if other in crates() and other not in before:
                 yield f"crates.txt: {name} stands on {other}, which is not before it"
             low, high = layer_of.get(other), layer_of.get(name.strip())
-            if low in row_of and high in row_of and low != high and row_of[low] >= row_of[high] and name.strip() not in ACROSS:
+            if low in row_of and high in row_of and low != high and row_of[low] >= row_of[high]:
                 yield f"README.md: {name} stands on {other}, which its picture has not below it"
         before.add(name.strip())
 

@@ -110,8 +110,8 @@ What a program that builds on Weirbowl names: fifteen crates, lowest first, each
 types, and with a type's own methods. `tools/surface.py`, which `./test` runs, fails where one is
 missing. A call that allocates takes `alloc: Global` first, behind `self`, and may return
 `NoMemory`; an error implements `Error`, and its `code` is a number of docs/codes.md. The contract
-of a call says exactly what it gives: docs/proved.md lists them, docs/DECISIONS.md tells where they
-differ from what was specified.
+of a call says exactly what it gives (docs/proved.md); docs/DECISIONS.md says where calls differ
+from what was specified.
 """
 
 

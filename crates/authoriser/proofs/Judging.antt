@@ -1,12 +1,12 @@
 -- From what is looked up once to the truth of scopes, and from policy to policy.
 use Rattle.std.specs.Prelude.{◌≡◌, ◌≢◌, ℕ, ◌+◌, ◌<◌, ◌≤◌, List, [], ◌∷◌, ◌++◌, length, slice_index_or, Bool, true}
-use Rattle.std.specs.Prelude.{false, Contains, None, Vec, refl}
+use Rattle.std.specs.Prelude.{false, Contains, None, Vec, All, refl}
 use Rattle.std.specs.declared.alloc.Global.{Global}
 use Rattle.std.specs.List.Sorted.{IsStrictlySortedBy}
 use Rattle.std.specs.Borrow.{Bor}
 use Rattle.std.proofs.Common.{inl, inr, sym, ap, subst, ◌∙◌, take}
 use Rattle.std.proofs.lemmas.List.{take_more, take_all}
-use Rattle.std.proofs.lemmas.List.Elements.{Contains-push_cases}
+use Rattle.std.proofs.lemmas.List.Elements.{All-contains, Contains-push_cases}
 use Rattle.values.specs.declared.entity_uid.EntityUid.{EntityUid}
 use Rattle.values.specs.declared.request.Request.{Request}
 use Rattle.plain.proofs.Members.{Contains-none}
@@ -37,7 +37,7 @@ use Rattle.authoriser.specs.declared.request_entities.RequestEntities.{RequestEn
 use Rattle.authoriser.specs.declared.tally.Tally.{Tally}
 use Rattle.scope_index.specs.Scopes.{IsEntityScopeTrue, IsActionScopeTrue, IsScopeTrue}
 use Rattle.authoriser.specs.Answers.{NamedPolicy, PolicyOutcome, IsPolicyOutcome, ArePolicyOutcomes, fault_of}
-use Rattle.authoriser.specs.Answers.{PolicyEvaluatesTo, decided, answer_by, IsAnswer}
+use Rattle.authoriser.specs.Answers.{PolicyEvaluatesTo, decided, answer_by, IsCycleDenial, IsAnswer}
 use Rattle.authoriser.specs.Views.{named}
 use Rattle.authoriser.specs.inner.Views.{HasItsAttributes, AreLookedUp, AllHaveTheirAttributes, HasAllAbove}
 use Rattle.authoriser.specs.inner.Views.{IsWithin, HasItsAncestors, HasRequestAncestors, AllHaveTheirAncestors}
@@ -191,19 +191,29 @@ placed_alone parents uid above empty alone = record {
 }
 
 -- ---- entities beside the request's three
-pub above_it : (parents : Parents) (o : Other) (uid : EntityUid) → HasAllAbove parents o → o.uid ≡ uid → IsAllAbove parents uid (names o.ancestors.items)
-above_it parents o uid right same = subst (λ (u : EntityUid). IsAllAbove parents u (names o.ancestors.items)) same right.all
+pub record IsAbove (parents : Parents) (uid : EntityUid) (us : List (Bor EntityUid)) : Type 0 where
+  pub all : IsAllAbove parents uid (names us)
+  pub ascending : IsAscending (names us)
+
+pub above_other : (parents : Parents) (others : List Other) (o : Other) (uid : EntityUid) → All (HasAllAbove parents) others
+    → Contains others o → o.uid ≡ uid → IsAbove parents uid o.ancestors.items
+above_other parents others o uid have there same =
+    let right = All-contains (HasAllAbove parents) others o have there in
+    record {
+      all = subst (λ (u : EntityUid). IsAllAbove parents u (names o.ancestors.items)) same right.all;
+      ascending = right.ascending;
+    }
 
 -- ---- no cycle, or a cycle
 pub by_policies : (W : World) (q : Request) (ps : List NamedPolicy) (a : Answer) → HasNoCycle W.parents →
     ((js : List PolicyOutcome) × ArePolicyOutcomes W q ps js × (a ≡ answer_by js)) → IsAnswer W q ps a
 by_policies W q ps a none h = inr (record { acyclic = none; judged = h.0; outcomes = h.1; answer = h.2 })
 
-pub denial : (W : World) (q : Request) (ps : List NamedPolicy) (cycle : List EntityUid) (a : Answer) → IsLeastCycle W.parents cycle →
-    a ≡ record { decision = Deny; reason = []; errors = []; cycle = cycle } → IsAnswer W q ps a
-denial W q ps cycle a least is =
+pub denial : (parents : Parents) (cycle : List EntityUid) (a : Answer) → IsLeastCycle parents cycle →
+    a ≡ record { decision = Deny; reason = []; errors = []; cycle = cycle } → IsCycleDenial parents a
+denial parents cycle a least is =
     let same : a.cycle ≡ cycle = ap (λ (b : Answer). b.cycle) is in
-    inl (record {
-      least = subst (IsLeastCycle W.parents) (sym same) least;
+    record {
+      least = subst (IsLeastCycle parents) (sym same) least;
       rest = is ∙ ap (λ (c : List EntityUid). record { decision = Deny; reason = []; errors = []; cycle = c }) (sym same);
-    })
+    }

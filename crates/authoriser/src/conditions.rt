@@ -3,13 +3,13 @@ ghost use Rattle.std.specs.Prelude.{◌≡◌, IfOk, MatchResult};
 ghost use Rattle.evaluator.specs.declared.fault.EvalFault.TheVariants as evaluating;
 ghost use Rattle.evaluator.specs.Operators.{world_of};
 ghost use Rattle.authoriser.specs.Answers.{fault_of, PolicyEvaluatesTo};
-ghost use Rattle.authoriser.specs.inner.Views.{HasRequestAncestors, ConditionEvaluatesTo};
+ghost use Rattle.authoriser.specs.inner.Views.{ConditionEvaluatesTo};
 
+use crate::known::Known;
 use crate::laws::scopes_do_not_err;
 use crate::outcome::{Outcome, PolicyError};
-use crate::request_entities::RequestEntities;
 use crate::scopes::is_scope_true;
-use evaluator::{EvalFault, Question, evaluate_asked_test};
+use evaluator::{EvalFault, Lookup, Question, evaluate_asked_test};
 use grammar_core::Expr;
 use plain::NoMemory;
 use scope_index::Policy;
@@ -47,19 +47,17 @@ fn outcome_of_condition<L: Question>(
 
 /// Returns what a policy comes to. Its condition is evaluated only where its scope is true: a scope never errs, and
 /// where it is not true the policy is not satisfied, whatever its condition is (`scopes_do_not_err`).
-pub(crate) fn outcome_of<L: Question>(
+pub(crate) fn outcome_of<L: Lookup>(
     alloc: Global,
     policy: &Policy,
-    entities: &RequestEntities<'_>,
-    store: &L,
+    known: &Known<'_, L>,
 ) -> Result<Outcome, NoMemory>
-    requires { HasRequestAncestors (L.parents store.now) (L.asked store.now) entities.now }
     ensures { IfOk result
-        (PolicyEvaluatesTo (world_of (L.stored store.now) (L.parents store.now)) (L.asked store.now) policy.now) }
+        (PolicyEvaluatesTo (world_of (L.stored known.now.0) (L.parents known.now.0)) known.now.1 policy.now) }
 {
     scopes_do_not_err();
-    if is_scope_true(policy.scope.get(), entities) {
-        outcome_of_condition(alloc, policy.condition.get(), store)
+    if is_scope_true(policy.scope.get(), known.request_entities()) {
+        outcome_of_condition(alloc, policy.condition.get(), known)
     } else {
         Ok(Outcome::NotSatisfied)
     }

@@ -1,22 +1,24 @@
 //! Decisions: the answer to a request over policies and stored entities.
-ghost use Rattle.std.specs.Prelude.{◌≡◌, [], List, IfOk};
+ghost use Rattle.std.specs.Prelude.{◌≡◌, [], IfOk, MatchOption};
 ghost use Rattle.evaluator.specs.ancestor_search.Hierarchy.{names};
 ghost use Rattle.evaluator.specs.ancestor_search.LeastCycle.{HasNoCycle};
 ghost use Rattle.evaluator.specs.Operators.{world_of};
 ghost use Rattle.authoriser.specs.declared.answer.Decision.TheVariants.{Deny};
-ghost use Rattle.authoriser.specs.Answers.{PolicyOutcome, ArePolicyOutcomes, answer_by, IsAnswer};
+ghost use Rattle.authoriser.specs.Answers.{IsAnswer, IsCycleDenial};
 ghost use Rattle.authoriser.specs.Views.{named};
 
 use crate::answer::{Answer, Decision};
 use crate::conditions::outcome_of;
 use crate::known::Known;
-use crate::remembering::Remembering;
 use crate::tally::Tally;
 use evaluator::{Ancestry, Lookup};
 use plain::{Items, NoMemory};
 use scope_index::Policy;
 use std::alloc::Global;
 use values::{EntityUid, Request};
+
+/// Of how many entities beside the request's three [`decide`] keeps at most who is above them.
+const OTHERS_MAX: usize = 64;
 
 fn copy_uids(alloc: Global, uids: &[&EntityUid]) -> Result<Items<EntityUid>, NoMemory>
     ensures { IfOk result (λ copies. copies ≡ names uids.now) }
@@ -28,62 +30,23 @@ fn copy_uids(alloc: Global, uids: &[&EntityUid]) -> Result<Items<EntityUid>, NoM
     Ok(Items::from_vec(copies))
 }
 
-/// Returns the answer by what the policies come to, where the request's entities were looked up.
-fn answer_by_known<L: Lookup>(
-    alloc: Global,
-    policies: &[(&str, &Policy)],
-    known: &Known<'_, L>,
-) -> Result<Answer, NoMemory>
-    ensures { let W = world_of (L.stored known.now.0) (L.parents known.now.0) in
-        IfOk result (λ a. (js : List PolicyOutcome) × ArePolicyOutcomes W known.now.1 (named policies.now) js
-        × (a ≡ answer_by js)) }
-{
-    let entities = known.request_entities();
-    let mut tally = Tally::new(alloc);
-    for (id, policy) in policies {
-        let outcome = outcome_of(alloc, policy, entities, known)?;
-        tally.note(id, policy.effect, outcome)?;
-    }
-    tally.into_answer(alloc)
-}
-
-/// Returns the same, where the hierarchy is searched: who is above other entities is kept from policy to policy.
-fn answer_by_search<L: Lookup>(
-    alloc: Global,
-    policies: &[(&str, &Policy)],
-    known: &Known<'_, L>,
-) -> Result<Answer, NoMemory>
-    ensures { let W = world_of (L.stored known.now.0) (L.parents known.now.0) in
-        IfOk result (λ a. (js : List PolicyOutcome) × ArePolicyOutcomes W known.now.1 (named policies.now) js
-        × (a ≡ answer_by js)) }
-{
-    let entities = known.request_entities();
-    let mut world = Remembering::new(alloc, known);
-    let mut tally = Tally::new(alloc);
-    for (id, policy) in policies {
-        world.keep_next();
-        let outcome = outcome_of(alloc, policy, entities, &world)?;
-        tally.note(id, policy.effect, outcome)?;
-    }
-    tally.into_answer(alloc)
-}
-
 /// Returns the answer where the hierarchy has no cycle: by what the policies come to.
 fn answer_by_policies<L: Lookup>(
     alloc: Global,
     policies: &[(&str, &Policy)],
-    known: &Known<'_, L>,
-    is_searched: bool,
+    known: &mut Known<'_, L>,
 ) -> Result<Answer, NoMemory>
-    requires { HasNoCycle (L.parents known.now.0) }
-    ensures { IfOk result (λ a. IsAnswer (world_of (L.stored known.now.0) (L.parents known.now.0)) known.now.1
+    requires { HasNoCycle (L.parents known.old.0) }
+    ensures { IfOk result (λ a. IsAnswer (world_of (L.stored known.old.0) (L.parents known.old.0)) known.old.1
         (named policies.now) a) }
 {
-    if is_searched {
-        answer_by_search(alloc, policies, known)
-    } else {
-        answer_by_known(alloc, policies, known)
+    let mut tally = Tally::new(alloc);
+    for (id, policy) in policies {
+        known.keep_next();
+        let outcome = outcome_of(alloc, policy, known)?;
+        tally.note(id, policy.effect, outcome)?;
     }
+    tally.into_answer(alloc)
 }
 
 /// Returns a denial that names this cycle, and no policy.
@@ -100,37 +63,36 @@ fn denial_by_cycle(alloc: Global, cycle: &[&EntityUid]) -> Result<Answer, NoMemo
     })
 }
 
-/// Returns the answer to the request whose entities were looked up. `is_searched` says that the hierarchy is searched
-/// for the ancestors of any other entity, so that it is worth while to keep them.
-fn answer_over<L: Lookup>(
+/// Returns the denial that names the least cycle; None where no entity is on a cycle.
+fn denial_if_cyclic<L: Lookup>(
     alloc: Global,
-    policies: &[(&str, &Policy)],
     known: &Known<'_, L>,
-    is_searched: bool,
-) -> Result<Answer, NoMemory>
-    ensures { IfOk result (λ a. IsAnswer (world_of (L.stored known.now.0) (L.parents known.now.0)) known.now.1
-        (named policies.now) a) }
+) -> Result<Option<Answer>, NoMemory>
+    ensures { let parents = L.parents known.now.0 in
+        IfOk result (λ o. MatchOption o (HasNoCycle parents) (IsCycleDenial parents)) }
 {
     match known.least_cycle()? {
-        None => answer_by_policies(alloc, policies, known, is_searched),
-        Some(cycle) => denial_by_cycle(alloc, &cycle),
+        None => Ok(None),
+        Some(cycle) => Ok(Some(denial_by_cycle(alloc, &cycle)?)),
     }
 }
 
-/// Returns the answer to the request whose entities were looked up, over these policies; as [`decide`] answers, but
-/// that nothing is kept of other entities.
+/// Returns the answer to the request whose entities were looked up, over these policies, as [`decide`] does.
 ///
 /// Whoever asks more of the request's entities, as an index does, has them looked up once for both. Errors: `NoMemory`
 /// alone.
 pub fn decide_known<L: Lookup>(
     alloc: Global,
     policies: &[(&str, &Policy)],
-    known: &Known<'_, L>,
+    known: &mut Known<'_, L>,
 ) -> Result<Answer, NoMemory>
-    ensures { IfOk result (λ a. IsAnswer (world_of (L.stored known.now.0) (L.parents known.now.0)) known.now.1
+    ensures { IfOk result (λ a. IsAnswer (world_of (L.stored known.old.0) (L.parents known.old.0)) known.old.1
         (named policies.now) a) }
 {
-    answer_over(alloc, policies, known, false)
+    match denial_if_cyclic(alloc, known)? {
+        Some(denial) => Ok(denial),
+        None => answer_by_policies(alloc, policies, known),
+    }
 }
 
 /// Returns the answer to a request over these policies and these stored entities.
@@ -152,6 +114,6 @@ pub fn decide<L: Lookup>(
     ensures { IfOk result (λ a. IsAnswer (world_of (L.stored store.now) (L.parents store.now)) request.now
         (named policies.now) a) }
 {
-    let known = Known::of(alloc, store, request)?;
-    answer_over(alloc, policies, &known, true)
+    let mut known = Known::of(alloc, store, request, OTHERS_MAX)?;
+    decide_known(alloc, policies, &mut known)
 }

@@ -2,6 +2,7 @@
 ghost use Rattle.std.specs.Prelude.{◌≡◌, IfOk};
 ghost use Rattle.authoriser.specs.inner.Views.{HasRequestAncestors};
 
+use crate::others::Others;
 use crate::request_entities::{RequestEntities, request_entities_of};
 use evaluator::{Ancestry, Lookup, Question, is_among};
 use grammar_core::Variable;
@@ -11,14 +12,15 @@ use std::marker::Model;
 use values::{EntityUid, Record, Request};
 
 /// Stored entities, with the ancestors and the attributes of a request's three: what is asked of one of these is
-/// neither searched nor looked up again, and what is asked of a variable not even found by a name. Contracts see the
-/// stored entities and the request.
+/// neither searched nor looked up again, and what is asked of a variable not even found by a name. Of some others it is
+/// kept from policy to policy who is above them. Contracts see the stored entities and the request.
 #[derive(Drop)]
 pub struct Known<'a, L: Lookup> {
     alloc: Global,
     store: &'a L,
     request: &'a Request,
     entities: RequestEntities<'a>,
+    others: Others<'a>,
 }
 
 impl<'a, L: Lookup> Model for Known<'a, L> {
@@ -26,7 +28,7 @@ impl<'a, L: Lookup> Model for Known<'a, L> {
     ghost use Rattle.std.specs.Coded.{codes};
     ghost use Rattle.values.specs.ValueCode.{value_code};
     ghost use Rattle.evaluator.specs.Operators.{world_of};
-    ghost use Rattle.authoriser.specs.inner.Views.{AreLookedUp};
+    ghost use Rattle.authoriser.specs.inner.Views.{IsKnown};
 
     ghost Value = { L × Request };
 
@@ -35,12 +37,19 @@ impl<'a, L: Lookup> Model for Known<'a, L> {
     ghost view = { λ k. (k.store.now, k.request.now) };
 
     ghost invariant = { λ k.
-        AreLookedUp (world_of (L.stored k.store.now) (L.parents k.store.now)) k.request.now k.entities };
+        IsKnown (world_of (L.stored k.store.now) (L.parents k.store.now)) k.request.now k.entities k.others };
 }
 
 impl<'a, L: Lookup> Known<'a, L> {
-    /// Looks up the request's three entities: the ancestors and the attributes of each, once. Errors: `NoMemory` alone.
-    pub fn of(alloc: Global, store: &'a L, request: &'a Request) -> Result<Self, NoMemory>
+    /// Looks up the request's three entities: the ancestors and the attributes of each, once. Of so many others at most
+    /// it is kept who is above them, once a condition asked for it: worth while where that is searched. Errors:
+    /// `NoMemory` alone.
+    pub fn of(
+        alloc: Global,
+        store: &'a L,
+        request: &'a Request,
+        most_others: usize,
+    ) -> Result<Self, NoMemory>
         ensures { IfOk result (λ k. k ≡ (store.now, request.now)) }
     {
         let entities = request_entities_of(alloc, store, request)?;
@@ -49,14 +58,8 @@ impl<'a, L: Lookup> Known<'a, L> {
             store,
             request,
             entities,
+            others: Others::new(alloc, most_others),
         })
-    }
-
-    /// Returns the request.
-    pub fn request(&self) -> &Request
-        ensures { result.now ≡ self.now.1 }
-    {
-        self.request
     }
 
     /// Returns the request's three entities, with what was looked up for them.
@@ -65,13 +68,17 @@ impl<'a, L: Lookup> Known<'a, L> {
     {
         &self.entities
     }
+
+    /// Keeps who is above the other entity that was asked for last, if there is room for one more.
+    pub(crate) fn keep_next(&mut self)
+        ensures { self.new ≡ self.old }
+    {
+        self.others.keep_next(self.store);
+    }
 }
 
 /// Returns the same references once more.
-pub(crate) fn copied<'a>(
-    alloc: Global,
-    uids: &[&'a EntityUid],
-) -> Result<Vec<&'a EntityUid>, NoMemory>
+fn copied<'a>(alloc: Global, uids: &[&'a EntityUid]) -> Result<Vec<&'a EntityUid>, NoMemory>
     ensures { IfOk result (λ copies. copies.items ≡ uids.now) }
 {
     uids.iter().copied().collect(alloc)
@@ -87,14 +94,20 @@ impl<L: Lookup> Ancestry for Known<'_, L> {
     fn is_ancestor(&self, a: &EntityUid, b: &EntityUid) -> Result<bool, NoMemory> {
         match self.entities.find(b) {
             Some(known) => Ok(is_among(&known.ancestors, a)),
-            None => self.store.is_ancestor(a, b),
+            None => match self.others.find(b) {
+                Some(other) => Ok(is_among(&other.ancestors, a)),
+                None => self.store.is_ancestor(a, b),
+            },
         }
     }
 
     fn ancestors(&self, uid: &EntityUid) -> Result<Vec<&EntityUid>, NoMemory> {
         match self.entities.find(uid) {
             Some(known) => copied(self.alloc, &known.ancestors),
-            None => self.store.ancestors(uid),
+            None => match self.others.find(uid) {
+                Some(other) => copied(self.alloc, &other.ancestors),
+                None => self.store.ancestors(uid),
+            },
         }
     }
 

@@ -13,7 +13,6 @@ mod known;
 mod laws;
 mod others;
 mod outcome;
-mod remembering;
 mod request_entities;
 mod scopes;
 mod tally;

@@ -8,9 +8,6 @@ use std::alloc::Global;
 use std::cell::Cell;
 use values::EntityUid;
 
-/// How many entities are kept at most: what is above others is searched each time.
-const OTHERS_MAX: usize = 64;
-
 /// An entity, with the entities above it.
 #[derive(Drop)]
 pub(crate) struct Other<'a> {
@@ -23,6 +20,8 @@ pub(crate) struct Other<'a> {
 #[derive(Drop)]
 pub(crate) struct Others<'a> {
     pub(crate) kept: Vec<Other<'a>>,
+    /// How many are kept at most.
+    most: usize,
     /// The entity that is kept next. It is written while a condition is evaluated, and no answer depends on it.
     next: Cell<Option<EntityUid>>,
 }
@@ -35,16 +34,18 @@ fn look_up<'a, S: Lookup>(store: &'a S, uid: EntityUid) -> Result<Other<'a>, NoM
 }
 
 impl<'a> Others<'a> {
-    pub(crate) fn new(alloc: Global) -> Others<'a>
+    /// Of none. At most so many are kept.
+    pub(crate) fn new(alloc: Global, most: usize) -> Others<'a>
         ensures { result.kept.items ≡ [] }
     {
         Others {
             kept: Vec::new(alloc),
+            most,
             next: Cell::new(None),
         }
     }
 
-    /// Returns what is kept of an entity.
+    /// Returns what is kept of an entity. One that is not kept is kept next, if there is room for one more.
     pub(crate) fn find(&self, uid: &EntityUid) -> Option<&Other<'a>>
         ensures kept { MatchOption result ⊤ (λ other. Contains self.now.kept.items other.now) }
         ensures same { MatchOption result ⊤ (λ other. other.now.uid ≡ uid.now) }
@@ -54,14 +55,10 @@ impl<'a> Others<'a> {
                 return Some(other);
             }
         }
-        None
-    }
-
-    /// Takes note of an entity that is not kept, so that it is kept next, if there is room for one more.
-    pub(crate) fn note(&self, uid: &EntityUid) {
-        if self.kept.len() < OTHERS_MAX {
+        if self.kept.len() < self.most {
             self.next.set(uid.copy().ok());
         }
+        None
     }
 
     fn keep<S: Lookup>(&mut self, store: &'a S, uid: EntityUid) -> Result<(), NoMemory>
@@ -73,13 +70,15 @@ impl<'a> Others<'a> {
         Ok(())
     }
 
-    /// Keeps the entity of which note was taken last, if any. Where memory is refused, it is not kept.
+    /// Keeps the entity that was asked for last and is not kept, if any. Where memory is refused, it is not kept.
     pub(crate) fn keep_next<S: Lookup>(&mut self, store: &'a S)
         requires { HaveAllAbove (S.parents store.now) self.old }
         ensures { HaveAllAbove (S.parents store.now) self.new }
     {
-        if let Some(uid) = self.next.replace(None) {
-            let _ = self.keep(store, uid);
+        if self.kept.len() < self.most {
+            if let Some(uid) = self.next.replace(None) {
+                let _ = self.keep(store, uid);
+            }
         }
     }
 }

@@ -14,12 +14,12 @@ use Rattle.std.proofs.lemmas.List.{get_or-map, length-map}
 use Rattle.std.proofs.lemmas.List.Sorted.{IsPermutation-map, IsPermutation-sym, Contains-permutation}
 use Rattle.std.proofs.lemmas.Map.Keys.{IsDistinct-IsPermutation, apart_from_distinct, sorted_from_all_adjacent}
 use Rattle.std.proofs.lemmas.Map.Text.{is_eq-slice_cmp}
-use Rattle.entity_uids.specs.policy_grammar.declared.policy.Policy.{Policy}
-use Rattle.entity_uids.specs.policy_grammar.PolicyText.{IsPolicyFile}
-use Rattle.entity_uids.specs.policy_grammar.Unique.{EachIsNamed, NamesDiffer}
+use Rattle.answer_lines.specs.policy_grammar.declared.policy.Policy.{Policy}
+use Rattle.answer_lines.specs.policy_grammar.PolicyText.{IsPolicyFile}
+use Rattle.answer_lines.specs.policy_grammar.Unique.{EachIsNamed, NamesDiffer}
 use Rattle.values.specs.Names.{text_cmp}
-use Rattle.authoriser.specs.Answers.{NamedPolicy}
-use Rattle.authoriser.specs.Laws.{AreIdsAscending}
+use Rattle.answer_lines.specs.authoriser.Answers.{NamedPolicy}
+use Rattle.answer_lines.specs.authoriser.Laws.{AreIdsAscending}
 use Rattle.plain.proofs.Ascending.{one_list}
 use Rattle.decision_texts.specs.Decisions.{named_policies, IsInOrder}
 use Rattle.decision_texts.proofs.Placing.{has_order}

@@ -5,9 +5,9 @@ use Rattle.std.specs.List.Sorted.{IsSortedByKey}
 use Rattle.std.specs.Ordering.{nat_cmp}
 use Rattle.std.specs.Cmp.Lexicographic.{slice_cmp}
 use Rattle.std.proofs.lemmas.List.{get_or-map}
-use Rattle.entity_uids.specs.policy_grammar.declared.policy.Policy.{Policy}
-use Rattle.authoriser.specs.Answers.{NamedPolicy}
-use Rattle.authoriser.specs.Views.{named}
+use Rattle.answer_lines.specs.policy_grammar.declared.policy.Policy.{Policy}
+use Rattle.answer_lines.specs.authoriser.Answers.{NamedPolicy}
+use Rattle.answer_lines.specs.authoriser.Views.{named}
 use Rattle.decision_texts.specs.Decisions.{named_policies}
 
 -- a policy with its name, as it was read

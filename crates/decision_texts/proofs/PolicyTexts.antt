@@ -3,13 +3,13 @@ use Rattle.std.proofs.Common.{◌≡◌, ◌∙◌, ◌⊎◌, ℕ, ◌≤◌, B
 use Rattle.std.proofs.Common.{inl, inr, refl, sym, arith}
 use Rattle.std.specs.Str.{is_utf8}
 use Rattle.std.proofs.lemmas.Str.{IsUtf8-from_is_utf8, is_utf8-from_IsUtf8}
-use Rattle.entity_uids.specs.policy_grammar.declared.fault.ReadFault.{ReadFault}
-use Rattle.entity_uids.specs.policy_grammar.declared.fault.ReadFault.TheVariants.{TooLong, BadToken}
-use Rattle.entity_uids.specs.policy_grammar.declared.policy.Policy.{Policy}
-use Rattle.entity_uids.specs.policy_grammar.Limits.{most_file_bytes}
-use Rattle.entity_uids.specs.policy_grammar.PolicyText.{IsFileRefused}
-use Rattle.entity_uids.specs.policy_grammar.Unique.{HasOneReading, IsFileOf}
-use Rattle.decision_texts.specs.declared.refusal.Refusal.{Refusal}
+use Rattle.answer_lines.specs.policy_grammar.declared.fault.ReadFault.{ReadFault}
+use Rattle.answer_lines.specs.policy_grammar.declared.fault.ReadFault.TheVariants.{TooLong, BadToken}
+use Rattle.answer_lines.specs.policy_grammar.declared.policy.Policy.{Policy}
+use Rattle.answer_lines.specs.policy_grammar.Limits.{most_file_bytes}
+use Rattle.answer_lines.specs.policy_grammar.PolicyText.{IsFileRefused}
+use Rattle.answer_lines.specs.policy_grammar.Unique.{HasOneReading, IsFileOf}
+use Rattle.answer_lines.specs.declared.refusal.Refusal.{Refusal}
 use Rattle.decision_texts.specs.Decisions.{ArePoliciesOf, IsFileFault, refusal_by, ArePoliciesRefused}
 
 -- the policies of a text, or its refusal

@@ -6,7 +6,7 @@ use Rattle.serde_json.specs.Find.{get}
 use Rattle.values.specs.declared.entity_uid.EntityUid.{EntityUid}
 use Rattle.values.specs.declared.request.Request.{Request}
 use Rattle.decision_texts.specs.Bare.{is_absent_or_empty}
-use Rattle.decision_texts.specs.Requests.{NamesAt, StatesRequest}
+use Rattle.decision_texts.specs.BareRequests.{NamesAt, StatesRequest}
 
 pub no_principal : (d : Data) → ((uid : EntityUid) → NamesAt (codes "principal") d uid → ⊥) → (q : Request) → StatesRequest d q → ⊥
 no_principal d none q states = none q.principal states.principal

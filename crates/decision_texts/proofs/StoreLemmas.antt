@@ -1,50 +1,36 @@
 -- What a store of entities looks up is what its entities state.
-use Rattle.std.proofs.Common.{◌≡◌, ◌∙◌, Bool, true, false, List, [], ◌∷◌, ◌++◌, Option, Some, None, map, inl, inr, refl}
-use Rattle.std.proofs.Common.{sym, ap, subst}
+use Rattle.std.proofs.Common.{◌≡◌, ◌∙◌, Bool, true, false, List, [], ◌∷◌, ◌++◌, Option, Some, None, map, inl, inr, refl, sym}
+use Rattle.std.proofs.Common.{ap, subst}
 use Rattle.std.specs.Prelude.{Contains, if◌then◌else◌, ◌||◌, is_some}
 use Rattle.std.specs.List.{list_any}
 use Rattle.std.specs.Ordering.{is_eq}
 use Rattle.std.proofs.lemmas.Bool.{cases_Bool}
+use Rattle.std.proofs.lemmas.List.Elements.{Contains-append_left, Contains-append_right}
 use Rattle.values.specs.declared.entity_uid.EntityUid.{EntityUid}
 use Rattle.values.specs.Names.{uid_cmp, uid_cmp-IsTotalOrder, uid_cmp-IsAntisymmetric}
-use Rattle.values.specs.Fields.{Field}
 use Rattle.values.specs.Uids.{equal-is}
 use Rattle.plain.proofs.Members.{Contains-here, Contains-there, Contains-none}
 use Rattle.entity_data.specs.ancestor_search.Decided.{is_same, HaveAllParents}
 use Rattle.entity_data.specs.evaluator.Operators.{world_of}
 use Rattle.entity_data.specs.declared.entity.Entity.{Entity}
 use Rattle.entity_data.specs.declared.data.EntityData.{EntityData}
+use Rattle.entity_data.specs.Entities.{EntityMap, Actions, action_or, with_actions, world_in}
 use Rattle.entity_data.specs.Entities.{attributes_of, kept_parents}
-use Rattle.entity_data.specs.Keeping.{Entries, kept_in, Puts, data_of as data_in}
-use Rattle.decision_texts.specs.declared.bare.BareEntity.{BareEntity}
-use Rattle.decision_texts.specs.Decisions.{parents_in, stored_in, world_in}
-use Rattle.decision_texts.specs.inner.Stores.{data_of, stated_at, Holds, world_held}
-
--- ---- all entities with parents are those of the array
-
-abbrev own_uids : List BareEntity → List EntityUid
-own_uids es = map (λ e. e.uid) es
-
-chosen : (own : Bool) (u b a : EntityUid) (us : List EntityUid) (ps qs : List EntityUid) → (own ≡ true → u ≡ b) → (Contains qs a → Contains us b) →
-    Contains (if own then ps else qs) a → Contains (u ∷ us) b
-chosen true u b a us ps qs same further c = subst (Contains (u ∷ us)) (same refl) (Contains-here u us)
-chosen false u b a us ps qs same further c = Contains-there u us b (further c)
-
-pub all_parents : (es : List BareEntity) → HaveAllParents (parents_in es) (own_uids es)
-all_parents [] b a c = Contains-none a c
-all_parents (e ∷ es) b a c =
-    chosen (is_eq (uid_cmp e.uid b)) e.uid b a (own_uids es) e.parents (parents_in es b) (λ same. (equal-is uid_cmp-IsTotalOrder uid_cmp-IsAntisymmetric e.uid b).0 same) (all_parents es b a) c
+use Rattle.entity_data.specs.Keeping.{Entries, kept_in, Puts, data_of}
+use Rattle.decision_texts.specs.Settings.{Reading}
+use Rattle.decision_texts.specs.Decisions.{stated, world_with}
+use Rattle.decision_texts.specs.inner.Stores.{Holds, world_held}
 
 -- ---- one more entity behind others
 
-pub not_first : (b : Bool) (x : EntityData) (o : Option EntityData) → (if b then Some x else o) ≡ None → (b ≡ false) × (o ≡ None)
+not_first : (b : Bool) (x : EntityData) (o : Option EntityData) → (if b then Some x else o) ≡ None → (b ≡ false) × (o ≡ None)
 not_first true x o h = absurd (cc)
 not_first false x o h = (refl, h)
 
 true_false : {G : Type 0} (b : Bool) → b ≡ true → b ≡ false → G
 true_false b yes' no' = let e : true ≡ false = sym yes' ∙ no' in absurd (cc)
 
-pub other : (x e q : EntityUid) → is_same x q ≡ true → is_same x e ≡ false → is_same e q ≡ false
+other : (x e q : EntityUid) → is_same x q ≡ true → is_same x e ≡ false → is_same e q ≡ false
 other x e q same apart = elim (cases_Bool (is_same e q)) [
   | inl y ↦
       let xq = (equal-is uid_cmp-IsTotalOrder uid_cmp-IsAntisymmetric x q).0 same in
@@ -53,65 +39,77 @@ other x e q same apart = elim (cases_Bool (is_same e q)) [
   | inr n ↦ n
 ]
 
-pub later : (b c : Bool) (x e : EntityData) (o n : Option EntityData) → (b ≡ true → c ≡ false) → (b ≡ false → n ≡ (if c then Some e else o)) →
+later : (b c : Bool) (x e : EntityData) (o n : Option EntityData) → (b ≡ true → c ≡ false) → (b ≡ false → n ≡ (if c then Some e else o)) →
     (if b then Some x else n) ≡ (if c then Some e else (if b then Some x else o))
 later true c x e o n apart behind = rw (apart refl) refl
 later false c x e o n apart behind = behind refl
 
-stated_more : (es : List BareEntity) (e : BareEntity) (q : EntityUid) → stated_at es e.uid ≡ None →
-    stated_at (es ++ e ∷ []) q ≡ (if is_same e.uid q then Some (data_of e) else stated_at es q)
+stated_more : (es : List Entity) (e : Entity) (q : EntityUid) → stated es e.uid ≡ None →
+    stated (es ++ e ∷ []) q ≡ (if is_same e.uid q then Some (data_of e) else stated es q)
 stated_more [] e q none = refl
 stated_more (x ∷ es) e q none =
-    let parts = not_first (is_same x.uid e.uid) (data_of x) (stated_at es e.uid) none in
-    later (is_same x.uid q) (is_same e.uid q) (data_of x) (data_of e) (stated_at es q) (stated_at (es ++ e ∷ []) q)
+    let parts = not_first (is_same x.uid e.uid) (data_of x) (stated es e.uid) none in
+    later (is_same x.uid q) (is_same e.uid q) (data_of x) (data_of e) (stated es q) (stated (es ++ e ∷ []) q)
     (λ same. other x.uid e.uid q same parts.0) (λ apart. stated_more es e q parts.1)
 
-pub none_in : (o : Option EntityData) → is_some o ≡ false → o ≡ None
+none_in : (o : Option EntityData) → is_some o ≡ false → o ≡ None
 none_in None h = refl
 none_in (Some x) h = absurd (cc)
 
 -- an entity that the store did not have is put behind those that it has
-pub holds_more : (old new : Entries) (es : List BareEntity) (e : BareEntity) (kept : Entity) → kept.uid ≡ e.uid → kept.attrs ≡ [] → kept.parents ≡ e.parents
-    → Puts (kept_in old) (kept_in new) kept → is_some (kept_in old e.uid) ≡ false → Holds old es → Holds new (es ++ e ∷ [])
-holds_more old new es e kept uid attrs parents puts none held q =
-    let same : data_in kept ≡ data_of e = λ i. record { attrs = attrs i; parents = parents i } in
-    puts q ∙ ap (λ (u : EntityUid). if is_same u q then Some (data_in kept) else kept_in old q) uid
-    ∙ ap (λ (x : EntityData). if is_same e.uid q then Some x else kept_in old q) same
-    ∙ ap (λ (o : Option EntityData). if is_same e.uid q then Some (data_of e) else o) (held q)
+pub holds_more : (old new : Entries) (es : List Entity) (e : Entity) → Puts (kept_in old) (kept_in new) e
+    → is_some (kept_in old e.uid) ≡ false → Holds old es → Holds new (es ++ e ∷ [])
+holds_more old new es e puts none held q =
+    puts q ∙ ap (λ (o : Option EntityData). if is_same e.uid q then Some (data_of e) else o) (held q)
     ∙ sym (stated_more es e q (sym (held e.uid) ∙ none_in (kept_in old e.uid) none))
 
 -- ---- the store
 
-pub some_if : (b r : Bool) (x : EntityData) (o : Option EntityData) → is_some o ≡ r → is_some (if b then Some x else o) ≡ (b || r)
+some_if : (b r : Bool) (x : EntityData) (o : Option EntityData) → is_some o ≡ r → is_some (if b then Some x else o) ≡ (b || r)
 some_if true r x o h = refl
 some_if false r x o h = h
 
-some_stated : (es : List BareEntity) (q : EntityUid) → is_some (stated_at es q) ≡ list_any (λ e. is_same e.uid q) es
+some_stated : (es : List Entity) (q : EntityUid) → is_some (stated es q) ≡ list_any (λ e. is_same e.uid q) es
 some_stated [] q = refl
-some_stated (e ∷ es) q = some_if (is_same e.uid q) (list_any (λ x. is_same x.uid q) es) (data_of e) (stated_at es q) (some_stated es q)
+some_stated (e ∷ es) q = some_if (is_same e.uid q) (list_any (λ x. is_same x.uid q) es) (data_of e) (stated es q) (some_stated es q)
 
 -- the store has exactly the entities' uids
-pub has_stated : (store : Entries) (es : List BareEntity) → Holds store es → (q : EntityUid) → is_some (kept_in store q) ≡ list_any (λ e. is_same e.uid q) es
+pub has_stated : (store : Entries) (es : List Entity) → Holds store es → (q : EntityUid) → is_some (kept_in store q) ≡ list_any (λ e. is_same e.uid q) es
 has_stated store es held q = ap is_some (held q) ∙ some_stated es q
 
-abbrev bare_if : Bool → Option (List Field)
-bare_if b = if b then Some [] else None
+world_same : (actions : Actions) (f g : EntityMap) → ((q : EntityUid) → f q ≡ g q) → world_in (with_actions actions f) ≡ world_in (with_actions actions g)
+world_same actions f g same = λ i. world_of (λ q. attributes_of (action_or (actions q) (same q i))) (λ q. kept_parents (action_or (actions q) (same q i)))
 
-attributes_if : (b r : Bool) (e : BareEntity) (o : Option EntityData) → attributes_of o ≡ bare_if r → attributes_of (if b then Some (data_of e) else o) ≡ bare_if (b || r)
-attributes_if true r e o h = refl
-attributes_if false r e o h = h
+pub held_world : (r : Reading) (store : Entries) (es : List Entity) → Holds store es → world_held r store ≡ world_with r.actions es
+held_world r store es held = world_same r.actions (kept_in store) (stated es) held
 
-attributes_stated : (es : List BareEntity) (q : EntityUid) → attributes_of (stated_at es q) ≡ stored_in es q
-attributes_stated [] q = refl
-attributes_stated (e ∷ es) q = attributes_if (is_same e.uid q) (list_any (λ x. is_same x.uid q) es) e (stated_at es q) (attributes_stated es q)
+-- ---- all entities with parents are those of the array, and actions
 
-parents_if : (b : Bool) (e : BareEntity) (qs : List EntityUid) (o : Option EntityData) → kept_parents o ≡ qs → kept_parents (if b then Some (data_of e) else o) ≡ (if b then e.parents else qs)
-parents_if true e qs o h = refl
-parents_if false e qs o h = h
+abbrev own_uids : List Entity → List EntityUid
+own_uids es = map (λ e. e.uid) es
 
-parents_stated : (es : List BareEntity) (q : EntityUid) → kept_parents (stated_at es q) ≡ parents_in es q
-parents_stated [] q = refl
-parents_stated (e ∷ es) q = parents_if (is_same e.uid q) e (parents_in es q) (stated_at es q) (parents_stated es q)
+chosen : (own : Bool) (u b a : EntityUid) (us : List EntityUid) (e : EntityData) (o : Option EntityData) → (own ≡ true → u ≡ b) → (Contains (kept_parents o) a → Contains us b) →
+    Contains (kept_parents (if own then Some e else o)) a → Contains (u ∷ us) b
+chosen true u b a us e o same further c = subst (Contains (u ∷ us)) (same refl) (Contains-here u us)
+chosen false u b a us e o same further c = Contains-there u us b (further c)
 
-pub held_world : (store : Entries) (es : List BareEntity) → Holds store es → world_held store ≡ world_in es
-held_world store es held = λ i. world_of (λ q. (ap attributes_of (held q) ∙ attributes_stated es q) i) (λ q. (ap kept_parents (held q) ∙ parents_stated es q) i)
+entity_listed : (es : List Entity) (b a : EntityUid) → Contains (kept_parents (stated es b)) a → Contains (own_uids es) b
+entity_listed [] b a c = Contains-none a c
+entity_listed (e ∷ es) b a c =
+    chosen (is_eq (uid_cmp e.uid b)) e.uid b a (own_uids es) (data_of e) (stated es b) (λ same. (equal-is uid_cmp-IsTotalOrder uid_cmp-IsAntisymmetric e.uid b).0 same) (entity_listed es b a) c
+
+-- what has parents is an action, or an entity
+parent_of : (actions : Option (List EntityUid)) (o : Option EntityData) (a : EntityUid) {G : Type 0} → Contains (kept_parents (action_or actions o)) a
+    → ((us : List EntityUid) → actions ≡ Some us → G) → (Contains (kept_parents o) a → G) → G
+parent_of None o a h f g = g h
+parent_of (Some us) o a h f g = f us refl
+
+-- those that may have parents
+abbrev pub with_parents : List EntityUid → List Entity → List EntityUid
+with_parents declared es = own_uids es ++ declared
+
+pub all_parents : (actions : Actions) (declared : List EntityUid) → ((b : EntityUid) (us : List EntityUid) → actions b ≡ Some us → Contains declared b)
+    → (es : List Entity) → HaveAllParents (world_with actions es).parents (with_parents declared es)
+all_parents actions declared lists es b a h = parent_of (actions b) (stated es b) a h
+    (λ us is. Contains-append_right (own_uids es) declared b (lists b us is))
+    (λ m. Contains-append_left (own_uids es) declared b (entity_listed es b a m))

@@ -1,13 +1,16 @@
-pub mod Refusals
-pub mod Bare
+pub mod Settings
+pub mod EntityArrays
 pub mod Requests
-pub mod Lines
 pub mod Decisions
 pub mod Outcomes
+pub mod Bare
+pub mod BareRequests
+pub mod BareReading
 pub mod inner
 -- crates below, passed on to those above
-pub use Rattle.authoriser.specs as authoriser
+pub use Rattle.answer_lines.specs as answer_lines
+pub use Rattle.answer_lines.specs.authoriser
+pub use Rattle.answer_lines.specs.entity_uids
+pub use Rattle.answer_lines.specs.policy_grammar
 pub use Rattle.entity_data.specs as entity_data
 pub use Rattle.json_values.specs as json_values
-pub use Rattle.entity_uids.specs as entity_uids
-pub use Rattle.entity_uids.specs.policy_grammar

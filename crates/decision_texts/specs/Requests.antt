@@ -1,33 +1,16 @@
--- Requests as JSON where no schema is at hand.
--- Source: Cedar reference guide 4.0, "Authorization request": principal, action, resource, context.
--- Rules of this product: each of the three is a uid as an entity's is, or the text of one, as "User::\"alice\"";
--- without a schema the context is absent or the empty object, and null is not absent, and the request's context is
--- empty; other keys are ignored.
-use Rattle.std.specs.Prelude.{◌≡◌, true, ℕ, List, [], MatchOption, codes}
-use Rattle.serde_json.specs.Data.{Data}
-use Rattle.serde_json.specs.Find.{get}
+-- The request that a text states. A rule of this product: a text that is no JSON is refused as a value that has not the
+-- form of a request is.
+use Rattle.std.specs.Prelude.{◌≡◌, ℕ, List, None, MatchOption}
 use Rattle.json_words.specs.Json.{json_of}
-use Rattle.values.specs.declared.entity_uid.EntityUid.{EntityUid}
 use Rattle.values.specs.declared.request.Request.{Request}
-use Rattle.entity_uids.specs.Uids.{NamesEntity}
-use Rattle.decision_texts.specs.Bare.{is_absent_or_empty}
-
--- what stands at a key of a value names this entity
-abbrev pub NamesAt : List ℕ → Data → EntityUid → Type 0
-NamesAt key d uid = MatchOption (get key d) ⊥ (λ found. NamesEntity found uid)
-
--- the value states this request
-pub record StatesRequest (d : Data) (q : Request) : Type 0 where
-  pub principal : NamesAt (codes "principal") d q.principal
-  pub action : NamesAt (codes "action") d q.action
-  pub resource : NamesAt (codes "resource") d q.resource
-  pub context : is_absent_or_empty (get (codes "context") d) ≡ true
-  pub nothing_known : q.context ≡ []
+use Rattle.answer_lines.specs.declared.refusal.Refusal.{Refusal}
+use Rattle.answer_lines.specs.Refusals.{bad_shape}
+use Rattle.decision_texts.specs.Settings.{Reading}
 
 -- the bytes are JSON that states this request
-abbrev pub IsRequestText : List ℕ → Request → Type 0
-IsRequestText text q = MatchOption (json_of text) ⊥ (λ d. StatesRequest d q)
+abbrev pub IsRequestText : Reading → List ℕ → Request → Type 0
+IsRequestText r text q = MatchOption (json_of text) ⊥ (λ d. r.states d q)
 
--- they state none
-abbrev pub IsNoRequestText : List ℕ → Type 0
-IsNoRequestText text = (q : Request) → IsRequestText text q → ⊥
+-- they state none, and this is the first fault
+abbrev pub IsRequestRefused : Reading → List ℕ → Refusal → Type 0
+IsRequestRefused r text refusal = MatchOption (json_of text) (refusal ≡ bad_shape None) (λ d. r.faults d refusal)

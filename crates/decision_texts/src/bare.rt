@@ -6,12 +6,13 @@ ghost use Rattle.decision_texts.specs.declared.bare.ShapeFault.TheVariants as Sh
 ghost use Rattle.decision_texts.specs.Bare.{stated_uid, is_absent_or_empty, is_bare, uids_of, stated_parents};
 ghost use Rattle.decision_texts.specs.Bare.{entity_of};
 
+use entity_data::Entity;
 use json_words::only_keys;
 use plain::{Items, NoMemory, beside};
 use serde_json::Value;
 use std::alloc::Global;
 use thiserror::Error;
-use values::EntityUid;
+use values::{EntityUid, Record};
 
 /// Why a value is not read.
 #[derive(Clone, Copy, PartialEq, Eq, Debug, Error)]
@@ -34,18 +35,11 @@ impl From<NoMemory> for ShapeFault {
     }
 }
 
-/// An entity with no attributes.
-#[derive(Drop)]
-pub struct BareEntity {
-    pub uid: EntityUid,
-    pub parents: Items<EntityUid>,
-}
-
 /// Returns a uid, also under `__entity`.
-pub(crate) fn read_uid(alloc: Global, value: &Value) -> Result<EntityUid, ShapeFault>
+fn read_uid(alloc: Global, value: &Value) -> Result<EntityUid, ShapeFault>
     ensures { ReadsAs ShapeFault.NoMemory (λ u. u) result (stated_uid (view value.now)) }
 {
-    match entity_uids::read_uid(alloc, value)? {
+    match answer_lines::read_uid(alloc, value)? {
         Some(uid) => Ok(uid),
         None => Err(ShapeFault::BadShape),
     }
@@ -55,7 +49,7 @@ pub(crate) fn read_uid(alloc: Global, value: &Value) -> Result<EntityUid, ShapeF
 fn parent_uids(alloc: Global, values: &[Value]) -> Result<Items<EntityUid>, ShapeFault>
     ensures { ReadsAs ShapeFault.NoMemory (λ us. us) result (uids_of (items_view values.now)) }
 {
-    match entity_uids::read_uids(alloc, values)? {
+    match answer_lines::read_uids(alloc, values)? {
         Some(uids) => Ok(uids),
         None => Err(ShapeFault::BadShape),
     }
@@ -91,9 +85,9 @@ fn is_bare(value: &Value) -> bool
     is_absent_or_empty(value.get("attrs")) && is_absent_or_empty(value.get("tags"))
 }
 
-/// Returns the entity that a value states.
+/// Returns the entity that a value states, which has no attributes.
 #[tactic(auto, unfolding(crate::specs::Bare::entity_of))]
-pub(crate) fn read_entity(alloc: Global, value: &Value) -> Result<BareEntity, ShapeFault>
+pub(crate) fn read_entity(alloc: Global, value: &Value) -> Result<Entity, ShapeFault>
     ensures { ReadsAs ShapeFault.NoMemory (λ e. e) result (entity_of (view value.now)) }
 {
     let Some(uid) = value.get("uid") else {
@@ -104,5 +98,9 @@ pub(crate) fn read_entity(alloc: Global, value: &Value) -> Result<BareEntity, Sh
         return Err(ShapeFault::BadShape);
     }
     let (uid, parents) = beside(uid, read_parents(alloc, value.get("parents")))?;
-    Ok(BareEntity { uid, parents })
+    Ok(Entity {
+        uid,
+        attrs: Record::new(alloc),
+        parents,
+    })
 }

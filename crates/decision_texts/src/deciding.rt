@@ -1,20 +1,23 @@
 //! The line of the answer to three texts: policies, entities and a request.
 ghost use Rattle.std.specs.Prelude.{◌≡◌, map, string_bytes, IfOk, IfErr};
-ghost use Rattle.authoriser.specs.Answers.{IsAnswer};
-ghost use Rattle.authoriser.specs.Views.{named};
-ghost use Rattle.decision_texts.specs.Refusals.{no_memory};
-ghost use Rattle.decision_texts.specs.Decisions.{named_policies, IsInOrder, IsDecided, IsDecisionRefused};
-ghost use Rattle.decision_texts.specs.inner.Stores.{world_held, IsAnswerIn, IsLineIn};
+ghost use Rattle.plain.specs.Refused.{OrNoMemory};
+ghost use Rattle.answer_lines.specs.authoriser.Answers.{IsAnswer};
+ghost use Rattle.answer_lines.specs.authoriser.Views.{named};
+ghost use Rattle.answer_lines.specs.Refusals.{no_memory};
+ghost use Rattle.decision_texts.specs.BareReading.{bare_reading};
+ghost use Rattle.decision_texts.specs.Requests.{IsRequestRefused};
+ghost use Rattle.decision_texts.specs.Decisions.{named_policies, IsInOrder, IsAnswerTo, IsQuestionAnswered};
+ghost use Rattle.decision_texts.specs.Decisions.{IsQuestionRefused, IsDecided, IsDecisionRefused};
+ghost use Rattle.decision_texts.specs.inner.Stores.{world_held, IsLineIn, IsLineTo};
 
-use crate::entity_file::{read_entities, refusal_at};
-use crate::lines::answer_line;
-use crate::policies::policies_in;
-use crate::refusal::Refusal;
-use crate::request::read_request;
-use authoriser::{Answer, decide};
-use entity_data::{EntityStore, NoActions, World};
-use entity_uids::Policy;
-use plain::{NoMemory, beside};
+use crate::entity_array::read_entities;
+use crate::no_schema::NoSchema;
+use crate::policies::admitted_policies;
+use crate::question::request_in;
+use crate::setting::Setting;
+use answer_lines::{Answer, Policy, Refusal, answer_line, decide};
+use entity_data::{EntityStore, World};
+use plain::NoMemory;
 use std::alloc::Global;
 use values::Request;
 
@@ -34,7 +37,7 @@ fn referred<'p>(
 }
 
 /// Returns the policies by reference, ascending by name.
-pub fn in_order<'p>(
+fn in_order<'p>(
     alloc: Global,
     policies: &'p [(String, Policy)],
 ) -> Result<Vec<(&'p str, &'p Policy)>, NoMemory>
@@ -46,47 +49,109 @@ pub fn in_order<'p>(
     Ok(refs)
 }
 
-/// Returns the answer to a request over these policies and entities; no schema is at hand.
-fn answer_over(
+/// Returns the answer to a request over these policies and entities, and the actions that are declared.
+fn answer_over<S: Setting>(
     alloc: Global,
+    setting: &S,
     policies: &[(&str, &Policy)],
     store: &EntityStore,
     request: &Request,
 ) -> Result<Answer, NoMemory>
-    ensures { IfOk result (IsAnswer (world_held store.now) request.now (named policies.now)) }
+    ensures { IfOk result
+        (IsAnswer (world_held (S.reading setting.now) store.now) request.now (named policies.now)) }
 {
-    let world = World::new(alloc, store, NoActions);
+    let world = World::new(alloc, store, setting.actions());
     decide(alloc, policies, request, &world)
 }
 
-/// Returns the answer to a request over these policies, tried in the order of their names, and these entities.
-fn answer_to(
+/// Returns the same over the policies of a file, tried in the order of their names.
+fn answer_to<S: Setting>(
     alloc: Global,
+    setting: &S,
     policies: &[(String, Policy)],
     store: &EntityStore,
     request: &Request,
 ) -> Result<Answer, NoMemory>
-    ensures { IfOk result (IsAnswerIn
+    ensures { IfOk result (IsAnswerTo
         (named_policies (map (λ p. string_bytes p.0) policies.now) (map (λ p. p.1) policies.now))
-        (world_held store.now) request.now) }
+        (world_held (S.reading setting.now) store.now) request.now) }
 {
     let ordered = in_order(alloc, policies)?;
-    answer_over(alloc, &ordered, store, request)
+    answer_over(alloc, setting, &ordered, store, request)
 }
 
-/// Returns the line of the answer to a request over these policies and entities.
-fn line_to(
+/// Returns the line of that answer.
+fn line_of<S: Setting>(
     alloc: Global,
+    setting: &S,
     policies: &[(String, Policy)],
     store: &EntityStore,
     request: &Request,
 ) -> Result<Vec<u8>, NoMemory>
     ensures { IfOk result (λ line. IsLineIn
         (named_policies (map (λ p. string_bytes p.0) policies.now) (map (λ p. p.1) policies.now))
-        (world_held store.now) request.now line.items) }
+        (world_held (S.reading setting.now) store.now) request.now line.items) }
 {
-    let answer = answer_to(alloc, policies, store, request)?;
+    let answer = answer_to(alloc, setting, policies, store, request)?;
     answer_line(alloc, &answer)
+}
+
+/// Returns the line of the answer to the request of a text, over these policies and entities.
+fn line_to<S: Setting>(
+    alloc: Global,
+    setting: &S,
+    policies: &[(String, Policy)],
+    store: &EntityStore,
+    request: &[u8],
+) -> Result<Vec<u8>, Refusal>
+    ensures told { IfOk result (λ line. IsLineTo (S.reading setting.now)
+        (named_policies (map (λ p. string_bytes p.0) policies.now) (map (λ p. p.1) policies.now))
+        (world_held (S.reading setting.now) store.now) request.now line.items) }
+    ensures refused { IfErr result (OrNoMemory no_memory (IsRequestRefused (S.reading setting.now) request.now)) }
+{
+    let request = request_in(alloc, setting, request)?;
+    Ok(line_of(alloc, setting, policies, store, &request)?)
+}
+
+/// Returns the line of the answer over these policies and the entities of a text.
+fn answer_texts<S: Setting>(
+    alloc: Global,
+    setting: &S,
+    policies: &[(String, Policy)],
+    entities: &[u8],
+    request: &[u8],
+) -> Result<Vec<u8>, Refusal>
+    ensures answered { IfOk result (λ line. IsQuestionAnswered (S.reading setting.now)
+        (named_policies (map (λ p. string_bytes p.0) policies.now) (map (λ p. p.1) policies.now))
+        entities.now request.now line.items) }
+    ensures refused { IfErr result
+        (OrNoMemory no_memory (IsQuestionRefused (S.reading setting.now) entities.now request.now)) }
+{
+    let store = read_entities(alloc, setting, entities)?;
+    line_to(alloc, setting, policies, &store, request)
+}
+
+/// Returns the line of the answer to a request, over a file of policies and an array of entities, as the setting reads
+/// them, or the first refusal.
+///
+/// Refused in this order: the file of policies (10 to 19, at a byte); for what the setting does not let a request be
+/// decided by its policies; the entities in their order (at the place in the array, from 0, or 30 without a place where
+/// there is no array), and 30 at the second of two entities of one uid; the request (without a place). `NoMemory` (1)
+/// may come at any point.
+pub fn decide_in<S: Setting>(
+    alloc: Global,
+    setting: &S,
+    policies: &[u8],
+    entities: &[u8],
+    request: &[u8],
+) -> Result<Vec<u8>, Refusal>
+    ensures decided { IfOk result
+        (λ line. IsDecided (S.reading setting.now) policies.now entities.now request.now line.items) }
+    ensures refused { IfErr result
+        (OrNoMemory no_memory (IsDecisionRefused (S.reading setting.now) policies.now entities.now request.now)) }
+{
+    let policies = admitted_policies(alloc, setting, policies)?;
+    answer_texts(alloc, setting, &policies, entities, request)
 }
 
 /// Returns the line of the answer to a request, over a file of policies and an array of entities, or the first refusal.
@@ -95,27 +160,16 @@ fn line_to(
 /// empty. Refused in this order: the policies (10 to 19, at a byte), the entities (30, at the place in the array, from
 /// 0, or without a place where there is no array), the request (30, without a place). `NoMemory` (1) may come at any
 /// point.
-#[tactic(auto, using(crate::proofs::DecidedLemmas::decided, crate::proofs::DecidedLemmas::request_refused))]
 pub fn decide_texts(
     alloc: Global,
     policies: &[u8],
     entities: &[u8],
     request: &[u8],
 ) -> Result<Vec<u8>, Refusal>
-    ensures decided { IfOk result (λ line. IsDecided policies.now entities.now request.now line.items) }
+    ensures decided { IfOk result
+        (λ line. IsDecided bare_reading policies.now entities.now request.now line.items) }
     ensures refused { IfErr result
-        (λ refusal. (refusal ≡ no_memory → ⊥) → IsDecisionRefused policies.now entities.now request.now refusal) }
+        (OrNoMemory no_memory (IsDecisionRefused bare_reading policies.now entities.now request.now)) }
 {
-    let policies = policies_in(alloc, policies)?;
-    let (policies, store) = beside(policies, read_entities(alloc, entities))?;
-    let request = match read_request(alloc, request) {
-        Ok(request) => request,
-        Err(fault) => {
-            drop((policies, store));
-            return Err(refusal_at(None, fault));
-        }
-    };
-    let line = line_to(alloc, &policies, &store, &request);
-    drop((policies, store, request));
-    Ok(line?)
+    decide_in(alloc, &NoSchema, policies, entities, request)
 }

@@ -1,17 +1,19 @@
 //! Laws of the definitions.
+ghost use Rattle.decision_texts.specs.BareReading.{bare_reading};
 ghost use Rattle.decision_texts.specs.Outcomes.{OneLine, NotBoth, OneRefusal, LineOrRefusal, ListsOfLinesAscend};
 
-use authoriser::answers_are_lawful;
-use entity_uids::{file_names_differ, names_read_back, texts_have_one_reading};
+use answer_lines::{
+    answers_are_lawful, file_names_differ, names_read_back, texts_have_one_reading,
+};
 
 /// Proves that three texts come to exactly one thing, a line or a refusal, and that the ids in an answer's line ascend.
 /// It does nothing; its clauses are laws of the definitions.
 pub fn texts_have_one_outcome()
-    ensures one_line { OneLine }
-    ensures not_both { NotBoth }
-    ensures one_refusal { OneRefusal }
-    ensures some { LineOrRefusal }
-    ensures ascending { ListsOfLinesAscend }
+    ensures one_line { OneLine bare_reading }
+    ensures not_both { NotBoth bare_reading }
+    ensures one_refusal { OneRefusal bare_reading }
+    ensures some { LineOrRefusal bare_reading }
+    ensures ascending { ListsOfLinesAscend bare_reading }
 {
     names_read_back();
     file_names_differ();

@@ -1,23 +1,23 @@
-//! From the texts of policies, entities and a request to the line of an answer or of a refusal.
+//! From the texts of policies, entities and a request to the line of an answer or of a refusal, by whatever says how
+//! these are read: a [`Setting`], as a schema is, or none.
 #![tactic(auto)]
 
 mod bare;
 mod deciding;
-mod entity_file;
+mod entity_array;
 mod laws;
-mod lines;
+mod no_schema;
 mod policies;
-mod refusal;
+mod question;
 mod request;
-mod store;
+mod setting;
 
-pub use authoriser::Answer;
-pub use deciding::{decide_texts, in_order};
-pub use entity_uids::{
-    MOST_ID_BYTES, MOST_POLICY_BYTES, Policy, ReadFault, read_uid, texts_have_one_reading,
+pub use answer_lines::{
+    Answer, Policy, Refusal, answer_line, error_line, read_uid, texts_have_one_reading,
 };
-pub use json_values::{Member, Members, Scratch, members_of, read_json_by};
+pub use deciding::{decide_in, decide_texts};
+pub use entity_array::judge_entities;
+pub use json_values::{Member, Members, Scratch, members_of};
 pub use laws::texts_have_one_outcome;
-pub use lines::answer_line;
 pub use policies::policies_in;
-pub use refusal::{Refusal, error_line};
+pub use setting::Setting;

@@ -1,12 +1,13 @@
 //! The policies of a file, each with its name.
-ghost use Rattle.std.specs.Prelude.{◌≡◌, IfOk, IfErr, map, string_bytes};
-ghost use Rattle.entity_uids.specs.policy_grammar.declared.fault.ReadFault.TheVariants as ReadFault;
+ghost use Rattle.std.specs.Prelude.{◌≡◌, IfOk, IfErr, MatchResult, Ok, Err, map, string_bytes};
+ghost use Rattle.answer_lines.specs.policy_grammar.declared.fault.ReadFault.TheVariants as ReadFault;
 ghost use Rattle.plain.specs.Refused.{OrNoMemory};
+ghost use Rattle.answer_lines.specs.Refusals.{no_memory};
 ghost use Rattle.decision_texts.specs.Decisions.{ArePoliciesOf, ArePoliciesRefused, IsFileFault, refusal_by};
-ghost use Rattle.decision_texts.specs.Refusals.{no_memory};
+ghost use Rattle.decision_texts.specs.Decisions.{AreAdmitted, AreNotAdmitted};
 
-use crate::refusal::Refusal;
-use entity_uids::{MOST_FILE_BYTES, Policy, ReadFault, parse_policies};
+use crate::setting::Setting;
+use answer_lines::{MOST_FILE_BYTES, Policy, ReadFault, Refusal, parse_policies};
 use std::alloc::Global;
 
 /// Returns a fault of the policies' text (10 to 19, or 1) as a refusal, at the same byte.
@@ -45,5 +46,34 @@ pub fn policies_in(alloc: Global, bytes: &[u8]) -> Result<Vec<(String, Policy)>,
     match read_policies(alloc, bytes) {
         Ok(named) => Ok(named),
         Err(fault) => Err(refusal_by(fault)),
+    }
+}
+
+/// Returns what goes on to be asked, or the refusal for which it does not.
+fn where_admitted<P: Drop>(policies: P, judged: Result<(), Refusal>) -> Result<P, Refusal>
+    ensures { MatchResult judged (λ _. result ≡ Ok policies) (λ r. result ≡ Err r) }
+{
+    match judged {
+        Ok(()) => Ok(policies),
+        Err(refusal) => Err(refusal),
+    }
+}
+
+/// Returns the policies of a file with their names, in the file's order, by which a request may be decided.
+pub(crate) fn admitted_policies<S: Setting>(
+    alloc: Global,
+    setting: &S,
+    bytes: &[u8],
+) -> Result<Vec<(String, Policy)>, Refusal>
+    ensures admitted { IfOk result (λ named. AreAdmitted (S.reading setting.now) bytes.now
+        (map (λ p. string_bytes p.0) named.items) (map (λ p. p.1) named.items)) }
+    ensures refused { IfErr result (OrNoMemory no_memory (AreNotAdmitted (S.reading setting.now) bytes.now)) }
+{
+    match policies_in(alloc, bytes) {
+        Ok(policies) => {
+            let judged = setting.judge(alloc, &policies);
+            where_admitted(policies, judged)
+        }
+        Err(refusal) => Err(refusal),
     }
 }

@@ -3,12 +3,11 @@ ghost use Rattle.std.specs.Prelude.{◌≡◌, IfOk, IfErr};
 ghost use Rattle.serde_json.specs.View.{view};
 ghost use Rattle.values.specs.declared.entity_uid.EntityUid.{EntityUid as PlainUid};
 ghost use Rattle.values.specs.declared.request.Request.{Request as PlainRequest};
-ghost use Rattle.decision_texts.specs.Requests.{NamesAt, StatesRequest, IsRequestText, IsNoRequestText};
+ghost use Rattle.decision_texts.specs.BareRequests.{NamesAt, StatesRequest};
 ghost use Rattle.decision_texts.specs.declared.bare.ShapeFault.TheVariants as ShapeFault;
 
 use crate::bare::{ShapeFault, is_absent_or_empty};
-use entity_uids::read_name;
-use json_words::read_json;
+use answer_lines::read_name;
 use plain::beside;
 use serde_json::Value;
 use std::alloc::Global;
@@ -31,7 +30,7 @@ fn read_name_at(alloc: Global, value: &Value, key: &str) -> Result<EntityUid, Sh
 
 /// Returns the request that a value states.
 #[tactic(auto, using(crate::proofs::RequestLemmas::no_principal, crate::proofs::RequestLemmas::no_action, crate::proofs::RequestLemmas::no_resource, crate::proofs::RequestLemmas::no_context))]
-fn request_in(alloc: Global, value: &Value) -> Result<Request, ShapeFault>
+pub(crate) fn read_request(alloc: Global, value: &Value) -> Result<Request, ShapeFault>
     ensures read { IfOk result (StatesRequest (view value.now)) }
     ensures refused { IfErr result
         (λ e. e ≡ ShapeFault.BadShape → (q : PlainRequest) → StatesRequest (view value.now) q → ⊥) }
@@ -50,15 +49,4 @@ fn request_in(alloc: Global, value: &Value) -> Result<Request, ShapeFault>
         resource,
         context: Record::new(alloc),
     })
-}
-
-/// Returns the request that bytes state.
-pub(crate) fn read_request(alloc: Global, text: &[u8]) -> Result<Request, ShapeFault>
-    ensures read { IfOk result (IsRequestText text.now) }
-    ensures refused { IfErr result (λ e. e ≡ ShapeFault.BadShape → IsNoRequestText text.now) }
-{
-    match read_json(alloc, text)? {
-        Some(value) => request_in(alloc, &value),
-        None => Err(ShapeFault::BadShape),
-    }
 }

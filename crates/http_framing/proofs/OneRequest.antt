@@ -17,8 +17,7 @@ use Rattle.http_framing.specs.declared.fields.Announced.TheVariants.{Size, TooLo
 use Rattle.http_framing.specs.declared.TheConstants.{MAX_BODY}
 use Rattle.http_framing.specs.declared.cut.Framing.TheVariants.{Body, Refused}
 use Rattle.http_framing.specs.Request.{Admits, HasNoAdmitted, ReadsWhole, RefusesHead, IsBadHead, IsTooLarge, IsRefused, IsCutOff, IsPartOfHead, IsUnfinished, IsUnfinishedBelow, StaysUnfinished, framing_by, framing_by_lengths, framing_of, needs_length}
-use Rattle.http_texts.specs.declared.status.Status.{Status}
-use Rattle.http_texts.specs.declared.status.Status.TheVariants.{LengthRequired, NotImplemented}
+use Rattle.http.specs.declared.status.StatusCode.{StatusCode}
 use Rattle.http_framing.proofs.CutLemmas.{length_head, short_front}
 
 pub Admits-append : {bytes rest : List ℕ} {h : RequestHead} → Admits bytes h rest → (more : List ℕ) → Admits (bytes ++ more) h (rest ++ more)
@@ -36,7 +35,7 @@ pub admits_unique : {bytes : List ℕ} {h k : RequestHead} {r q : List ℕ} → 
 admits_unique {bytes} {h} {k} {r} {q} a b = request_unique bytes h k r q a.reads b.reads
 
 -- one head is framed in one way
-whole_not_refused : {bytes body rest : List ℕ} {h : RequestHead} {status : Status} → ReadsWhole bytes h body rest → RefusesHead bytes status → ⊥
+whole_not_refused : {bytes body rest : List ℕ} {h : RequestHead} {status : StatusCode} → ReadsWhole bytes h body rest → RefusesHead bytes status → ⊥
 whole_not_refused w r =
     let same = admits_unique w.head r.admits in
     let framed : Body _ ≡ Refused _ = sym w.framed ∙ ap framing_of same.0 ∙ r.framed in
@@ -70,10 +69,10 @@ whole_not_unfinished {body = body} {rest = rest} {h = h} w (inr part) = part.non
 whole_not_bad : {bytes body rest : List ℕ} {h : RequestHead} → ReadsWhole bytes h body rest → IsBadHead bytes → ⊥
 whole_not_bad {body = body} {rest = rest} {h = h} w bad = bad.0 h (body ++ rest) w.head
 
-pub whole_or_refused : {bytes body rest : List ℕ} {h : RequestHead} {status : Status} → ReadsWhole bytes h body rest → IsRefused bytes status → ⊥
+pub whole_or_refused : {bytes body rest : List ℕ} {h : RequestHead} {status : StatusCode} → ReadsWhole bytes h body rest → IsRefused bytes status → ⊥
 whole_or_refused w r = elim r [ inl head ↦ whole_not_refused w head | inr bad ↦ whole_not_bad w bad.1 ]
 
-pub refused_unique : {bytes : List ℕ} (m n : Status) → IsRefused bytes m → IsRefused bytes n → m ≡ n
+pub refused_unique : {bytes : List ℕ} (m n : StatusCode) → IsRefused bytes m → IsRefused bytes n → m ≡ n
 refused_unique m n (inl x) (inl y) =
     let same = admits_unique x.admits y.admits in
     let framed : Refused m ≡ Refused n = sym x.framed ∙ ap framing_of same.0 ∙ y.framed in
@@ -124,7 +123,7 @@ bad_cause bytes more (inl (inr long)) = inl (inr (omega (arith, long, length-app
 bad_cause bytes more (inr never) =
     inr (λ x h rest reads. never (more ++ x) h rest (subst (λ (t : List ℕ). ReadsRequest t h rest) (append_assoc bytes more x) reads))
 
-pub refused-append : (bytes more : List ℕ) (status : Status) → IsRefused bytes status → IsRefused (bytes ++ more) status
+pub refused-append : (bytes more : List ℕ) (status : StatusCode) → IsRefused bytes status → IsRefused (bytes ++ more) status
 refused-append bytes more status (inl head) =
     inl (record { head = head.head; rest = head.rest ++ more; admits = Admits-append head.admits more; framed = head.framed })
 refused-append bytes more status (inr (is, bad)) = inr (is, (bad_none bytes more bad, bad_cause bytes more bad.1))
@@ -144,7 +143,7 @@ announced_fits n v e =
     let found = if_body (is_digits v) (nat_le (digits_value 10 v) MAX_BODY) (digits_value 10 v) n e in
     subst (λ (k : ℕ). k ≤ MAX_BODY) found.1 (le_of (digits_value 10 v) MAX_BODY found.0)
 
-unless_needed : (b : Bool) (n : ℕ) → (if b then Refused LengthRequired else Body 0) ≡ Body n → n ≤ MAX_BODY
+unless_needed : (b : Bool) (n : ℕ) → (if b then Refused 411 else Body 0) ≡ Body n → n ≤ MAX_BODY
 unless_needed true n e = absurd (cc)
 unless_needed false n e = let none : 0 ≡ n = cc in omega (arith, none)
 
@@ -154,7 +153,7 @@ by_fits method n (v ∷ []) e = announced_fits n v e
 by_fits method n (v ∷ w ∷ vs) e = absurd (cc)
 
 unless_coded : (coded : Bool) (method : List ℕ) (n : ℕ) (vs : List (List ℕ))
-    → (if coded then Refused NotImplemented else framing_by_lengths method vs) ≡ Body n → n ≤ MAX_BODY
+    → (if coded then Refused 501 else framing_by_lengths method vs) ≡ Body n → n ≤ MAX_BODY
 unless_coded true method n vs e = absurd (cc)
 unless_coded false method n vs e = by_fits method n vs e
 

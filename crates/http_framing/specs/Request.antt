@@ -14,9 +14,7 @@ use Rattle.http_framing.specs.declared.cut.Framing.TheVariants.{Body, Refused}
 use Rattle.http_framing.specs.declared.cut.Parts.{Parts}
 use Rattle.http_framing.specs.declared.cut.Cut.{Cut}
 use Rattle.http_framing.specs.declared.cut.Cut.TheVariants as Cuts
-use Rattle.http_texts.specs.declared.status.Status.{Status}
-use Rattle.http_texts.specs.declared.status.Status.TheVariants.{BadRequest, LengthRequired, PayloadTooLarge}
-use Rattle.http_texts.specs.declared.status.Status.TheVariants.{NotImplemented}
+use Rattle.http.specs.declared.status.StatusCode.{StatusCode}
 use Rattle.http_framing.specs.declared.TheConstants.{MAX_HEAD, MAX_FIELDS, MAX_BODY}
 
 -- a request with this method has to announce its length
@@ -26,19 +24,19 @@ needs_length method = bytes_eq method (codes "PUT") || bytes_eq method (codes "P
 -- what one announcement comes to
 abbrev pub framing_by : Announced → Framing
 framing_by (Size n) = Body n
-framing_by TooLong = Refused PayloadTooLarge
-framing_by NoNumber = Refused BadRequest
+framing_by TooLong = Refused 413
+framing_by NoNumber = Refused 400
 
 -- what the values of Content-Length come to
 abbrev pub framing_by_lengths : List ℕ → List (List ℕ) → Framing
-framing_by_lengths method [] = if needs_length method then Refused LengthRequired else Body 0
+framing_by_lengths method [] = if needs_length method then Refused 411 else Body 0
 framing_by_lengths method (v ∷ []) = framing_by (announced MAX_BODY v)
-framing_by_lengths method (v ∷ w ∷ vs) = Refused BadRequest
+framing_by_lengths method (v ∷ w ∷ vs) = Refused 400
 
 -- how long the body is, or with which status the head is refused
 abbrev pub framing : List ℕ → List Pair → Framing
 framing method ps =
-    if list_any (is_named (codes "transfer-encoding")) ps then Refused NotImplemented
+    if list_any (is_named (codes "transfer-encoding")) ps then Refused 501
     else framing_by_lengths method (values_named (codes "content-length") ps)
 
 -- the names and values of the head's fields
@@ -71,7 +69,7 @@ pub record ReadsWhole (bytes : List ℕ) (h : RequestHead) (body rest : List ℕ
   pub framed : framing_of h ≡ Body (length body)
 
 -- bytes begin with a head that is refused with this status
-pub record RefusesHead (bytes : List ℕ) (status : Status) : Type 0 where
+pub record RefusesHead (bytes : List ℕ) (status : StatusCode) : Type 0 where
   pub head : RequestHead
   pub rest : List ℕ
   pub admits : Admits bytes head rest
@@ -88,8 +86,8 @@ abbrev pub IsBadHead : List ℕ → Type 0
 IsBadHead bytes = HasNoAdmitted bytes × (IsTooLarge bytes ⊎ NeverHasRequest bytes)
 
 -- bytes are refused with this status
-abbrev pub IsRefused : List ℕ → Status → Type 0
-IsRefused bytes status = RefusesHead bytes status ⊎ ((status ≡ BadRequest) × IsBadHead bytes)
+abbrev pub IsRefused : List ℕ → StatusCode → Type 0
+IsRefused bytes status = RefusesHead bytes status ⊎ ((status ≡ 400) × IsBadHead bytes)
 
 -- bytes begin with an admitted head whose body is cut off
 pub record IsCutOff (bytes : List ℕ) : Type 0 where

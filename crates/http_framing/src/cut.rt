@@ -6,7 +6,7 @@ ghost use Rattle.http_framing.specs.Request.{IsCut, closes, framing, framing_by,
 use crate::fields::{Announced, Found, asks_to_close, has_header, length_of, values_of};
 use crate::limits::{first_bytes, has_too_many, is_cut_off};
 use crate::{MAX_BODY, MAX_FIELDS, MAX_HEAD};
-use http_texts::status::Status;
+use http::{Method, StatusCode};
 use httparse::Status as Parsed;
 use httparse::spans::{HeaderSpan, RequestSpans, Span, parse_request};
 
@@ -14,7 +14,7 @@ use httparse::spans::{HeaderSpan, RequestSpans, Span, parse_request};
 #[derive(Clone, Copy)]
 pub enum Framing {
     Body(usize),
-    Refused(Status),
+    Refused(StatusCode),
 }
 
 /// Where the parts of a request are.
@@ -34,7 +34,7 @@ pub struct Parts {
 #[derive(Clone, Copy)]
 pub enum Cut {
     Whole(Parts),
-    Refused(Status),
+    Refused(StatusCode),
     /// Less than a request. It stays so while there are less than so many bytes, which is how many a whole head asks
     /// for, and 0 where the head is not whole.
     Unfinished(usize),
@@ -46,8 +46,8 @@ fn framing_by(length: Announced) -> Framing
 {
     match length {
         Announced::Size(size) => Framing::Body(size),
-        Announced::TooLong => Framing::Refused(Status::PayloadTooLarge),
-        Announced::NoNumber => Framing::Refused(Status::BadRequest),
+        Announced::TooLong => Framing::Refused(StatusCode::PAYLOAD_TOO_LARGE),
+        Announced::NoNumber => Framing::Refused(StatusCode::BAD_REQUEST),
     }
 }
 
@@ -55,7 +55,7 @@ fn framing_by(length: Announced) -> Framing
 fn needs_length(method: &[u8]) -> bool
     ensures { result ≡ needs_length method.now }
 {
-    method == b"PUT".as_slice() || method == b"POST".as_slice()
+    method == Method::PUT.as_str().as_bytes() || method == Method::POST.as_str().as_bytes()
 }
 
 /// Returns how long the body is, or with which status the head is refused.
@@ -64,13 +64,13 @@ fn framing_at(buf: &[u8], headers: &[HeaderSpan], method: &[u8]) -> Framing
     ensures { result ≡ framing method.now (map (header_bytes buf.now) headers.now) }
 {
     if has_header(buf, headers, b"transfer-encoding") {
-        return Framing::Refused(Status::NotImplemented);
+        return Framing::Refused(StatusCode::NOT_IMPLEMENTED);
     }
     match values_of(buf, headers, b"content-length") {
-        Found::Absent if needs_length(method) => Framing::Refused(Status::LengthRequired),
+        Found::Absent if needs_length(method) => Framing::Refused(StatusCode::LENGTH_REQUIRED),
         Found::Absent => Framing::Body(0),
         Found::Once(text) => framing_by(length_of(text, MAX_BODY)),
-        Found::Many => Framing::Refused(Status::BadRequest),
+        Found::Many => Framing::Refused(StatusCode::BAD_REQUEST),
     }
 }
 
@@ -102,14 +102,18 @@ fn cut_body(buf: &[u8], seen: &[u8], headers: &[HeaderSpan], head: &RequestSpans
     let left = buf.len() - head.len;
     match framing_at(seen, headers, head.method.of(seen)) {
         Framing::Refused(status) => Cut::Refused(status),
-        Framing::Body(size) if is_cut_off(left, size) => Cut::Unfinished(head.len + size),
-        Framing::Body(size) => Cut::Whole(Parts {
-            method: head.method,
-            target: head.path,
-            body: head.len,
-            end: head.len + size,
-            closes: closes(seen, headers, head.version),
-        }),
+        Framing::Body(size) => {
+            if is_cut_off(left, size) {
+                return Cut::Unfinished(head.len + size);
+            }
+            Cut::Whole(Parts {
+                method: head.method,
+                target: head.path,
+                body: head.len,
+                end: head.len + size,
+                closes: closes(seen, headers, head.version),
+            })
+        }
     }
 }
 
@@ -123,12 +127,12 @@ pub fn cut_request(buf: &[u8], room: &mut [HeaderSpan]) -> Cut
     match parse_request(seen, room) {
         Ok(Parsed::Complete(head)) => {
             if has_too_many(head.headers) {
-                return Cut::Refused(Status::BadRequest);
+                return Cut::Refused(StatusCode::BAD_REQUEST);
             }
             cut_body(buf, seen, &room[..head.headers], &head)
         }
         Ok(Parsed::Partial) if buf.len() <= MAX_HEAD => Cut::Unfinished(0),
-        Ok(Parsed::Partial) => Cut::Refused(Status::BadRequest),
-        Err(_) => Cut::Refused(Status::BadRequest),
+        Ok(Parsed::Partial) => Cut::Refused(StatusCode::BAD_REQUEST),
+        Err(_) => Cut::Refused(StatusCode::BAD_REQUEST),
     }
 }

@@ -11,7 +11,6 @@ pub mod reply_cut;
 
 pub use http_texts::reply::{HEAD_ROOM, REFUSAL_ROOM, put_head, put_refusal};
 pub use http_texts::request::{Ask, request_text};
-pub use http_texts::status::Status;
 
 /// The most bytes of a head, its empty line included.
 pub const MAX_HEAD: usize = 16_384;

@@ -6,7 +6,7 @@ use Rattle.std.proofs.lemmas.Bool.{cases_lt, agree_below_at}
 use Rattle.std.specs.Prelude.{codes, decimal}
 use Rattle.site_steps.specs.stamped_store.declared.entry.Stamp.{Stamp}
 use Rattle.http_texts.specs.ReplyText.{error_line as stream_line}
-use Rattle.decision_texts.specs.Refusals.{error_line}
+use Rattle.answer_lines.specs.Refusals.{error_line}
 use Rattle.json.specs.Print.{escape_byte, escape}
 use Rattle.json.proofs.Printed.Strings.{escape_byte_plain}
 use Rattle.plain.specs.Words.{AllAre, is_word_byte, is_letter, is_digit}

@@ -1,11 +1,9 @@
 -- The reply to each outcome of a request: its status, and its body. A rule of this product.
 use Rattle.std.specs.Prelude.{◌≡◌, ◌⊎◌, ℕ, List, Option, Some, None, Result, Ok, Err}
-use Rattle.http_texts.specs.declared.status.Status.{Status}
-use Rattle.http_texts.specs.declared.status.Status.TheVariants as status
-use Rattle.http_texts.specs.Status.{code}
+use Rattle.http.specs.declared.status.StatusCode.{StatusCode}
 use Rattle.site_steps.specs.stamped_store.declared.entry.Stamp.{Stamp}
-use Rattle.decision_texts.specs.authoriser.declared.answer.Answer.{Answer}
-use Rattle.decision_texts.specs.Lines.{answer_line}
+use Rattle.answer_lines.specs.authoriser.declared.answer.Answer.{Answer}
+use Rattle.answer_lines.specs.Lines.{answer_line}
 use Rattle.site_steps.specs.declared.fault.SiteFault.{SiteFault}
 use Rattle.site_steps.specs.declared.fault.SiteFault.TheVariants as fault
 use Rattle.site_steps.specs.declared.outcome.Put.{Put}
@@ -16,45 +14,45 @@ use Rattle.http_replies.specs.Statuses.{refusal_status}
 use Rattle.http_replies.specs.Lines.{fault_line, found_line, put_line, stamp_line, taken_line}
 
 -- a refusal of the site
-abbrev pub fault_reply : SiteFault → Status × List ℕ
+abbrev pub fault_reply : SiteFault → StatusCode × List ℕ
 fault_reply f = (refusal_status (code_of f), fault_line (code_of f) (place_of f) (within_of f))
 
 -- a status that tells of an error by itself has its digits for the number
-abbrev pub status_reply : Status → Status × List ℕ
-status_reply s = (s, fault_line (code s) None None)
+abbrev pub status_reply : StatusCode → StatusCode × List ℕ
+status_reply s = (s, fault_line s None None)
 
 -- to a policy that is put
-abbrev pub put_reply : Result Put SiteFault → Status × List ℕ
-put_reply (Ok put) = (status.Ok, put_line put.stamp put.impossible)
+abbrev pub put_reply : Result Put SiteFault → StatusCode × List ℕ
+put_reply (Ok put) = (200, put_line put.stamp put.impossible)
 put_reply (Err f) = fault_reply f
 
 -- to an entity that is put, and to what is taken away
-abbrev pub stamp_reply : Result Stamp SiteFault → Status × List ℕ
-stamp_reply (Ok stamp) = (status.Ok, stamp_line stamp)
+abbrev pub stamp_reply : Result Stamp SiteFault → StatusCode × List ℕ
+stamp_reply (Ok stamp) = (200, stamp_line stamp)
 stamp_reply (Err f) = fault_reply f
 
 -- to a message: how many updates were taken; where memory was refused for one, the place of it says how many were
-abbrev pub taken_reply : Result Taken SiteFault → Status × List ℕ
-taken_reply (Ok (All count)) = (status.Ok, taken_line count)
-taken_reply (Ok (Short count)) = (status.ServiceUnavailable, fault_line 1 (Some count) None)
+abbrev pub taken_reply : Result Taken SiteFault → StatusCode × List ℕ
+taken_reply (Ok (All count)) = (200, taken_line count)
+taken_reply (Ok (Short count)) = (503, fault_line 1 (Some count) None)
 taken_reply (Err f) = fault_reply f
 
 -- to a request that is to be decided
-abbrev pub answer_reply : Result Answer SiteFault → Status × List ℕ
-answer_reply (Ok answer) = (status.Ok, answer_line answer)
+abbrev pub answer_reply : Result Answer SiteFault → StatusCode × List ℕ
+answer_reply (Ok answer) = (200, answer_line answer)
 answer_reply (Err f) = fault_reply f
 
 -- to the question for a policy: its text and its stamp, or that it is not there
-abbrev pub found_reply : Option (List ℕ × Stamp) → Status × List ℕ
-found_reply (Some found) = (status.Ok, found_line found.0 found.1)
+abbrev pub found_reply : Option (List ℕ × Stamp) → StatusCode × List ℕ
+found_reply (Some found) = (200, found_line found.0 found.1)
 found_reply None = fault_reply fault.NotThere
 
 -- to the questions for state, summary and delta: the message itself
-abbrev pub message_reply : Result (List ℕ) SiteFault → Status × List ℕ
-message_reply (Ok bytes) = (status.Ok, bytes)
+abbrev pub message_reply : Result (List ℕ) SiteFault → StatusCode × List ℕ
+message_reply (Ok bytes) = (200, bytes)
 message_reply (Err f) = fault_reply f
 
 -- the reply is this one; or it is none of a refusal, and the one that tells want of memory stands in its place
-abbrev pub IsReplyOrNoMemory : Status × List ℕ → Status → List ℕ → Type 0
+abbrev pub IsReplyOrNoMemory : StatusCode × List ℕ → StatusCode → List ℕ → Type 0
 IsReplyOrNoMemory reply told body =
-    ((told, body) ≡ reply) ⊎ ((reply.0 ≡ status.Ok) × ((told, body) ≡ fault_reply fault.NoMemory))
+    ((told, body) ≡ reply) ⊎ ((reply.0 ≡ 200) × ((told, body) ≡ fault_reply fault.NoMemory))

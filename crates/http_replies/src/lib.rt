@@ -9,11 +9,9 @@ mod long;
 mod reporting;
 mod status;
 
-pub use decision_texts::{
-    Answer, MOST_ID_BYTES, MOST_POLICY_BYTES, ReadFault, Refusal, Scratch, answer_line,
-    decide_texts, error_line, read_json_by, read_uid,
+pub use answer_lines::{
+    Answer, MOST_ID_BYTES, MOST_POLICY_BYTES, ReadFault, Refusal, answer_line, error_line, read_uid,
 };
-pub use http_texts::status::Status;
 pub use laws::{errors_have_one_line, stamps_have_plain_lines};
 pub use reporting::{
     report_answer, report_fault, report_found, report_message, report_put, report_stamp,

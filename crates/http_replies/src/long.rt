@@ -2,10 +2,10 @@
 ghost use Rattle.std.specs.Prelude.{◌≡◌, ◌≤◌, ◌++◌, IfOk, OnOk, OnErr, vec_len};
 ghost use Rattle.std.specs.Vec.{vec_capacity};
 ghost use Rattle.serde_json.specs.View.{view};
-ghost use Rattle.decision_texts.specs.Lines.{answer_line};
+ghost use Rattle.answer_lines.specs.Lines.{answer_line};
 ghost use Rattle.http_replies.specs.Lines.{found_json, found_line};
 
-use decision_texts::{Answer, answer_line};
+use answer_lines::{Answer, answer_line};
 use json_words::write_json;
 use plain::NoMemory;
 use serde_json::{Value, json};

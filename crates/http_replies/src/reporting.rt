@@ -11,14 +11,14 @@ use crate::LINE_ROOM;
 use crate::line::{append_fault, append_put, append_stamp, append_taken};
 use crate::long::{append_answer, append_bytes, append_found};
 use crate::status::refusal_status;
-use decision_texts::Answer;
-use http_texts::status::Status;
+use answer_lines::Answer;
+use http::StatusCode;
 use plain::{Items, NoMemory};
 use site_steps::{Put, SiteFault, Stamp, Taken};
 use std::alloc::Global;
 
 /// Tells a refusal of the site, by its number, its place and the number within. Takes no memory.
-pub fn report_fault(text: &mut Vec<u8>, fault: SiteFault) -> Status
+pub fn report_fault(text: &mut Vec<u8>, fault: SiteFault) -> StatusCode
     requires room { vec_len text.old + LINE_ROOM ≤ vec_capacity text.old }
     ensures status { result ≡ (fault_reply fault).0 }
     ensures body { text.new.items ≡ text.old.items ++ (fault_reply fault).1 }
@@ -29,18 +29,18 @@ pub fn report_fault(text: &mut Vec<u8>, fault: SiteFault) -> Status
 }
 
 /// Tells an error that is a status alone, as an unknown path (404) or another method (405). Takes no memory.
-pub fn report_status(text: &mut Vec<u8>, status: Status) -> Status
+pub fn report_status(text: &mut Vec<u8>, status: StatusCode) -> StatusCode
     requires room { vec_len text.old + LINE_ROOM ≤ vec_capacity text.old }
     ensures status { result ≡ (status_reply status).0 }
     ensures body { text.new.items ≡ text.old.items ++ (status_reply status).1 }
     ensures kept { vec_capacity text.old ≤ vec_capacity text.new }
 {
-    append_fault(text, status.code(), None, None);
+    append_fault(text, status.as_u16(), None, None);
     status
 }
 
 /// Tells what became of a policy that was to be put: `{"count":1,"impossible":true,"site":"00001"}`. Takes no memory.
-pub fn report_put(text: &mut Vec<u8>, outcome: Result<Put, SiteFault>) -> Status
+pub fn report_put(text: &mut Vec<u8>, outcome: Result<Put, SiteFault>) -> StatusCode
     requires room { vec_len text.old + LINE_ROOM ≤ vec_capacity text.old }
     ensures status { result ≡ (put_reply outcome).0 }
     ensures body { text.new.items ≡ text.old.items ++ (put_reply outcome).1 }
@@ -49,7 +49,7 @@ pub fn report_put(text: &mut Vec<u8>, outcome: Result<Put, SiteFault>) -> Status
     match outcome {
         Ok(put) => {
             append_put(text, put.stamp, put.impossible);
-            Status::Ok
+            StatusCode::OK
         }
         Err(fault) => report_fault(text, fault),
     }
@@ -57,7 +57,7 @@ pub fn report_put(text: &mut Vec<u8>, outcome: Result<Put, SiteFault>) -> Status
 
 /// Tells what became of an entity that was to be put, or of what was to be taken away: `{"count":2,"site":"00001"}`.
 /// Takes no memory.
-pub fn report_stamp(text: &mut Vec<u8>, outcome: Result<Stamp, SiteFault>) -> Status
+pub fn report_stamp(text: &mut Vec<u8>, outcome: Result<Stamp, SiteFault>) -> StatusCode
     requires room { vec_len text.old + LINE_ROOM ≤ vec_capacity text.old }
     ensures status { result ≡ (stamp_reply outcome).0 }
     ensures body { text.new.items ≡ text.old.items ++ (stamp_reply outcome).1 }
@@ -66,7 +66,7 @@ pub fn report_stamp(text: &mut Vec<u8>, outcome: Result<Stamp, SiteFault>) -> St
     match outcome {
         Ok(stamp) => {
             append_stamp(text, stamp);
-            Status::Ok
+            StatusCode::OK
         }
         Err(fault) => report_fault(text, fault),
     }
@@ -74,7 +74,7 @@ pub fn report_stamp(text: &mut Vec<u8>, outcome: Result<Stamp, SiteFault>) -> St
 
 /// Tells what became of a message: `{"taken":3}`, or, where memory was refused for an update, 503 with the number of
 /// those that were taken for the place. Takes no memory.
-pub fn report_taken(text: &mut Vec<u8>, outcome: Result<Taken, SiteFault>) -> Status
+pub fn report_taken(text: &mut Vec<u8>, outcome: Result<Taken, SiteFault>) -> StatusCode
     requires room { vec_len text.old + LINE_ROOM ≤ vec_capacity text.old }
     ensures status { result ≡ (taken_reply outcome).0 }
     ensures body { text.new.items ≡ text.old.items ++ (taken_reply outcome).1 }
@@ -83,26 +83,26 @@ pub fn report_taken(text: &mut Vec<u8>, outcome: Result<Taken, SiteFault>) -> St
     match outcome {
         Ok(Taken::All(count)) => {
             append_taken(text, count);
-            Status::Ok
+            StatusCode::OK
         }
         Ok(Taken::Short(count)) => {
             append_fault(text, 1, Some(count), None);
-            Status::ServiceUnavailable
+            StatusCode::SERVICE_UNAVAILABLE
         }
         Err(fault) => report_fault(text, fault),
     }
 }
 
 /// Returns the status of a body that was appended; where memory was refused for it, that is told in its place.
-fn told_or_short(text: &mut Vec<u8>, appended: Result<(), NoMemory>) -> Status
+fn told_or_short(text: &mut Vec<u8>, appended: Result<(), NoMemory>) -> StatusCode
     requires room { OnErr appended (vec_len text.old + LINE_ROOM ≤ vec_capacity text.old) }
-    ensures ok { OnOk appended ((result ≡ Status.Ok) × (text.new.items ≡ text.old.items)) }
+    ensures ok { OnOk appended ((result ≡ 200) × (text.new.items ≡ text.old.items)) }
     ensures err { OnErr appended ((result ≡ (fault_reply SiteFault.NoMemory).0)
         × (text.new.items ≡ text.old.items ++ (fault_reply SiteFault.NoMemory).1)) }
     ensures kept { vec_capacity text.old ≤ vec_capacity text.new }
 {
     match appended {
-        Ok(()) => Status::Ok,
+        Ok(()) => StatusCode::OK,
         Err(_) => report_fault(text, SiteFault::NoMemory),
     }
 }
@@ -113,7 +113,7 @@ pub fn report_answer(
     alloc: Global,
     text: &mut Vec<u8>,
     outcome: &Result<Answer, SiteFault>,
-) -> Status
+) -> StatusCode
     requires room { vec_len text.old + LINE_ROOM ≤ vec_capacity text.old }
     ensures reply { (body : List ℕ) × (text.new.items ≡ text.old.items ++ body)
         × IsReplyOrNoMemory (answer_reply outcome.now) result body }
@@ -130,7 +130,7 @@ pub fn report_answer(
 
 /// Tells a policy's text and stamp, `{"count":1,"site":"00001","text":"permit(principal, action, resource);"}`, or that
 /// there is no such policy (60).
-pub fn report_found(alloc: Global, text: &mut Vec<u8>, found: &Option<(&str, Stamp)>) -> Status
+pub fn report_found(alloc: Global, text: &mut Vec<u8>, found: &Option<(&str, Stamp)>) -> StatusCode
     requires room { vec_len text.old + LINE_ROOM ≤ vec_capacity text.old }
     ensures reply { (body : List ℕ) × (text.new.items ≡ text.old.items ++ body)
         × IsReplyOrNoMemory (found_reply (option_map (λ f. (f.0.now, f.1)) found.now)) result body }
@@ -146,7 +146,7 @@ pub fn report_found(alloc: Global, text: &mut Vec<u8>, found: &Option<(&str, Sta
 }
 
 /// Tells a message as it was written, or why it was not.
-pub fn report_message(text: &mut Vec<u8>, outcome: &Result<Items<u8>, SiteFault>) -> Status
+pub fn report_message(text: &mut Vec<u8>, outcome: &Result<Items<u8>, SiteFault>) -> StatusCode
     requires room { vec_len text.old + LINE_ROOM ≤ vec_capacity text.old }
     ensures reply { (body : List ℕ) × (text.new.items ≡ text.old.items ++ body)
         × IsReplyOrNoMemory (message_reply outcome.now) result body }

@@ -2,16 +2,16 @@
 ghost use Rattle.std.specs.Prelude.{◌≡◌};
 ghost use Rattle.http_replies.specs.Statuses.{refusal_status};
 
-use http_texts::status::Status;
+use http::StatusCode;
 
 /// Returns the status of the refusal with this number.
-pub(crate) fn refusal_status(code: u8) -> Status
+pub(crate) fn refusal_status(code: u8) -> StatusCode
     ensures { result ≡ refusal_status code }
 {
     match code {
-        60 => Status::NotFound,
-        61 | 62 => Status::Conflict,
-        1 => Status::ServiceUnavailable,
-        _ => Status::UnprocessableEntity,
+        60 => StatusCode::NOT_FOUND,
+        61 | 62 => StatusCode::CONFLICT,
+        1 => StatusCode::SERVICE_UNAVAILABLE,
+        _ => StatusCode::UNPROCESSABLE_ENTITY,
     }
 }

@@ -1,10 +1,11 @@
 //! Routes by method and target.
-ghost use Rattle.std.specs.Prelude.{◌≡◌, IfOk, OnErr, IsTrue};
+ghost use Rattle.std.specs.Prelude.{◌≡◌, IfOk, OnErr, IsTrue, bytes_eq};
 ghost use Rattle.percent_encoding.specs.Percent.{percent_decode};
 ghost use Rattle.http_routes.specs.Routes.{id_in, id_of, only, plain_route, policy_route, route_stated, has_id};
 
 use crate::path::{path_of, segment_of};
 use crate::route::{PolicyId, Route};
+use http::Method;
 use percent_encoding::percent_decode;
 use plain::{NoMemory, Text};
 use std::alloc::Global;
@@ -37,12 +38,19 @@ fn id_of(alloc: Global, segment: &[u8]) -> Result<PolicyId, NoMemory>
     Ok(id_in(bytes))
 }
 
+/// Returns whether these bytes are the method.
+fn is_method(bytes: &[u8], method: &Method) -> bool
+    ensures { result ≡ bytes_eq bytes.now method.now }
+{
+    bytes == method.as_str().as_bytes()
+}
+
 /// Returns the route of a path that has one method.
 #[tactic(auto, unfolding(crate::specs::Routes::only))]
-fn only(wanted: &[u8], method: &[u8], route: Route) -> Route
+fn only(wanted: &Method, method: &[u8], route: Route) -> Route
     ensures { result ≡ only wanted.now method.now route }
 {
-    if method == wanted {
+    if is_method(method, wanted) {
         route
     } else {
         Route::OtherMethod
@@ -55,25 +63,25 @@ fn plain_route(method: &[u8], path: &[u8]) -> Route
     ensures { result ≡ plain_route method.now path.now }
 {
     if path == b"/v1/authorize".as_slice() {
-        return only(b"POST", method, Route::Authorize);
+        return only(&Method::POST, method, Route::Authorize);
     }
     if path == b"/v1/entities".as_slice() {
-        return only(b"PUT", method, Route::PutEntity);
+        return only(&Method::PUT, method, Route::PutEntity);
     }
     if path == b"/v1/entities/delete".as_slice() {
-        return only(b"POST", method, Route::DeleteEntity);
+        return only(&Method::POST, method, Route::DeleteEntity);
     }
     if path == b"/v1/state".as_slice() {
-        return only(b"GET", method, Route::State);
+        return only(&Method::GET, method, Route::State);
     }
     if path == b"/v1/summary".as_slice() {
-        return only(b"GET", method, Route::Summary);
+        return only(&Method::GET, method, Route::Summary);
     }
     if path == b"/v1/delta".as_slice() {
-        return only(b"POST", method, Route::Delta);
+        return only(&Method::POST, method, Route::Delta);
     }
     if path == b"/v1/merge".as_slice() {
-        return only(b"POST", method, Route::Merge);
+        return only(&Method::POST, method, Route::Merge);
     }
     Route::Unknown
 }
@@ -84,13 +92,13 @@ fn policy_route(alloc: Global, method: &[u8], segment: &[u8]) -> Result<Route, N
     ensures route { IfOk result (λ r. r ≡ policy_route method.now segment.now) }
     ensures memory { OnErr result (IsTrue (has_id (policy_route method.now segment.now))) }
 {
-    if method == b"GET".as_slice() {
+    if is_method(method, &Method::GET) {
         return Ok(Route::GetPolicy(id_of(alloc, segment)?));
     }
-    if method == b"PUT".as_slice() {
+    if is_method(method, &Method::PUT) {
         return Ok(Route::PutPolicy(id_of(alloc, segment)?));
     }
-    if method == b"DELETE".as_slice() {
+    if is_method(method, &Method::DELETE) {
         return Ok(Route::DeletePolicy(id_of(alloc, segment)?));
     }
     Ok(Route::OtherMethod)

@@ -1,7 +1,7 @@
 -- What is said of routes over a borrowed site is said of the site in the midst of its run, and the borrow stays the
 -- same; and what is said of a site in its run is said of the site.
 use Rattle.std.proofs.Common.{◌≡◌, ℕ, Option, Result, List, [], ◌∷◌, ◌++◌, refl, sym, ap, ◌∙◌, subst}
-use Rattle.http_replies.specs.http_texts.declared.status.Status.{Status}
+use Rattle.http.specs.declared.status.StatusCode.{StatusCode}
 use Rattle.http_streams.specs.Serving.{IsAnswered}
 use Rattle.http_streams.specs.declared.serve.StreamFault.{StreamFault}
 use Rattle.http_streams.proofs.Simulated.{answered}
@@ -35,7 +35,7 @@ no_step first v new h e = record {
   same = same_then first v.site new h.same (unchanged v.site new e);
 }
 
-one_request : (first : Seen) (a : Asked) (v : Served) (new : Seen) (status : Status) (line : List ℕ) → Running first v
+one_request : (first : Seen) (a : Asked) (v : Served) (new : Seen) (status : StatusCode) (line : List ℕ) → Running first v
     → Replies v.site a status line new
     → (w : Served) × Continues v a status line w × Running first w × (w.site ≡ new)
 one_request first (hands i) v new status line so_far h = (
@@ -68,7 +68,7 @@ record Carries (start r : SiteService) (v : Served) : Type 0 where
   pub running : Running start.site.now v
   pub borrow : r.site.ghost_name ≡ start.site.ghost_name
 
-carry_on : (start a b : SiteService) (x : Served) (m t body : List ℕ) (status : Status) (line : List ℕ) → Carries start a x
+carry_on : (start a b : SiteService) (x : Served) (m t body : List ℕ) (status : StatusCode) (line : List ℕ) → Carries start a x
     → answers_over a m t body status line b
     → (y : Served) × continues_run x m t body status line y × Carries start b y
 carry_on start a b x m t body status line carries h =

@@ -1,7 +1,6 @@
 -- A request has one reply from sites that are alike, want of memory aside.
 use Rattle.std.proofs.Common.{◌≡◌, ◌≢◌, ◌⊎◌, ℕ, List, Ok, Err, refl, sym, ap, ◌∙◌, subst, inl, inr}
-use Rattle.http_replies.specs.http_texts.declared.status.Status.{Status}
-use Rattle.http_replies.specs.http_texts.declared.status.Status.TheVariants.{ServiceUnavailable}
+use Rattle.http.specs.declared.status.StatusCode.{StatusCode}
 use Rattle.http_streams.specs.Laws.{HasOneAnswer, in_memory}
 use Rattle.http_replies.specs.site_steps.schema.Schemas.{StatedSchema, IsSchemaOf}
 use Rattle.http_replies.specs.site_steps.schema.Views.{schema_view, IsStated}
@@ -23,7 +22,7 @@ use Rattle.http_service.specs.Answered.{IsAlike, Replies, answers, told}
 
 -- ---- memory sufficed where the status does not say that it did not
 
-is_whole : (r : Reply) → (told r).0 ≢ ServiceUnavailable → IsWhole r
+is_whole : (r : Reply) → (told r).0 ≢ 503 → IsWhole r
 is_whole (reply.Put (Ok x)) h = tt
 is_whole (reply.Put (Err fault.NoMemory)) h = h refl
 is_whole (reply.Put (Err (fault.Policy f))) h = tt
@@ -89,16 +88,16 @@ is_whole (reply.Written (Err (fault.Request f))) h = tt
 -- ---- one request
 
 abbrev Line : Type 0
-Line = Status × List ℕ
+Line = StatusCode × List ℕ
 
-abbrev line : Status → List ℕ → Line
+abbrev line : StatusCode → List ℕ → Line
 line status text = (status, text)
 
 abbrev HaveOneOutcome : Type 0
 HaveOneOutcome = (bytes : List ℕ) (schema : SchemaEntries) → IsSchemaOf bytes (schema_view schema)
     → InputsHaveOneOutcome (schema_view schema)
 
-told_whole : (r : Reply) (line : Line) → line ≡ told r → line.0 ≢ ServiceUnavailable → IsWhole r
+told_whole : (r : Reply) (line : Line) → line ≡ told r → line.0 ≢ 503 → IsWhole r
 told_whole r line is h = is_whole r (λ e. h (ap (λ (l : Line). l.0) is ∙ e))
 
 -- a step of the one site is a step of the other
@@ -126,13 +125,13 @@ alike_after old old2 new new2 alike one two =
     (ap store_in one ∙ sym alike.2 ∙ sym (ap store_in two))
 
 refused_line : (f : SiteFault) (line : Line) → (line ≡ fault_reply f) ⊎ (line ≡ fault_reply fault.NoMemory)
-    → line.0 ≢ ServiceUnavailable → line ≡ fault_reply f
+    → line.0 ≢ 503 → line ≡ fault_reply f
 refused_line f line (inl is) h = is
 refused_line f line (inr is) h = absurd (h (ap (λ (l : Line). l.0) is))
 
-one_of : HaveOneOutcome → (a : Asked) (old old2 : Seen) (st st2 : Status) (x x2 : List ℕ) (new new2 : Seen)
-    → IsAlike old old2 → Replies old a st x new → st ≢ ServiceUnavailable
-    → Replies old2 a st2 x2 new2 → st2 ≢ ServiceUnavailable → (line st x ≡ line st2 x2) × IsAlike new new2
+one_of : HaveOneOutcome → (a : Asked) (old old2 : Seen) (st st2 : StatusCode) (x x2 : List ℕ) (new new2 : Seen)
+    → IsAlike old old2 → Replies old a st x new → st ≢ 503
+    → Replies old2 a st2 x2 new2 → st2 ≢ 503 → (line st x ≡ line st2 x2) × IsAlike new new2
 one_of law (hands i) old old2 st st2 x x2 new new2 alike h some k some2 =
     let one = law alike.0.0 old.schema alike.0.1 old.name (store_in old) i h.0 k.0 (store_in new) (store_in new2)
     (record { step = h.1; whole = told_whole h.0 (st, x) h.3 some })

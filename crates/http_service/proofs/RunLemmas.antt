@@ -1,7 +1,7 @@
 -- What a stream leaves is what a run leaves.
 use Rattle.std.proofs.Common.{◌≡◌, ℕ, zero, suc, Bool, true, false, List, [], ◌∷◌, ◌++◌, refl, sym, ap, ◌∙◌, subst, inl}
 use Rattle.std.proofs.Common.{inr}
-use Rattle.http_replies.specs.http_texts.declared.status.Status.{Status}
+use Rattle.http.specs.declared.status.StatusCode.{StatusCode}
 use Rattle.http_streams.specs.Stream.{Closes, Ends, Exchanges, Halts, Rests, Serves, Stops}
 use Rattle.http_replies.specs.site_steps.schema.Schemas.{StatedSchema}
 use Rattle.http_replies.specs.site_steps.schema.Views.{schema_view}
@@ -34,7 +34,7 @@ same_run a b s is rs t same h =
     (subst (λ (c : StatedSchema). Run c b.name s is rs t) (ap schema_view same.0) h)
 
 -- a request, and then some more
-before : (a : Asked) (old mid new : Seen) (status : Status) (line : List ℕ) (is : List Input) (rs : List Reply)
+before : (a : Asked) (old mid new : Seen) (status : StatusCode) (line : List ℕ) (is : List Input) (rs : List Reply)
     → Replies old a status line mid → IsSameSite mid new
     → Run (schema_of mid) mid.name (store_in mid) is rs (store_in new)
     → (all : List Reply) × Run (schema_of old) old.name (store_in old) (inputs_of a ++ is) all (store_in new)

@@ -2,7 +2,7 @@
 use Rattle.std.proofs.Common.{◌≡◌, ℕ, zero, suc, Bool, true, false, Option, Result, Ok, Err, List, [], ◌++◌, refl, sym}
 use Rattle.std.proofs.Common.{ap, ◌∙◌, subst, inl, inr, append-nil, append_assoc}
 use Rattle.std.specs.Io.KnownBytes.{Consumes}
-use Rattle.http_replies.specs.http_texts.declared.status.Status.{Status}
+use Rattle.http.specs.declared.status.StatusCode.{StatusCode}
 use Rattle.http_streams.specs.Stream.{Closes, Ends, Exchanges, Halts, Rests, Serves, Stops}
 use Rattle.http_streams.specs.Serving.{EndsAs, IsAnswered}
 use Rattle.http_streams.specs.declared.serve.StreamFault.{StreamFault}
@@ -19,13 +19,13 @@ use Rattle.http_service.proofs.RunLemmas.{RunsTake, rests_run, ends_run, stops_r
 
 -- ---- each request is answered by the site
 
-replied : (a : Asked) (v w : Served) (status : Status) (line : List ℕ) → Continues v a status line w
+replied : (a : Asked) (v w : Served) (status : StatusCode) (line : List ℕ) → Continues v a status line w
     → Replies v.site a status line w.site
 replied (hands i) v w status line h = (h.0, h.1, h.2, h.3)
 replied (refused f) v w status line h = h.0
 replied (unserved s) v w status line h = h.0
 
-one_answer : (v w : Served) (s : Seen) (m t body : List ℕ) (status : Status) (line : List ℕ) → v.site ≡ s
+one_answer : (v w : Served) (s : Seen) (m t body : List ℕ) (status : StatusCode) (line : List ℕ) → v.site ≡ s
     → continues_run v m t body status line w → (u : Seen) × answers s m t body status line u × (w.site ≡ u)
 one_answer v w s m t body status line is h =
     let a = asked (route_stated m t) body in
@@ -50,7 +50,7 @@ asks_none v w bytes e = record {
   joined = ap (λ (x : Served). x.inputs) e ∙ sym (append-nil v.inputs);
 }
 
-handed : (a : Asked) (v w : Served) (status : Status) (line : List ℕ) → Continues v a status line w
+handed : (a : Asked) (v w : Served) (status : StatusCode) (line : List ℕ) → Continues v a status line w
     → w.inputs ≡ v.inputs ++ inputs_of a
 handed (hands i) v w status line h = h.4
 handed (refused f) v w status line h = h.1 ∙ sym (append-nil v.inputs)

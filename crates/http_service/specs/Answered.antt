@@ -1,6 +1,6 @@
 -- What is answered to a request, and what it leaves of the site. Rules of this product.
 use Rattle.std.specs.Prelude.{◌≡◌, ◌⊎◌, ℕ, List, Ok, Err, option_map}
-use Rattle.http_replies.specs.http_texts.declared.status.Status.{Status}
+use Rattle.http.specs.declared.status.StatusCode.{StatusCode}
 use Rattle.http_replies.specs.site_steps.schema.Views.{IsStated}
 use Rattle.http_replies.specs.site_steps.Seen.{Seen, schema_of, store_in, IsSameSite}
 use Rattle.http_replies.specs.site_steps.declared.fault.SiteFault.TheVariants as fault
@@ -15,7 +15,7 @@ use Rattle.http_service.specs.declared.site_service.SiteService.{SiteService}
 
 -- ---- replies of a site as they are told, each by a status and a body
 
-abbrev pub told : Reply → Status × List ℕ
+abbrev pub told : Reply → StatusCode × List ℕ
 told (reply.Put r) = put_reply r
 told (reply.Stamped r) = stamp_reply r
 told (reply.Taken r) = taken_reply r
@@ -28,7 +28,7 @@ told (reply.Written r) = message_reply r
 
 -- an input is one step of the site, and its reply is told; what is refused before changes nothing, and may meet want of
 -- memory first
-abbrev pub Replies : Seen → Asked → Status → List ℕ → Seen → Type 0
+abbrev pub Replies : Seen → Asked → StatusCode → List ℕ → Seen → Type 0
 Replies old (hands i) status line new =
     (r : Reply) × Step (schema_of old) old.name (store_in old) i r (store_in new) × IsSameSite old new
     × ((status, line) ≡ told r)
@@ -37,12 +37,12 @@ Replies old (refused f) status line new =
 Replies old (unserved s) status line new = ((status, line) ≡ status_reply s) × (new ≡ old)
 
 -- a request with this method, this target and this body may be answered so
-abbrev pub answers : Seen → List ℕ → List ℕ → List ℕ → Status → List ℕ → Seen → Type 0
+abbrev pub answers : Seen → List ℕ → List ℕ → List ℕ → StatusCode → List ℕ → Seen → Type 0
 answers old method target body status line new =
     Replies old (asked (route_stated method target) body) status line new
 
 -- the same over a borrowed site, which stays borrowed
-abbrev pub answers_over : SiteService → List ℕ → List ℕ → List ℕ → Status → List ℕ → SiteService → Type 0
+abbrev pub answers_over : SiteService → List ℕ → List ℕ → List ℕ → StatusCode → List ℕ → SiteService → Type 0
 answers_over old method target body status line new =
     answers old.site.now method target body status line new.site.now × (new.site.ghost_name ≡ old.site.ghost_name)
 

@@ -10,8 +10,7 @@ use Rattle.http_replies.specs.policy_grammar.Limits.{most_id_bytes, most_policy_
 use Rattle.http_replies.specs.policy_grammar.declared.fault.ReadFault.{ReadFault}
 use Rattle.http_replies.specs.policy_grammar.declared.fault.ReadFault.TheVariants.{BadId, BadToken, TooLong}
 use Rattle.http_replies.specs.site_steps.entities.declared.fault.EntityFault.TheVariants.{BadShape}
-use Rattle.http_replies.specs.http_texts.declared.status.Status.{Status}
-use Rattle.http_replies.specs.http_texts.declared.status.Status.TheVariants.{NotFound, MethodNotAllowed}
+use Rattle.http.specs.declared.status.StatusCode.{StatusCode}
 use Rattle.http_replies.specs.site_steps.declared.fault.SiteFault.{SiteFault}
 use Rattle.http_replies.specs.site_steps.declared.fault.SiteFault.TheVariants as fault
 use Rattle.http_replies.specs.site_steps.Inputs.{Input}
@@ -25,7 +24,7 @@ use Rattle.http_routes.specs.declared.route.Route.TheVariants as route
 pub data Asked : Type 0 where
   hands : Input → Asked
   refused : SiteFault → Asked
-  unserved : Status → Asked
+  unserved : StatusCode → Asked
 
 -- a policy may have this id: 1 to 256 bytes
 abbrev pub is_policy_id : List ℕ → Bool
@@ -63,5 +62,5 @@ asked route.State body = hands input.State
 asked route.Summary body = hands input.Summary
 asked route.Delta body = hands (input.Delta body)
 asked route.Merge body = hands (input.Take body)
-asked route.Unknown body = unserved NotFound
-asked route.OtherMethod body = unserved MethodNotAllowed
+asked route.Unknown body = unserved 404
+asked route.OtherMethod body = unserved 405

@@ -2,7 +2,7 @@
 -- Source: RFC 9112, section 9.3 (replies in the order of the requests); that each request is one step at most is a rule
 -- of this product.
 use Rattle.std.specs.Prelude.{◌≡◌, ℕ, List, [], ◌∷◌, ◌++◌, Option, Result}
-use Rattle.http_replies.specs.http_texts.declared.status.Status.{Status}
+use Rattle.http.specs.declared.status.StatusCode.{StatusCode}
 use Rattle.http_streams.specs.Serving.{IsAnswered}
 use Rattle.http_streams.specs.declared.serve.StreamFault.{StreamFault}
 use Rattle.http_replies.specs.site_steps.stamped_store.Store.{store_of, updates}
@@ -26,7 +26,7 @@ unasked site = record { site = site; inputs = []; replies = [] }
 
 -- One request. An input is one step of the site, whose reply is told and is the next of the run's; what is refused
 -- before, and what no deed is asked by, is told as ever and is no part of the run.
-abbrev pub Continues : Served → Asked → Status → List ℕ → Served → Type 0
+abbrev pub Continues : Served → Asked → StatusCode → List ℕ → Served → Type 0
 Continues old (hands i) status line new =
     (r : Reply) × Step (schema_of old.site) old.site.name (store_in old.site) i r (store_in new.site)
     × IsSameSite old.site new.site × ((status, line) ≡ told r)
@@ -37,7 +37,7 @@ Continues old (unserved s) status line new =
     Replies old.site (unserved s) status line new.site × (new.inputs ≡ old.inputs) × (new.replies ≡ old.replies)
 
 -- a request with this method, this target and this body may be answered so
-abbrev pub continues_run : Served → List ℕ → List ℕ → List ℕ → Status → List ℕ → Served → Type 0
+abbrev pub continues_run : Served → List ℕ → List ℕ → List ℕ → StatusCode → List ℕ → Served → Type 0
 continues_run old method target body status line new =
     Continues old (asked (route_stated method target) body) status line new
 

@@ -13,11 +13,13 @@ ghost use Rattle.http_service.specs.Asked.{asked, hands, put_asked, removal_aske
 ghost use Rattle.http_service.specs.inner.Dealing.{Deals};
 
 use crate::replies::report_reply;
+use http::StatusCode;
 use http_replies::{
-    EntityFault, Input, MOST_ID_BYTES, MOST_POLICY_BYTES, ReadFault, Scratch, Site, SiteFault,
-    Status, answer as answer_input, read_json_by, read_uid, report_fault, report_status,
+    EntityFault, Input, MOST_ID_BYTES, MOST_POLICY_BYTES, ReadFault, Site, SiteFault,
+    answer as answer_input, read_uid, report_fault, report_status,
 };
 use http_routes::{PolicyId, Route, route_of};
+use json_values::{Scratch, read_json_by};
 use plain::NoMemory;
 use std::alloc::Global;
 use values::EntityUid;
@@ -31,7 +33,7 @@ fn reply_to(
     site: &mut Site,
     input: &Input<'_>,
     text: &mut Vec<u8>,
-) -> Status
+) -> StatusCode
     requires room { vec_len text.old + REPLY_ROOM ≤ vec_capacity text.old }
     ensures reply { Deals site.old (hands (input_of input.now)) result text.old.items text.new.items site.new }
     ensures kept { vec_capacity text.old ≤ vec_capacity text.new }
@@ -74,7 +76,7 @@ fn put_policy(
     id: &str,
     body: &[u8],
     text: &mut Vec<u8>,
-) -> Status
+) -> StatusCode
     requires room { vec_len text.old + REPLY_ROOM ≤ vec_capacity text.old }
     ensures reply { Deals site.old (put_asked body.now id.now) result text.old.items text.new.items site.new }
     ensures kept { vec_capacity text.old ≤ vec_capacity text.new }
@@ -106,7 +108,7 @@ fn delete_entity(
     site: &mut Site,
     body: &[u8],
     text: &mut Vec<u8>,
-) -> Status
+) -> StatusCode
     requires room { vec_len text.old + REPLY_ROOM ≤ vec_capacity text.old }
     ensures reply { Deals site.old (removal_asked (option_and_then uid_in (json_of body.now))) result text.old.items
         text.new.items site.new }
@@ -129,7 +131,7 @@ fn answer_route(
     route: &Route,
     body: &[u8],
     text: &mut Vec<u8>,
-) -> Status
+) -> StatusCode
     requires room { vec_len text.old + REPLY_ROOM ≤ vec_capacity text.old }
     ensures reply { Deals site.old (asked route.now body.now) result text.old.items text.new.items site.new }
     ensures kept { vec_capacity text.old ≤ vec_capacity text.new }
@@ -162,8 +164,8 @@ fn answer_route(
         Route::Summary => reply_to(alloc, scratch, site, &Input::Summary, text),
         Route::Delta => reply_to(alloc, scratch, site, &Input::Delta(body), text),
         Route::Merge => reply_to(alloc, scratch, site, &Input::Take(body), text),
-        Route::Unknown => report_status(text, Status::NotFound),
-        Route::OtherMethod => report_status(text, Status::MethodNotAllowed),
+        Route::Unknown => report_status(text, StatusCode::NOT_FOUND),
+        Route::OtherMethod => report_status(text, StatusCode::METHOD_NOT_ALLOWED),
     }
 }
 
@@ -177,7 +179,7 @@ pub(crate) fn answer(
     target: &[u8],
     body: &[u8],
     text: &mut Vec<u8>,
-) -> Status
+) -> StatusCode
     requires room { vec_len text.old + REPLY_ROOM ≤ vec_capacity text.old }
     ensures reply { Deals site.old (asked (route_stated method.now target.now) body.now) result text.old.items
         text.new.items site.new }

@@ -1,7 +1,7 @@
 //! Laws of streams over a site.
 ghost use Rattle.std.specs.Prelude.{◌≡◌, ℕ, List, Result};
 ghost use Rattle.std.specs.Io.KnownBytes.{Consumes};
-ghost use Rattle.http_replies.specs.http_texts.declared.status.Status.{Status};
+ghost use Rattle.http.specs.declared.status.StatusCode.{StatusCode};
 ghost use Rattle.http_streams.specs.Laws.{AgreeOn, AnswersAll, BeginsAnswer, HasOneAnswer, StopsIn, in_memory};
 ghost use Rattle.http_streams.specs.Serving.{IsAnswered};
 ghost use Rattle.http_streams.specs.Stream.{Ends, Rests, Stops};
@@ -79,7 +79,7 @@ pub fn cuts_make_no_difference()
 /// function: it is the reply of one step, in whose answer a policy errs since an entity is not stored, or since a
 /// number leaves its bounds.
 pub fn served_answers_go_right()
-    ensures { (old new : Seen) (input : Input) (status : Status) (line : List ℕ) → IsStated old.schema
+    ensures { (old new : Seen) (input : Input) (status : StatusCode) (line : List ℕ) → IsStated old.schema
         → Replies old (hands input) status line new
         → (reply : Reply) × IsHarmlessReply reply × ((status, line) ≡ told reply) }
 {

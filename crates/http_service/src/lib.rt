@@ -11,7 +11,7 @@ mod serving;
 mod site_service;
 
 pub use http_replies::{
-    Answer, Refusal, Site, SiteFault, Taken, answer_line, decide_texts, error_line, take_bytes,
+    Answer, Refusal, Site, SiteFault, Taken, answer_line, error_line, take_bytes,
 };
 pub use http_streams::fetch::{FetchFault, fetch};
 pub use http_streams::serve::StreamFault;

@@ -4,14 +4,15 @@ ghost use Rattle.std.specs.Vec.{vec_capacity};
 ghost use Rattle.http_streams.specs.declared.TheConstants.{REPLY_ROOM};
 ghost use Rattle.http_service.specs.inner.Dealing.{Tells};
 
+use http::StatusCode;
 use http_replies::{
-    Found, Reply, Status, report_answer, report_fault, report_found, report_message, report_put,
+    Found, Reply, report_answer, report_fault, report_found, report_message, report_put,
     report_stamp, report_taken,
 };
 use std::alloc::Global;
 
 /// Reports a policy that was looked up.
-fn report_policy(alloc: Global, text: &mut Vec<u8>, found: &Option<Found>) -> Status
+fn report_policy(alloc: Global, text: &mut Vec<u8>, found: &Option<Found>) -> StatusCode
     requires room { vec_len text.old + REPLY_ROOM ≤ vec_capacity text.old }
     ensures reply { Tells (Reply.Found (Ok found.now)) result text.old.items text.new.items }
     ensures kept { vec_capacity text.old ≤ vec_capacity text.new }
@@ -26,7 +27,7 @@ fn report_policy(alloc: Global, text: &mut Vec<u8>, found: &Option<Found>) -> St
 }
 
 /// Reports a reply. If there is no memory for the answer to a question, that is reported in its place.
-pub(crate) fn report_reply(alloc: Global, text: &mut Vec<u8>, reply: &Reply) -> Status
+pub(crate) fn report_reply(alloc: Global, text: &mut Vec<u8>, reply: &Reply) -> StatusCode
     requires room { vec_len text.old + REPLY_ROOM ≤ vec_capacity text.old }
     ensures reply { Tells reply.now result text.old.items text.new.items }
     ensures kept { vec_capacity text.old ≤ vec_capacity text.new }

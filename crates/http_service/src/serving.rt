@@ -3,9 +3,10 @@ ghost use Rattle.std.specs.Prelude.{◌≡◌};
 ghost use Rattle.http_service.specs.Serving.{IsServed};
 
 use crate::site_service::SiteService;
-use http_replies::{Scratch, Site, runs_leave_what_they_took};
+use http_replies::{Site, runs_leave_what_they_took};
 use http_streams::serve::{StreamFault, serve as serve_stream};
 use http_streams::{Sink, Source};
+use json_values::Scratch;
 use std::alloc::Global;
 
 /// Answers a stream over a borrowed site, which stays the same one.

@@ -1,7 +1,9 @@
 //! A site as a service of HTTP.
 use crate::handlers::answer;
-use http_replies::{Scratch, Site, Status};
+use http::StatusCode;
+use http_replies::Site;
 use http_streams::service::{Answers, Service};
+use json_values::Scratch;
 use std::alloc::Global;
 use std::marker::Model;
 
@@ -49,7 +51,13 @@ impl Answers for Stated {
 }
 
 impl Service for SiteService<'_> {
-    fn call(&mut self, method: &[u8], target: &[u8], body: &[u8], text: &mut Vec<u8>) -> Status {
+    fn call(
+        &mut self,
+        method: &[u8],
+        target: &[u8],
+        body: &[u8],
+        text: &mut Vec<u8>,
+    ) -> StatusCode {
         answer(self.alloc, self.kept, self.site, method, target, body, text)
     }
 }

@@ -3,7 +3,6 @@ use Rattle.std.proofs.Common.{◌≡◌, ℕ, zero, suc, ◌⊎◌, inl, inr, tr
 use Rattle.std.proofs.Common.{append_assoc, append-nil}
 use Rattle.http_streams.specs.Laws.{AnswersAll, BeginsAnswer, HasOneAnswer, StopsIn}
 use Rattle.http_framing.specs.http_texts.ReplyText.{error_line, reply_text}
-use Rattle.http_framing.specs.http_texts.declared.status.Status.TheVariants.{BadRequest}
 use Rattle.http_framing.specs.Request.{IsUnfinished}
 use Rattle.http_streams.specs.Stream.{Answering, Closes, Ends, Halts, Rests, Serves}
 use Rattle.http_streams.proofs.StreamLemmas.{Exchanges-append, Serves-append, Serves-push}
@@ -55,7 +54,7 @@ module _ {S : Type 0} (answers : Answering S) (same : S → S → Type 0) (one :
   closing : (k : ℕ) (old old2 mid other new : S) (s r b front back more : List ℕ) → same old old2 → Serves answers k old s r b mid
       → Closes answers mid r (front ++ back) new → AnswersAll answers old2 s more other → BeginsAnswer answers old2 s (b ++ front) more other
   closing k old old2 mid other new s r b front back more w x e y =
-      let refusal = reply_text true BadRequest (error_line 400) in
+      let refusal = reply_text true 400 (error_line 400) in
       let ends : Ends answers old s (b ++ (front ++ back)) new = record {
         count = k;
         mid = mid;

@@ -2,29 +2,17 @@
 use Rattle.std.proofs.Common.{◌≡◌, ◌≢◌, ℕ, zero, suc, ◌⊎◌, inl, inr, Bool, List, [], ◌++◌, refl, sym, ap, ◌∙◌, subst}
 use Rattle.std.proofs.Common.{append_assoc, append-nil}
 use Rattle.http_streams.specs.Laws.{AnswersAll, LacksMemory, StopsIn, in_memory}
-use Rattle.http_framing.specs.http_texts.declared.status.Status.{Status}
-use Rattle.http_framing.specs.http_texts.declared.status.Status.TheVariants.{Ok, BadRequest, NotFound, MethodNotAllowed}
-use Rattle.http_framing.specs.http_texts.declared.status.Status.TheVariants.{Conflict, LengthRequired, PayloadTooLarge}
-use Rattle.http_framing.specs.http_texts.declared.status.Status.TheVariants.{UnprocessableEntity, NotImplemented}
-use Rattle.http_framing.specs.http_texts.declared.status.Status.TheVariants.{ServiceUnavailable}
+use Rattle.std.proofs.lemmas.Bool.Decides.{eqb_tells}
+use Rattle.http.specs.declared.status.StatusCode.{StatusCode}
 use Rattle.http_streams.specs.Stream.{Answering, Closes, Ends, Exchanges, Halts, Rests, Serves, Stops}
 use Rattle.http_streams.proofs.StreamLemmas.{Exchanges-append, Serves-append, Serves-none, Serves-then, status-append}
 
-decide : (s : Status) → (s ≡ ServiceUnavailable) ⊎ (s ≢ ServiceUnavailable)
-decide Ok = inr (λ e. cc)
-decide BadRequest = inr (λ e. cc)
-decide NotFound = inr (λ e. cc)
-decide MethodNotAllowed = inr (λ e. cc)
-decide Conflict = inr (λ e. cc)
-decide LengthRequired = inr (λ e. cc)
-decide PayloadTooLarge = inr (λ e. cc)
-decide UnprocessableEntity = inr (λ e. cc)
-decide NotImplemented = inr (λ e. cc)
-decide ServiceUnavailable = inl refl
+decide : (s : StatusCode) → (s ≡ 503) ⊎ (s ≢ 503)
+decide s = elim (eqb_tells s 503) [ inl same ↦ inl same.1 | inr other ↦ inr other.1 ]
 
 module _ {S : Type 0} (answers : Answering S) where
   narrow : {old new : S} {bytes out rest : List ℕ} {last : Bool} (e : Exchanges answers old bytes last out new rest)
-      → e.status ≢ ServiceUnavailable → Exchanges (in_memory answers) old bytes last out new rest
+      → e.status ≢ 503 → Exchanges (in_memory answers) old bytes last out new rest
   narrow e other = record {
     head = e.head;
     body = e.body;
@@ -38,7 +26,7 @@ module _ {S : Type 0} (answers : Answering S) where
 
   -- the first request is answered by 503
   first : {old new : S} {bytes rest : List ℕ} {last : Bool} (sent unsent back : List ℕ)
-      (e : Exchanges answers old bytes last (sent ++ unsent) new rest) → e.status ≡ ServiceUnavailable → (unsent ≡ []) ⊎ (back ≡ [])
+      (e : Exchanges answers old bytes last (sent ++ unsent) new rest) → e.status ≡ 503 → (unsent ≡ []) ⊎ (back ≡ [])
       → LacksMemory answers old bytes (sent ++ back) unsent
   first {old} {new} {bytes} {rest} {last} sent unsent back e is all = record {
     count = 0;
@@ -59,7 +47,7 @@ module _ {S : Type 0} (answers : Answering S) where
 
   -- all of the 503 went out
   first_whole : {old new : S} {bytes reply rest : List ℕ} {last : Bool} (e : Exchanges answers old bytes last reply new rest)
-      → e.status ≡ ServiceUnavailable → (back : List ℕ) → LacksMemory answers old bytes (reply ++ back) []
+      → e.status ≡ 503 → (back : List ℕ) → LacksMemory answers old bytes (reply ++ back) []
   first_whole {old} {new} {bytes} {reply} {rest} {last} e is back =
       let same : reply ++ [] ≡ reply = append-nil reply in
       first reply [] back (record {
@@ -200,7 +188,7 @@ module _ {S : Type 0} (answers : Answering S) where
   -- ---- where it broke off
 
   breaks : (old new : S) (bytes out back rest : List ℕ) (last : Bool) (e : Exchanges answers old bytes last (out ++ back) new rest)
-      → e.status ≡ ServiceUnavailable → LacksMemory answers old bytes out back
+      → e.status ≡ 503 → LacksMemory answers old bytes out back
   breaks old new bytes out back rest last e is =
       lacks_at old bytes back (sym (append-nil out)) (first out back [] e is (inr refl))
 

@@ -1,14 +1,14 @@
 -- Where each answer of one service is an answer of another, between states that belong to its own, so is each stream.
 use Rattle.std.proofs.Common.{ℕ, zero, suc, Bool, true, false, Option, List, ◌++◌, Result, Ok, Err, refl, sym, subst}
 use Rattle.std.proofs.Common.{inl, inr}
-use Rattle.http_framing.specs.http_texts.declared.status.Status.{Status}
+use Rattle.http.specs.declared.status.StatusCode.{StatusCode}
 use Rattle.http_streams.specs.Stream.{Answering, Closes, Ends, Exchanges, Halts, KeepsUp, Rests, Serves, Stops}
 use Rattle.http_streams.specs.Serving.{EndsAs, IsAnswered}
 use Rattle.http_streams.specs.declared.serve.StreamFault.{StreamFault}
 use Rattle.http_streams.specs.declared.serve.StreamFault.TheVariants as fault
 
 module _ {S T : Type 0} (says : Answering S) (tells : Answering T) (Meets : S → T → Type 0)
-    (lifts : (a b : S) (x : T) (m t body : List ℕ) (status : Status) (line : List ℕ) → Meets a x
+    (lifts : (a b : S) (x : T) (m t body : List ℕ) (status : StatusCode) (line : List ℕ) → Meets a x
     → says a m t body status line b → (y : T) × tells x m t body status line y × Meets b y) where
   exchanges : (a b : S) (x : T) (bytes : List ℕ) (last : Bool) (out rest : List ℕ) → Meets a x
       → Exchanges says a bytes last out b rest → (y : T) × Exchanges tells x bytes last out y rest × Meets b y

@@ -6,12 +6,12 @@ use Rattle.http_framing.specs.http_texts.ReplyText.{reply_text}
 use Rattle.http_framing.specs.Request.{IsUnfinished, IsWholeAt}
 use Rattle.http_framing.proofs.OneRequest.{ReadsWhole-append}
 use Rattle.http_framing.specs.declared.cut.Parts.{Parts}
-use Rattle.http_framing.specs.http_texts.declared.status.Status.{Status}
+use Rattle.http.specs.declared.status.StatusCode.{StatusCode}
 use Rattle.http_streams.specs.Stream.{Answering, Closes, Ends, Exchanges, Halts, Rests, Serves, Stops}
 
 module _ {S : Type 0} (answers : Answering S) where
   -- a whole request that was answered, with its reply
-  pub exchanged : {old new : S} (bytes : List ℕ) (p : Parts) (m t : List ℕ) (status : Status) (reply out : List ℕ) → IsWholeAt bytes p
+  pub exchanged : {old new : S} (bytes : List ℕ) (p : Parts) (m t : List ℕ) (status : StatusCode) (reply out : List ℕ) → IsWholeAt bytes p
       → m ≡ span_bytes bytes p.method → t ≡ span_bytes bytes p.target
       → answers old m t (span_bytes bytes (record { start = p.body; end = p.end })) status reply new
       → out ≡ reply_text p.closes status reply → Exchanges answers old bytes p.closes out new (drop p.end bytes)

@@ -6,17 +6,15 @@ use Rattle.httparse.specs.Grammar.{RequestHead}
 use Rattle.http_framing.specs.declared.cut.Framing.TheVariants.{Body, Refused}
 use Rattle.http_framing.specs.Request.{IsRefused, IsUnfinished, framing_of, closes_of}
 use Rattle.http_framing.specs.http_texts.ReplyText.{reply_text, error_line}
-use Rattle.http_framing.specs.http_texts.Status.{code}
-use Rattle.http_framing.specs.http_texts.declared.status.Status.{Status}
-use Rattle.http_framing.specs.http_texts.declared.status.Status.TheVariants.{BadRequest}
+use Rattle.http.specs.declared.status.StatusCode.{StatusCode}
 use Rattle.http_streams.specs.Stream.{Answering, Closes, Ends, Exchanges, Refuses, Rests, Serves}
 use Rattle.http_streams.specs.Laws.{AgreeOn, AnswersAll, DiffersInCorner, HasOneAnswer, IsCorner}
 use Rattle.http_framing.proofs.OneRequest.{admits_unique, refused-append, refused_unique, whole_not_unfinished}
 use Rattle.http_framing.proofs.OneRequest.{whole_or_refused, whole_unique}
 use Rattle.http_streams.proofs.StreamLemmas.{Exchanges-append, Serves-append}
 
-refused_unfinished : (rest : List ℕ) (status : Status) → IsRefused rest status → IsUnfinished rest
-    → IsCorner rest × (status ≡ BadRequest)
+refused_unfinished : (rest : List ℕ) (status : StatusCode) → IsRefused rest status → IsUnfinished rest
+    → IsCorner rest × (status ≡ 400)
 refused_unfinished rest status (inl head) (inl cut) =
     let same = admits_unique head.admits cut.admits in
     let framed : Refused status ≡ Body cut.size = sym head.framed ∙ ap framing_of same.0 ∙ cut.framed in
@@ -70,11 +68,11 @@ open_not_ended answers {mid = mid} {new2 = new2} {last = last} x y e =
     let a = subst (λ (t : List ℕ). Closes answers mid t last new2) (sym y.0) e in open_not_closed answers x a
 
 corner_now : {S : Type 0} (answers : Answering S) (old new : S) (bytes last : List ℕ) → IsUnfinished bytes → Closes answers old bytes last new
-    → (old ≡ new) × IsCorner bytes × (last ≡ reply_text true BadRequest (error_line 400))
+    → (old ≡ new) × IsCorner bytes × (last ≡ reply_text true 400 (error_line 400))
 corner_now answers old new bytes last rest (inl x) = absurd (whole_not_unfinished x.1.reads rest)
 corner_now answers old new bytes last rest (inr (status, refused, is, kept)) =
     let corner = refused_unfinished bytes status refused rest in
-    (sym kept, corner.0, is ∙ ap (λ (n : Status). reply_text true n (error_line (code n))) corner.1)
+    (sym kept, corner.0, is ∙ ap (λ (n : StatusCode). reply_text true n (error_line n)) corner.1)
 
 module _ {S : Type 0} (answers : Answering S) (same : S → S → Type 0) (one : HasOneAnswer answers same) where
   same_at : {a b c d : S} → same a b → c ≡ a → d ≡ b → same c d
@@ -117,7 +115,7 @@ module _ {S : Type 0} (answers : Answering S) (same : S → S → Type 0) (one :
   closes_unique old old2 new new2 bytes out out2 s (inr x) (inl y) = absurd (whole_or_refused y.1.reads x.1)
   closes_unique old old2 new new2 bytes out out2 s (inr x) (inr y) =
       let status = refused_unique x.0 y.0 x.1 y.1 in
-      (x.2 ∙ ap (λ (n : Status). reply_text true n (error_line (code n))) status ∙ sym y.2, same_at s x.3 y.3)
+      (x.2 ∙ ap (λ (n : StatusCode). reply_text true n (error_line n)) status ∙ sym y.2, same_at s x.3 y.3)
 
   -- two readings of the same bytes, each to a reply that ends the stream
   pub ends_unique : (n m : ℕ) (old old2 mid mid2 new new2 : S) (bytes rest rest2 out out2 last last2 : List ℕ) → same old old2
@@ -144,7 +142,7 @@ module _ {S : Type 0} (answers : Answering S) (same : S → S → Type 0) (one :
   rests_ends : (n m : ℕ) (old old2 new mid new2 : S) (bytes rest rest2 out out2 last : List ℕ) → same old old2
       → Serves answers n old bytes rest out new → IsUnfinished rest
       → Serves answers m old2 bytes rest2 out2 mid → Closes answers mid rest2 last new2
-      → same new new2 × IsCorner rest × (out2 ++ last ≡ out ++ reply_text true BadRequest (error_line 400))
+      → same new new2 × IsCorner rest × (out2 ++ last ≡ out ++ reply_text true 400 (error_line 400))
   rests_ends zero zero old old2 new mid new2 bytes rest rest2 out out2 last s x q y e =
       let b = subst (λ (t : List ℕ). Closes answers mid t last new2) (sym y.0 ∙ x.0) e in
       let found = corner_now answers mid new2 rest last q b in (
@@ -158,7 +156,7 @@ module _ {S : Type 0} (answers : Answering S) (same : S → S → Type 0) (one :
   rests_ends (suc n) (suc m) old old2 new mid new2 bytes rest rest2 out out2 last s x q y e =
       let first = exchange_unique s x.4 y.4 in
       let moved = subst (λ (b : List ℕ). Serves answers m y.0 b rest2 y.3 mid) (sym first.3) y.5 in
-      let corner = reply_text true BadRequest (error_line 400) in
+      let corner = reply_text true 400 (error_line 400) in
       let later = rests_ends n m x.0 y.0 new mid new2 x.1 rest rest2 x.3 y.3 last first.2 x.5 q moved e in (
         later.0,
         later.1,

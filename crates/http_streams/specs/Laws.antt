@@ -5,8 +5,7 @@ use Rattle.httparse.specs.Grammar.{EndsInTarget, NeverHasRequest}
 use Rattle.http_framing.specs.http_texts.ReplyText.{error_line, reply_text}
 use Rattle.http_streams.specs.Stream.{Answering, Ends, Exchanges, Rests, Serves, Stops}
 use Rattle.http_framing.specs.declared.TheConstants.{MAX_HEAD}
-use Rattle.http_framing.specs.http_texts.declared.status.Status.{Status}
-use Rattle.http_framing.specs.http_texts.declared.status.Status.TheVariants.{BadRequest, ServiceUnavailable}
+use Rattle.http.specs.declared.status.StatusCode.{StatusCode}
 
 -- a rest on which a reader may answer either way: it ends inside a target that is no text
 pub record IsCorner (rest : List ℕ) : Type 0 where
@@ -17,12 +16,12 @@ pub record IsCorner (rest : List ℕ) : Type 0 where
 module _ {S : Type 0} (answers : Answering S) where
   -- the answers, but those that memory was refused (503)
   abbrev pub in_memory : Answering S
-  in_memory old m t b status x new = answers old m t b status x new × (status ≢ ServiceUnavailable)
+  in_memory old m t b status x new = answers old m t b status x new × (status ≢ 503)
 
   -- states that are the same have one answer to a request, which leaves states that are the same
   abbrev pub HasOneAnswer : (S → S → Type 0) → Type 0
   HasOneAnswer same =
-      (old old2 : S) (m t b : List ℕ) (st st2 : Status) (x x2 : List ℕ) (new new2 : S) → same old old2
+      (old old2 : S) (m t b : List ℕ) (st st2 : StatusCode) (x x2 : List ℕ) (new new2 : S) → same old old2
       → answers old m t b st x new → answers old2 m t b st2 x2 new2 → (st ≡ st2) × (x ≡ x2) × same new new2
 
   -- the stream was read to its end and answered, or to a reply that ends it
@@ -35,7 +34,7 @@ module _ {S : Type 0} (answers : Answering S) where
   abbrev pub DiffersInCorner : S → List ℕ → List ℕ → List ℕ → S → Type 0
   DiffersInCorner old stream out more new =
       (n : ℕ) × (rest : List ℕ) × Serves answers n old stream rest out new × IsCorner rest
-      × (more ≡ out ++ reply_text true BadRequest (error_line 400))
+      × (more ≡ out ++ reply_text true 400 (error_line 400))
 
   -- two answers to one stream, however it was cut, leave states that are the same, and are equal but in the corner
   abbrev pub AgreeOn : (S → S → Type 0) → S → S → List ℕ → List ℕ → List ℕ → S → S → Type 0
@@ -54,7 +53,7 @@ module _ {S : Type 0} (answers : Answering S) where
   BeginsAnswer old stream out more new =
       ((back : List ℕ) × (more ≡ out ++ back))
       ⊎ ((n : ℕ) × (rest : List ℕ) × Serves answers n old stream rest more new × IsCorner rest
-      × (back : List ℕ) × (out ++ back ≡ more ++ reply_text true BadRequest (error_line 400)))
+      × (back : List ℕ) × (out ++ back ≡ more ++ reply_text true 400 (error_line 400)))
 
 -- some requests were answered in memory and the next by 503, which stands behind their replies, but for what is unsent
 pub record LacksMemory {S : Type 0} (answers : Answering S) (old : S) (stream out unsent : List ℕ) : Type 0 where
@@ -68,7 +67,7 @@ pub record LacksMemory {S : Type 0} (answers : Answering S) (old : S) (stream ou
   pub new : S
   pub later : List ℕ
   pub refused : Exchanges answers mid rest last (sent ++ unsent) new later
-  pub is : refused.status ≡ ServiceUnavailable
+  pub is : refused.status ≡ 503
   pub back : List ℕ
   pub joined : out ≡ before ++ sent ++ back
   pub whole_or_last : (unsent ≡ []) ⊎ (back ≡ [])

@@ -4,19 +4,18 @@ use Rattle.httparse.specs.Grammar.{RequestHead}
 use Rattle.http_streams.specs.Reads.{EndsByOneRead}
 use Rattle.http_framing.specs.http_texts.ReplyText.{error_line, reply_text}
 use Rattle.http_framing.specs.Request.{ReadsWhole, IsRefused, IsUnfinished, closes_of}
-use Rattle.http_framing.specs.http_texts.Status.{code}
-use Rattle.http_framing.specs.http_texts.declared.status.Status.{Status}
+use Rattle.http.specs.declared.status.StatusCode.{StatusCode}
 
 -- in a state, a method, a target and a body may be answered by a status and a body, which leaves a state
 abbrev pub Answering : Type 0 → Type 1
-Answering S = S → List ℕ → List ℕ → List ℕ → Status → List ℕ → S → Type 0
+Answering S = S → List ℕ → List ℕ → List ℕ → StatusCode → List ℕ → S → Type 0
 
 module _ {S : Type 0} (answers : Answering S) where
   -- bytes begin with a request, whose reply is out; the request says whether it is the last
   pub record Exchanges (old : S) (bytes : List ℕ) (last : Bool) (out : List ℕ) (new : S) (rest : List ℕ) : Type 0 where
     pub head : RequestHead
     pub body : List ℕ
-    pub status : Status
+    pub status : StatusCode
     pub text : List ℕ
     pub reads : ReadsWhole bytes head body rest
     pub answered : answers old head.method head.target body status text new
@@ -33,8 +32,8 @@ module _ {S : Type 0} (answers : Answering S) where
   -- bytes are refused, and out is the reply that says so
   abbrev pub Refuses : S → List ℕ → List ℕ → S → Type 0
   Refuses old bytes out new =
-      (status : Status) × IsRefused bytes status
-      × (out ≡ reply_text true status (error_line (code status))) × (new ≡ old)
+      (status : StatusCode) × IsRefused bytes status
+      × (out ≡ reply_text true status (error_line status)) × (new ≡ old)
 
   -- the reply to what stands at the front of bytes ends the stream
   abbrev pub Closes : S → List ℕ → List ℕ → S → Type 0

@@ -6,7 +6,6 @@ ghost use Rattle.std.specs.Io.KnownBytes.{Appends};
 ghost use Rattle.http_devices.specs.Devices.{FailsAtLast};
 ghost use Rattle.http_framing.specs.http_texts.ReplyText.{error_line, reply_text};
 ghost use Rattle.http_framing.specs.Request.{IsUnfinishedBelow, IsWholeAt};
-ghost use Rattle.http_framing.specs.http_texts.Status.{code};
 ghost use Rattle.http_streams.specs.Serving.{IsAnswered};
 ghost use Rattle.http_streams.specs.Stream.{Ends, Exchanges, Halts, Serves, Stops};
 ghost use Rattle.http_streams.specs.declared.TheConstants.{REPLY_ROOM};
@@ -16,9 +15,10 @@ use crate::buffers::{
     ReadFault, drop_front, read_more, room_for_heads, room_for_reads, room_for_replies,
 };
 use crate::service::Service;
+use http::StatusCode;
 use http_devices::devices::{DeviceFailed, Sink, Source, write_all};
 use http_framing::cut::{Cut, Parts, cut_request};
-use http_framing::{HEAD_ROOM, MAX_HEAD, REFUSAL_ROOM, Status, put_head, put_refusal};
+use http_framing::{HEAD_ROOM, MAX_HEAD, REFUSAL_ROOM, put_head, put_refusal};
 use httparse::spans::HeaderSpan;
 use std::alloc::{AllocError, Global};
 use thiserror::Error;
@@ -134,7 +134,7 @@ fn answer_stream<S: Service, R: Source, W: Sink>(
 }
 
 /// Puts the head of a reply before the body that the text has, and says where it begins.
-fn finish(text: &mut Vec<u8>, last: bool, status: Status) -> usize
+fn finish(text: &mut Vec<u8>, last: bool, status: StatusCode) -> usize
     requires { HEAD_ROOM ≤ vec_len text.old }
     ensures start { result ≤ vec_len text.new }
     ensures text { drop result text.new.items ≡ reply_text last status (drop HEAD_ROOM text.old.items) }
@@ -178,11 +178,11 @@ fn answer<S: Service, W: Sink>(
 }
 
 /// Answers with an error that ends the stream. It takes no memory.
-fn refuse<W: Sink>(writer: &mut W, status: Status) -> Result<(), DeviceFailed>
+fn refuse<W: Sink>(writer: &mut W, status: StatusCode) -> Result<(), DeviceFailed>
     ensures ok { OnOk result (Appends (W.holds writer.old) (W.holds writer.new)
-        (reply_text true status (error_line (code status)))) }
+        (reply_text true status (error_line status))) }
     ensures err { OnErr result ((front : List ℕ) × (back : List ℕ) × (0 < length back)
-        × (reply_text true status (error_line (code status)) ≡ front ++ back)
+        × (reply_text true status (error_line status) ≡ front ++ back)
         × Appends (W.holds writer.old) (W.holds writer.new) front) }
     ensures write { OnErr result (FailsAtLast W.failed W.fails writer.old writer.new) }
     ensures count { OnOk result (W.failed writer.new ≡ W.failed writer.old) }

@@ -2,14 +2,14 @@
 ghost use Rattle.std.specs.Prelude.{◌≡◌, ◌≤◌, ◌+◌, ℕ, List, ◌++◌, vec_len};
 ghost use Rattle.std.specs.Vec.{vec_capacity};
 ghost use Rattle.http_streams.specs.declared.TheConstants.{REPLY_ROOM};
-ghost use Rattle.http_framing.specs.http_texts.declared.status.Status.{Status};
+ghost use Rattle.http.specs.declared.status.StatusCode.{StatusCode};
 
-use http_framing::Status;
+use http::StatusCode;
 
 /// States in which requests have answers: what laws of streams speak of, with no code.
 pub trait Answers {
     // In a state, a method, a target and a body may be answered by a status and a body, which leaves a state.
-    ghost answers: { Self → List ℕ → List ℕ → List ℕ → Status → List ℕ → Self → Type 0 };
+    ghost answers: { Self → List ℕ → List ℕ → List ℕ → StatusCode → List ℕ → Self → Type 0 };
 
     // States that laws take as the same: that requests tell no difference of them is a premise there. Where this isn't
     // given, they are equal ones.
@@ -20,8 +20,9 @@ pub trait Answers {
 pub trait Service: Answers {
     /// Appends the body of the reply to `text`, and answers its status. There is room for a short reply, so that
     /// it takes no memory; where memory is refused for a longer one, a short reply can still say so. The text keeps
-    /// its memory, for the next reply.
-    fn call(&mut self, method: &[u8], target: &[u8], body: &[u8], text: &mut Vec<u8>) -> Status
+    /// its memory, for the next reply. Each reply announces a body, so no status is 1xx, 204 or 304 (RFC 9112, section
+    /// 6.3).
+    fn call(&mut self, method: &[u8], target: &[u8], body: &[u8], text: &mut Vec<u8>) -> StatusCode
         requires room { vec_len text.old + REPLY_ROOM ≤ vec_capacity text.old }
         ensures reply { (reply : List ℕ) × (text.new.items ≡ text.old.items ++ reply)
             × Self.answers self.old method.now target.now body.now result reply self.new }

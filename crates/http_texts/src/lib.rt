@@ -3,4 +3,3 @@
 
 pub mod reply;
 pub mod request;
-pub mod status;

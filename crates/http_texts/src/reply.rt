@@ -1,10 +1,9 @@
 //! Replies, as bytes. Each is put together from its end to its front, in room that is there already: no memory is
 //! asked for.
 ghost use Rattle.std.specs.Prelude.{◌≡◌, ◌≤◌, ◌+◌, ◌++◌, true, length, drop, decimal};
-ghost use Rattle.http_texts.specs.ReplyText.{ending, error_line, length_lines, reply_text, status_line};
-ghost use Rattle.http_texts.specs.Status.{code};
+ghost use Rattle.http_texts.specs.ReplyText.{ending, error_line, length_lines, phrase, reply_text, status_line};
 
-use crate::status::Status;
+use http::StatusCode;
 
 /// Room for the head of any reply.
 pub const HEAD_ROOM: usize = 160;
@@ -28,8 +27,8 @@ fn put_piece(room: &mut [u8], end: usize, piece: &[u8]) -> usize
 fn put_number(room: &mut [u8], end: usize, number: usize) -> usize
     requires fits { 20 ≤ end }
     requires inside { end ≤ length room.old }
-    ensures start { end ≤ result + 20 }
-    ensures order { result ≤ end }
+    ensures start { result + length (decimal number) ≡ end }
+    ensures least { end ≤ result + 20 }
     ensures text { drop result room.new ≡ decimal number ++ drop end room.old }
 {
     itoa::write_digits(number as u64, room, end)
@@ -65,24 +64,33 @@ fn put_length(room: &mut [u8], end: usize, size: usize) -> usize
     )
 }
 
+/// Returns the reason phrase of a status, empty if it has none.
+#[tactic(auto, unfolding(crate::specs::ReplyText::phrase))]
+fn phrase(status: StatusCode) -> &'static str
+    ensures { result.now ≡ phrase status }
+{
+    status.canonical_reason().unwrap_or("")
+}
+
 /// Puts the status line.
 #[tactic(auto, unfolding(crate::specs::ReplyText::status_line))]
-fn put_status(room: &mut [u8], end: usize, status: Status) -> usize
+fn put_status(room: &mut [u8], end: usize, status: StatusCode) -> usize
     requires fits { 56 ≤ end }
     requires inside { end ≤ length room.old }
     ensures order { result ≤ end }
     ensures text { drop result room.new ≡ status_line status ++ drop end room.old }
 {
-    let words = put_piece(room, end, status.phrase().as_bytes());
+    let code = status.as_u16();
+    let words = put_piece(room, end, phrase(status).as_bytes());
     let blank = put_piece(room, words, b" ");
-    let digits = put_number(room, blank, usize::from(status.code()));
+    let digits = put_number(room, blank, usize::from(code));
     put_piece(room, digits, b"HTTP/1.1 ")
 }
 
 /// Puts the head of a reply before its body, which reaches from `body` to the end of the room, and answers where the
 /// reply begins.
 #[tactic(auto, unfolding(crate::specs::ReplyText::reply_text))]
-pub fn put_head(room: &mut [u8], body: usize, last: bool, status: Status) -> usize
+pub fn put_head(room: &mut [u8], body: usize, last: bool, status: StatusCode) -> usize
     requires fits { HEAD_ROOM ≤ body }
     requires inside { body ≤ length room.old }
     ensures order { result ≤ body }
@@ -109,11 +117,11 @@ fn put_error(room: &mut [u8], end: usize, code: u16) -> usize
 }
 
 /// Puts a whole reply that ends the stream at the end of the room, and answers where it begins.
-pub fn put_refusal(room: &mut [u8], status: Status) -> usize
+pub fn put_refusal(room: &mut [u8], status: StatusCode) -> usize
     requires fits { length room.old ≡ REFUSAL_ROOM }
     ensures order { result ≤ length room.new }
-    ensures text { drop result room.new ≡ reply_text true status (error_line (code status)) }
+    ensures text { drop result room.new ≡ reply_text true status (error_line status) }
 {
-    let body = put_error(room, REFUSAL_ROOM, status.code());
+    let body = put_error(room, REFUSAL_ROOM, status.as_u16());
     put_head(room, body, true, status)
 }

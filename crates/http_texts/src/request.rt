@@ -2,13 +2,14 @@
 ghost use Rattle.std.specs.Prelude.{◌≡◌, ◌++◌, IfOk, OnOk, decimal};
 ghost use Rattle.http_texts.specs.RequestText.{body_bytes, length_field, request_start, request_text};
 
+use http::Method;
 use itoa::Buffer;
 use std::alloc::{AllocError, Global};
 
 /// A request that is to be sent. `host` is what the field `Host` says, `path` the target.
 #[derive(Clone, Copy)]
 pub struct Ask<'a> {
-    pub method: &'a [u8],
+    pub method: &'a Method,
     pub host: &'a [u8],
     pub path: &'a [u8],
     pub body: Option<&'a [u8]>,
@@ -19,7 +20,7 @@ pub struct Ask<'a> {
 fn request_start(alloc: Global, ask: &Ask<'_>) -> Result<Vec<u8>, AllocError>
     ensures { IfOk result (λ out. out.items ≡ request_start ask.now.method.now ask.now.path.now) }
 {
-    let mut out = Vec::from_slice(alloc, ask.method)?;
+    let mut out = Vec::from_slice(alloc, ask.method.as_str().as_bytes())?;
     out.extend_from_slice(b" ")?;
     out.extend_from_slice(ask.path)?;
     out.extend_from_slice(b" HTTP/1.1\r\nHost: ")?;

@@ -5,11 +5,11 @@ use Rattle.program.specs.declared.device.FileFault.{FileFault}
 use Rattle.program.specs.declared.device.FileFault.TheVariants.{Missing, Failed, NoMemory}
 use Rattle.program.specs.declared.device.Stream.{Stream}
 use Rattle.program.specs.declared.device.Stream.TheVariants.{Answers, Faults}
-use Rattle.program.specs.Events.{Event, read, stored, wrote, printed, connected, listened, Runs}
+use Rattle.program.specs.Events.{Event, read, stored, wrote, printed, connected, listened, Does, Runs}
 use Rattle.program.specs.Reports.{ended, status_after, IsReported, IsFileReported, IsFailureReported, IsPrinted}
 use Rattle.program.specs.Courses.{Course, Reads, ReadsIfNamed, ReadsIfThere, GoesOnIfThere, Stores, Connects, Listens, Announces, WarnsIf}
-use Rattle.program.specs.inner.Loads.{IsFound, IsUnreadIfNamed}
-use Rattle.program.specs.inner.Ways.{IsUnread, IsUnreadThere, found_as}
+use Rattle.program.specs.inner.Served.{IsWarned}
+use Rattle.program.specs.inner.Ways.{IsFound, IsUnread, IsUnreadIfNamed, IsUnreadThere, found_as}
 
 pub failed_there : Failed ≡ Missing → ⊥
 failed_there e = absurd cc
@@ -132,17 +132,17 @@ module _ {L H : Type 0} (does : H → Event L → H → Type 0) where
       (connected address None ∷ run.0, (next, step, run.1), (None, run.0, refl, run.2))
 
   -- an address is listened at, and the run goes on, or it could not be
-  pub listens_on : (old next new : H) (address : List ℕ) (goes_on : Course L) (end : ℕ)
-      → does old (listened address true) next → Runs does next new (λ events. goes_on events end)
-      → Runs does old new (λ events. Listens address goes_on events end)
-  listens_on old next new address goes_on end step run =
-      (listened address true ∷ run.0, (next, step, run.1), (true, run.0, refl, run.2))
+  pub listens_on : (old next new : H) (address : List ℕ) (limit : Option ℕ) (goes_on : Course L) (end : ℕ)
+      → does old (listened address limit true) next → Runs does next new (λ events. goes_on events end)
+      → Runs does old new (λ events. Listens address limit goes_on events end)
+  listens_on old next new address limit goes_on end step run =
+      (listened address limit true ∷ run.0, (next, step, run.1), (true, run.0, refl, run.2))
 
-  pub listens_none : (old next new : H) (address : List ℕ) (goes_on : Course L) (end : ℕ)
-      → does old (listened address false) next → Runs does next new (λ events. IsFailureReported address events end)
-      → Runs does old new (λ events. Listens address goes_on events end)
-  listens_none old next new address goes_on end step run =
-      (listened address false ∷ run.0, (next, step, run.1), (false, run.0, refl, run.2))
+  pub listens_none : (old next new : H) (address : List ℕ) (limit : Option ℕ) (goes_on : Course L) (end : ℕ)
+      → does old (listened address limit false) next → Runs does next new (λ events. IsFailureReported address events end)
+      → Runs does old new (λ events. Listens address limit goes_on events end)
+  listens_none old next new address limit goes_on end step run =
+      (listened address limit false ∷ run.0, (next, step, run.1), (false, run.0, refl, run.2))
 
   -- a line is written, and the run goes on, or the stream failed
   pub announces_on : (old next new : H) (line : List ℕ) (goes_on : Course L) (end : ℕ)
@@ -157,16 +157,27 @@ module _ {L H : Type 0} (does : H → Event L → H → Type 0) where
   announces_none old new line goes_on end step is =
       (wrote Answers (ended line) false ∷ [], (new, step, refl), (false, [], refl, (refl, is)))
 
-  -- a warning is written, whether or not the stream takes it, and the run goes on
-  pub warns_on : (old next new : H) (due done : Bool) (line : List ℕ) (goes_on : Course L) (end : ℕ) → due ≡ true
-      → does old (wrote Faults (ended line) done) next → Runs does next new (λ events. goes_on events end)
+  -- a warning is written where it is due, whether or not the stream takes it, and the run goes on
+  pub warned_on : (old next new : H) (due : Bool) (line : List ℕ) (goes_on : Course L) (end : ℕ)
+      → Runs does old next (λ events. IsWarned due line events) → Runs does next new (λ events. goes_on events end)
       → Runs does old new (λ events. WarnsIf due line goes_on events end)
-  warns_on old next new false done line goes_on end due step run = absurd (cc)
-  warns_on old next new true done line goes_on end due step run =
-      (wrote Faults (ended line) done ∷ run.0, (next, step, run.1), (done, run.0, refl, run.2))
+  warned_on old next new false line goes_on end warned run =
+      let same = subst (λ (es : List (Event L)). Does does es old next) warned.2 warned.1 in
+      subst (λ (h : H). Runs does h new (λ events. goes_on events end)) same run
+  warned_on old next new true line goes_on end warned run =
+      let step = subst (λ (es : List (Event L)). Does does es old next) warned.2.1 warned.1 in
+      let event = wrote Faults (ended line) warned.2.0 in (
+        event ∷ run.0,
+        (step.0, step.1, subst (λ (h : H). Does does run.0 h new) step.2 run.1),
+        (warned.2.0, run.0, refl, run.2),
+      )
 
-  -- none is due
-  pub warns_not : (old new : H) (due : Bool) (line : List ℕ) (goes_on : Course L) (end : ℕ) → due ≡ false
-      → Runs does old new (λ events. goes_on events end) → Runs does old new (λ events. WarnsIf due line goes_on events end)
-  warns_not old new false line goes_on end due run = run
-  warns_not old new true line goes_on end due run = absurd (cc)
+  -- one was due, or none
+  pub warned_of : (old new : H) (due done : Bool) (line : List ℕ) → due ≡ true → does old (wrote Faults (ended line) done) new
+      → Runs does old new (λ events. IsWarned due line events)
+  warned_of old new false done line due step = absurd (cc)
+  warned_of old new true done line due step = (wrote Faults (ended line) done ∷ [], (new, step, refl), (done, refl))
+
+  pub not_warned_of : (old : H) (due : Bool) (line : List ℕ) → due ≡ false → Runs does old old (λ events. IsWarned due line events)
+  not_warned_of old false line due = ([], refl, refl)
+  not_warned_of old true line due = absurd (cc)

@@ -1,7 +1,7 @@
 -- The state of a site that took files, and why there is none.
-use Rattle.std.proofs.Common.{◌≡◌, ℕ, List, Option, None, Some, Result, Ok, Err, IfOk, IfErr, Vec, subst}
-use Rattle.http_service.specs.decision_texts.declared.refusal.Refusal.{Refusal}
-use Rattle.http_service.specs.decision_texts.Refusals.{no_memory}
+use Rattle.std.proofs.Common.{◌≡◌, ℕ, List, Option, Result, Ok, Err, IfOk, IfErr, subst}
+use Rattle.http_service.specs.answer_lines.declared.refusal.Refusal.{Refusal}
+use Rattle.http_service.specs.answer_lines.Refusals.{no_memory}
 use Rattle.site_loading.specs.site_steps.Seen.{Seen, schema_of, store_in}
 use Rattle.site_loading.specs.Loads as loads
 use Rattle.program.specs.Beginning.{IsBegun}

@@ -1,9 +1,10 @@
 -- What a pull comes to, from what came over the connection.
 use Rattle.std.proofs.Common.{◌≡◌, ◌≢◌, ◌⊎◌, inl, inr, ℕ, List, ◌∷◌, Option, Result, Ok, Err, IfOk, OnErr, refl}
 use Rattle.site_loading.specs.schema.Schemas.{StatedSchema}
+use Rattle.program_lines.specs.declared.line.PullOptions.{PullOptions}
 use Rattle.program_lines.specs.stamped_store.Store.{Store}
-use Rattle.http_service.specs.decision_texts.declared.refusal.Refusal.{Refusal}
-use Rattle.http_service.specs.decision_texts.Refusals.{no_memory}
+use Rattle.http_service.specs.answer_lines.declared.refusal.Refusal.{Refusal}
+use Rattle.http_service.specs.answer_lines.Refusals.{no_memory}
 use Rattle.state_exchanges.specs.http_devices.declared.devices.Source.{Ghosts as Source}
 use Rattle.state_exchanges.specs.http_devices.declared.devices.Sink.{Ghosts as Sink}
 use Rattle.state_exchanges.specs.Messages.{IsMessageRefused}
@@ -76,10 +77,11 @@ module _ {R W : Type 0} (reader : Source R) (writer : Sink W) (schema : List ℕ
       let n = network f refl in
       (n.0, n.1, n.2, n.3, λ other. reads (λ e. other cc), λ other. writes (λ e. other cc))
 
-  -- the connection is let go, and what came of the pull is told
-  pub pulled_over : {H : Type 0} (does : H → Event (Link R W) → H → Type 0) (old next new : H) (name : List ℕ)
-      (came : Result Pulled PullFault) (end : ℕ) → IsPull reader writer schema state address link came left → does old (closed left) next
-      → Runs does next new (λ events. IsPullTold address name came events end)
-      → Runs does old new (λ events. IsPulledOver reader writer schema state address name link events end)
-  pulled_over does old next new name came end pull gone told =
-      (closed left ∷ told.0, (next, gone, told.1), (came, left, pull, (told.0, refl, told.2)))
+-- the connection is let go, and what came of the pull is told
+pub pulled_over : {R W H : Type 0} (reader : Source R) (writer : Sink W) (options : PullOptions) (schema : List ℕ) (state : Option (List ℕ))
+    (link left : Link R W) (does : H → Event (Link R W) → H → Type 0) (old next new : H) (came : Result Pulled PullFault) (end : ℕ)
+    → IsPull reader writer schema state options.from.now link came left → does old (closed left) next
+    → Runs does next new (λ events. IsPullTold options came events end)
+    → Runs does old new (λ events. IsPulledOver reader writer options schema state link events end)
+pulled_over reader writer options schema state link left does old next new came end pull gone told =
+    (closed left ∷ told.0, (next, gone, told.1), (came, left, pull, (told.0, refl, told.2)))

@@ -6,8 +6,8 @@ use Rattle.std.proofs.Common.{IfOk, IfErr, refl, sym, ap, subst, arith, append_a
 use Rattle.state_exchanges.specs.http_devices.declared.devices.Source.{Ghosts as Source}
 use Rattle.state_exchanges.specs.http_devices.declared.devices.Sink.{Ghosts as Sink}
 use Rattle.state_exchanges.specs.http_streams.declared.serve.StreamFault.{StreamFault}
-use Rattle.http_service.specs.decision_texts.declared.refusal.Refusal.{Refusal}
-use Rattle.http_service.specs.decision_texts.Refusals.{no_memory}
+use Rattle.http_service.specs.answer_lines.declared.refusal.Refusal.{Refusal}
+use Rattle.http_service.specs.answer_lines.Refusals.{no_memory}
 use Rattle.site_loading.specs.schema.Schemas.{StatedSchema, IsSchemaOf}
 use Rattle.site_loading.specs.schema.Views.{schema_view}
 use Rattle.std.specs.FinMap.{len-empty, len-entries}
@@ -25,12 +25,12 @@ use Rattle.program.specs.declared.device.Link.{Link}
 use Rattle.program.specs.declared.device.NetworkFailed.{NetworkFailed}
 use Rattle.program.specs.declared.device.Stream.TheVariants.{Faults}
 use Rattle.program.specs.Events.{Event, accepted, closed, paused, served, wrote, Does, Runs}
-use Rattle.program.specs.Reports.{ended}
+use Rattle.program.specs.Reports.{ended, IsFailureReported}
 use Rattle.program.specs.Beginning.{BeginsWith, IsBegun, IsNotBegun, IsStateRefused, site_refusal}
 use Rattle.program.specs.Serving.{failing_line, pause_after, IsFailure, AreFailures, IsGivenUp, IsServedOver}
-use Rattle.program.specs.Serving.{IsNextServed, AreServed, AreAllServed}
-use Rattle.program.specs.inner.Begun.{IsBegunUnder, TakesState}
-use Rattle.program.specs.inner.Served.{IsFailureNoted, IsTried, IsAwaited, IsServingEnded, AreServedOrFewer}
+use Rattle.program.specs.Serving.{IsNextServed, AreServed, AreCutShort, AreAllServed}
+use Rattle.program.specs.inner.Begun.{TakesState}
+use Rattle.program.specs.inner.Served.{IsFailureNoted, IsTried, IsAwaited, AreServedOrFewer}
 
 -- ---- connections
 
@@ -194,23 +194,16 @@ module _ {R W H : Type 0} (does : H → Event (Link R W) → H → Type 0) (read
   )
 
   -- either is all of a run that serves
-  pub serving_ended : (address : List ℕ) (old mid new : H) (before after : Seen) (most end : ℕ) (r : Result (Unit {0}) NetworkFailed)
-      → Runs does old mid (λ events. AreServedOrFewer reader writer address most before r events after)
-      → Runs does mid new (λ events. IsServingEnded address r events end)
+  pub serving_done : (address : List ℕ) (old new : H) (before after : Seen) (most end : ℕ)
+      → Runs does old new (λ events. AreServed reader writer address most before events after) → end ≡ 0
       → Runs does old new (λ events. AreAllServed reader writer address most before events end)
-  serving_ended address old mid new before after most end (Ok done) so told = (
-    so.0 ++ told.0,
-    does_append does so.0 told.0 old mid new so.1 told.1,
-    inl (
-      (
-        after,
-        subst (λ (es : List (Event (Link R W))). AreServed reader writer address most before es after)
-            (sym (ap (λ (es : List (Event (Link R W))). so.0 ++ es) told.2.0 ∙ append-nil so.0)) so.2,
-      ),
-      told.2.1,
-    ),
-  )
-  serving_ended address old mid new before after most end (Err failed) so told = (
+  serving_done address old new before after most end so is = (so.0, so.1, inl ((after, so.2), is))
+
+  pub serving_cut : (address : List ℕ) (old mid new : H) (before after : Seen) (most end : ℕ)
+      → Runs does old mid (λ events. AreCutShort reader writer address most before events after)
+      → Runs does mid new (λ events. IsFailureReported address events end)
+      → Runs does old new (λ events. AreAllServed reader writer address most before events end)
+  serving_cut address old mid new before after most end so told = (
     so.0 ++ told.0,
     does_append does so.0 told.0 old mid new so.1 told.1,
     inr (after, so.0, told.0, so.2, told.2, refl),
@@ -242,34 +235,40 @@ refused_as_told s bytes fault r is none other =
 none_of_empty : updates (store_of []) ≡ []
 none_of_empty = none_long (updates (store_of [])) (sym (len-entries (store_of [])) ∙ len-empty name_cmp PlainEntry)
 
-begun_by : (s : StatedSchema) (name : List ℕ) (bytes : List ℕ) (before after : Seen) → schema_of before ≡ s → before.name ≡ name
-    → store_in before ≡ store_of [] → TakesState before bytes after → IsBegunUnder s name (Some bytes) after
-begun_by s name bytes before after schema_is name_is store_is takes = record {
-  schema_is = ap schema_view takes.3.0 ∙ schema_is;
-  name_is = takes.3.1 ∙ name_is;
-  begins = (
-    takes.0,
-    subst (λ (t : StatedSchema). IsMessageOf t bytes takes.0) schema_is takes.1,
-    takes.2 ∙ ap (λ us. store_of (us ++ plain_updates takes.0)) (ap updates store_is ∙ none_of_empty),
-  );
-}
+begun_by : (schema name bytes : List ℕ) (before after : Seen) → IsSchemaOf schema (schema_of before) → before.name ≡ name
+    → store_in before ≡ store_of [] → TakesState before bytes after → IsBegun schema name (Some bytes) after
+begun_by schema name bytes before after schema_is name_is store_is takes =
+    let same : schema_of before ≡ schema_of after = sym (ap schema_view takes.3.0) in
+    record {
+      schema_is = subst (IsSchemaOf schema) same schema_is;
+      name_is = takes.3.1 ∙ name_is;
+      begins = (
+        takes.0,
+        subst (λ (s : StatedSchema). IsMessageOf s bytes takes.0) same takes.1,
+        takes.2 ∙ ap (λ us. store_of (us ++ plain_updates takes.0)) (ap updates store_is ∙ none_of_empty),
+      );
+    }
 
 -- over a result
-pub begun_over : (s : StatedSchema) (name : List ℕ) (bytes : List ℕ) (before : Seen) (r : Result Seen Refusal) → schema_of before ≡ s
-    → before.name ≡ name → store_in before ≡ store_of [] → IfOk r (TakesState before bytes) → IfOk r (IsBegunUnder s name (Some bytes))
-begun_over s name bytes before (Ok after) schema_is name_is store_is takes = begun_by s name bytes before after schema_is name_is store_is takes
-begun_over s name bytes before (Err r) schema_is name_is store_is takes = tt
+pub begun_over : (schema name : List ℕ) (state : Option (List ℕ)) (bytes : List ℕ) (before : Seen) (r : Result Seen Refusal) → state ≡ Some bytes
+    → IsSchemaOf schema (schema_of before) → before.name ≡ name → store_in before ≡ store_of [] → IfOk r (TakesState before bytes) → IfOk r (IsBegun schema name state)
+begun_over schema name state bytes before (Ok after) state_is schema_is name_is store_is takes =
+    subst (λ (o : Option (List ℕ)). IsBegun schema name o after) (sym state_is) (begun_by schema name bytes before after schema_is name_is store_is takes)
+begun_over schema name state bytes before (Err r) state_is schema_is name_is store_is takes = tt
 
-pub begun_as : (schema : List ℕ) (s : StatedSchema) (name : List ℕ) (state : Option (List ℕ)) (r : Result Seen Refusal) → IsSchemaOf schema s
-    → IfOk r (IsBegunUnder s name state) → IfOk r (IsBegun schema name state)
-begun_as schema s name state (Ok site) is begun = record {
-  schema_is = subst (IsSchemaOf schema) (sym begun.schema_is) is;
-  name_is = begun.name_is;
-  begins = subst (λ (t : StatedSchema). BeginsWith t state (store_in site)) (sym begun.schema_is) begun.begins;
-}
-begun_as schema s name state (Err r) is begun = tt
+-- with none
+pub begun_empty : (schema name : List ℕ) (state : Option (List ℕ)) (before after : Seen) → state ≡ None → after ≡ before
+    → IsSchemaOf schema (schema_of before) → before.name ≡ name → store_in before ≡ store_of [] → IsBegun schema name state after
+begun_empty schema name state before after state_is same schema_is name_is store_is =
+    subst (IsBegun schema name state) (sym same) (record {
+      schema_is = schema_is;
+      name_is = name_is;
+      begins = subst (λ (o : Option (List ℕ)). BeginsWith (schema_of before) o (store_in before)) (sym state_is) store_is;
+    })
 
-pub not_begun_as : (schema : List ℕ) (s : StatedSchema) (state : Option (List ℕ)) (r : Result Seen Refusal) → IsSchemaOf schema s
-    → IfErr r (λ f. (f ≡ no_memory → ⊥) → IsStateRefused s state f) → IfErr r (λ f. (f ≡ no_memory → ⊥) → IsNotBegun schema state f)
-not_begun_as schema s state (Ok site) is refused = tt
-not_begun_as schema s state (Err r) is refused = λ other. inr (s, is, refused other)
+pub not_begun_over : (schema : List ℕ) (state : Option (List ℕ)) (bytes : List ℕ) (before : Seen) (r : Result Seen Refusal) → state ≡ Some bytes
+    → IsSchemaOf schema (schema_of before) → IfErr r (λ f. (f ≡ no_memory → ⊥) → IsStateRefused (schema_of before) (Some bytes) f)
+    → IfErr r (λ f. (f ≡ no_memory → ⊥) → IsNotBegun schema state f)
+not_begun_over schema state bytes before (Ok site) state_is schema_is refused = tt
+not_begun_over schema state bytes before (Err f) state_is schema_is refused = λ other.
+    inr (schema_of before, schema_is, subst (λ (o : Option (List ℕ)). IsStateRefused (schema_of before) o f) (sym state_is) (refused other))

@@ -8,7 +8,7 @@ use Rattle.program_lines.specs.stamped_store.Store.{Store, store_of}
 use Rattle.state_exchanges.specs.message_format.declared.fault.MessageFault.{MessageFault}
 use Rattle.state_exchanges.specs.message_format.declared.update.Update.{Update as SentUpdate}
 use Rattle.state_exchanges.specs.message_format.Updates.{plain_updates}
-use Rattle.http_service.specs.decision_texts.declared.refusal.Refusal.{Refusal}
+use Rattle.http_service.specs.answer_lines.declared.refusal.Refusal.{Refusal}
 use Rattle.program_drills.specs.schema_decisions.Checks.{IsSchemaRefused}
 use Rattle.site_loading.specs.site_steps.Faults.{code_of, place_of, within_of}
 use Rattle.site_loading.specs.site_steps.Seen.{Seen, schema_of, store_in}

@@ -1,7 +1,7 @@
 -- How a run goes on, step by step: it reads files, writes one, opens a connection, and tells what came of it.
 -- A rule of this product.
 use Rattle.std.specs.Prelude.{◌≡◌, ◌⊎◌, ℕ, Bool, true, false, List, [], ◌∷◌, Option, None, Some, Result, Ok, Err}
-use Rattle.http_service.specs.decision_texts.declared.refusal.Refusal.{Refusal}
+use Rattle.http_service.specs.answer_lines.declared.refusal.Refusal.{Refusal}
 use Rattle.program.specs.declared.device.FileFault.{FileFault}
 use Rattle.program.specs.declared.device.FileFault.TheVariants as file
 use Rattle.program.specs.Events.{Event, read, stored, wrote, connected, listened}
@@ -75,14 +75,15 @@ module _ {L : Type 0} where
   Connects address goes_on events end = (came : Option L) × (rest : List (Event L))
       × (events ≡ connected address came ∷ rest) × GoesOnConnected address goes_on came rest end
 
-  -- an address is listened at, and the run goes on; where it could not be, that is told and the run ends
+  -- an address is listened at, for connections of this limit, if one is given, and the run goes on; where it could not
+  -- be, that is told and the run ends
   abbrev pub GoesOnListening : List ℕ → Course L → Bool → Course L
   GoesOnListening address goes_on true = goes_on
   GoesOnListening address goes_on false = IsFailureReported address
 
-  abbrev pub Listens : List ℕ → Course L → Course L
-  Listens address goes_on events end = (done : Bool) × (rest : List (Event L))
-      × (events ≡ listened address done ∷ rest) × GoesOnListening address goes_on done rest end
+  abbrev pub Listens : List ℕ → Option ℕ → Course L → Course L
+  Listens address limit goes_on events end = (done : Bool) × (rest : List (Event L))
+      × (events ≡ listened address limit done ∷ rest) × GoesOnListening address goes_on done rest end
 
   -- a line goes to standard output, and the run goes on; where the stream failed it ends with 3
   abbrev pub GoesOnAnnounced : Course L → Bool → Course L

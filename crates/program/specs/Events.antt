@@ -20,8 +20,9 @@ pub data Event (L : Type 0) : Type 0 where
   printed : Stream → LineFault → Bool → Event L
   -- to this address a connection was opened, this one, or none could be
   connected : List ℕ → Option L → Event L
-  -- this address was listened at, or could not be
-  listened : List ℕ → Bool → Event L
+  -- this address was listened at, or could not be; where a limit is given, a read or a write of a connection that comes
+  -- there fails once it has taken so many seconds
+  listened : List ℕ → Option ℕ → Bool → Event L
   -- a connection came, this one, or failed before it stood
   accepted : Option L → Event L
   -- a connection was let go as this, and nothing goes over it any more
@@ -49,7 +50,7 @@ abbrev pub Changes : {L O E : Type 0} → (O → Option (List ℕ)) → (E → O
 Changes held told out err (read name bytes) new_out new_err = (new_out ≡ out) × (new_err ≡ err)
 Changes held told out err (stored name bytes done) new_out new_err = (new_out ≡ out) × (new_err ≡ err)
 Changes held told out err (connected address came) new_out new_err = (new_out ≡ out) × (new_err ≡ err)
-Changes held told out err (listened address done) new_out new_err = (new_out ≡ out) × (new_err ≡ err)
+Changes held told out err (listened address limit done) new_out new_err = (new_out ≡ out) × (new_err ≡ err)
 Changes held told out err (accepted came) new_out new_err = (new_out ≡ out) × (new_err ≡ err)
 Changes held told out err (closed link) new_out new_err = (new_out ≡ out) × (new_err ≡ err)
 Changes held told out err (served how) new_out new_err = (new_out ≡ out) × (new_err ≡ err)

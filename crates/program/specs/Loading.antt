@@ -2,10 +2,11 @@
 -- Rules of this product: the files are read before anything is judged, first the schema, then the state to begin with,
 -- then the policies, then the entities, each if it is named; a site begins as one that is served, and its state after
 -- the puts is told; where anything is refused, no state is.
-use Rattle.std.specs.Prelude.{◌⊎◌, ℕ, List, Option}
-use Rattle.http_service.specs.decision_texts.declared.refusal.Refusal.{Refusal}
+use Rattle.std.specs.Prelude.{ℕ, List, Option, option_map}
+use Rattle.http_service.specs.answer_lines.declared.refusal.Refusal.{Refusal}
 use Rattle.site_loading.specs.site_steps.Seen.{Seen, schema_of, store_in}
 use Rattle.site_loading.specs.Loads as loads
+use Rattle.program_lines.specs.declared.line.LoadOptions.{LoadOptions}
 use Rattle.program.specs.Beginning.{IsBegun, IsNotBegun}
 use Rattle.program.specs.Courses.{Course, Reads, ReadsIfNamed, IsLineOrRefusal}
 
@@ -30,10 +31,10 @@ module _ {L : Type 0} where
       IsLineOrRefusal (IsLoaded schema name state policies entities) (IsLoadRefused schema name state policies entities)
 
   -- the files of these names are read, in this order, and then put
-  abbrev pub IsLoadRun : List ℕ → List ℕ → Option (List ℕ) → Option (List ℕ) → Option (List ℕ) → Course L
-  IsLoadRun schema_name site state_name policies_name entities_name =
-      Reads schema_name (λ schema.
-      ReadsIfNamed state_name (λ state.
-      ReadsIfNamed policies_name (λ policies.
-      ReadsIfNamed entities_name (λ entities.
-      IsLoadedOrRefused schema site state policies entities))))
+  abbrev pub IsLoadRun : LoadOptions → Course L
+  IsLoadRun options =
+      Reads options.schema.now (λ schema.
+      ReadsIfNamed (option_map (λ s. s.now) options.state) (λ state.
+      ReadsIfNamed (option_map (λ s. s.now) options.policies) (λ policies.
+      ReadsIfNamed (option_map (λ s. s.now) options.entities) (λ entities.
+      IsLoadedOrRefused schema options.site state policies entities))))

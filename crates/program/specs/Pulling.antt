@@ -2,9 +2,10 @@
 -- before anything is judged, and the state's file is written last, where nothing was refused.
 use Rattle.std.specs.Prelude.{◌≡◌, ◌≢◌, ◌⊎◌, ℕ, List, ◌∷◌, Option, Result, Ok, Err}
 use Rattle.site_loading.specs.schema.Schemas.{StatedSchema}
+use Rattle.program_lines.specs.declared.line.PullOptions.{PullOptions}
 use Rattle.program_lines.specs.stamped_store.Store.{Store}
-use Rattle.http_service.specs.decision_texts.declared.refusal.Refusal.{Refusal}
-use Rattle.http_service.specs.decision_texts.Refusals.{no_memory}
+use Rattle.http_service.specs.answer_lines.declared.refusal.Refusal.{Refusal}
+use Rattle.http_service.specs.answer_lines.Refusals.{no_memory}
 use Rattle.state_exchanges.specs.http_devices.declared.devices.Source.{Ghosts as Source}
 use Rattle.state_exchanges.specs.http_devices.declared.devices.Sink.{Ghosts as Sink}
 use Rattle.state_exchanges.specs.declared.fault.NetworkFault.TheVariants as network
@@ -23,12 +24,12 @@ use Rattle.program.specs.Courses.{Course, Reads, ReadsIfThere, Connects, Stores}
 
 -- what came of a pull is told: the new state is written, and then how many updates came, where there is memory for that
 -- line; or the address where the network failed; or why texts or message were refused
-abbrev pub IsPullTold : {L : Type 0} → List ℕ → List ℕ → Result Pulled PullFault → Course L
-IsPullTold address name (Ok pulled) events end =
-    Stores name pulled.state.items (IsAnswerReported (taken_report_line pulled.taken)) events end
+abbrev pub IsPullTold : {L : Type 0} → PullOptions → Result Pulled PullFault → Course L
+IsPullTold options (Ok pulled) events end =
+    Stores options.state.now pulled.state.items (IsAnswerReported (taken_report_line pulled.taken)) events end
     ⊎ IsMemoryReported events end
-IsPullTold address name (Err (Network fault)) events end = IsFailureReported address events end
-IsPullTold address name (Err (Refused refusal)) events end = IsRefusalReported refusal events end
+IsPullTold options (Err (Network fault)) events end = IsFailureReported options.from.now events end
+IsPullTold options (Err (Refused refusal)) events end = IsRefusalReported refusal events end
     ⊎ IsMemoryReported events end
 
 module _ {R W : Type 0} (reader : Source R) (writer : Sink W) where
@@ -77,14 +78,14 @@ module _ {R W : Type 0} (reader : Source R) (writer : Sink W) where
       × (fault ≢ network.Write → NoWriteFailed link left)
 
   -- what is news is pulled over the connection that was opened, which is let go, and what came of it is told
-  abbrev pub IsPulledOver : List ℕ → Option (List ℕ) → List ℕ → List ℕ → Link R W → Course (Link R W)
-  IsPulledOver schema state address name link events end = (came : Result Pulled PullFault) × (left : Link R W)
-      × IsPull schema state address link came left
-      × ((rest : List (Event (Link R W))) × (events ≡ closed left ∷ rest) × IsPullTold address name came rest end)
+  abbrev pub IsPulledOver : PullOptions → List ℕ → Option (List ℕ) → Link R W → Course (Link R W)
+  IsPulledOver options schema state link events end = (came : Result Pulled PullFault) × (left : Link R W)
+      × IsPull schema state options.from.now link came left
+      × ((rest : List (Event (Link R W))) × (events ≡ closed left ∷ rest) × IsPullTold options came rest end)
 
-  -- first the schema, then the state, if there is one; then the connection
-  abbrev pub IsPullRun : List ℕ → List ℕ → List ℕ → Course (Link R W)
-  IsPullRun schema_name address state_name =
-      Reads schema_name (λ schema.
-      ReadsIfThere state_name (λ state.
-      Connects address (IsPulledOver schema state address state_name)))
+  -- first the schema, then the state, if there is one; then the connection; the site's name changes nothing of it
+  abbrev pub IsPullRun : PullOptions → Course (Link R W)
+  IsPullRun options =
+      Reads options.schema.now (λ schema.
+      ReadsIfThere options.state.now (λ state.
+      Connects options.from.now (IsPulledOver options schema state)))

@@ -2,10 +2,11 @@
 -- is used; connections come one after another, and each is served, over itself, from what the one before left. Where
 -- none could be accepted, that is warned of and tried again, each time after a pause, and changes nothing else.
 use Rattle.std.specs.Prelude.{◌≡◌, ◌⊎◌, ℕ, zero, suc, ◌*◌, ◌<◌, min, Bool, List, [], ◌∷◌, ◌++◌, Option, None, Some}
-use Rattle.std.specs.Prelude.{Result, codes}
+use Rattle.std.specs.Prelude.{Result, codes, option_map}
 use Rattle.state_exchanges.specs.http_devices.declared.devices.Source.{Ghosts as Source}
 use Rattle.state_exchanges.specs.http_devices.declared.devices.Sink.{Ghosts as Sink}
 use Rattle.state_exchanges.specs.http_streams.declared.serve.StreamFault.{StreamFault}
+use Rattle.program_lines.specs.declared.line.ServeOptions.{ServeOptions}
 use Rattle.program_lines.specs.stamped_store.Stamping.{has_stamps_of}
 use Rattle.site_loading.specs.site_steps.Seen.{Seen, store_in}
 use Rattle.http_service.specs.Serving.{IsServed}
@@ -83,21 +84,26 @@ module _ {R W : Type 0} (reader : Source R) (writer : Sink W) where
       ⊎ ((last : Seen) × (first rest : List (Event (Link R W))) × AreCutShort address most site first last
       × IsFailureReported address rest end × (events ≡ first ++ rest))
 
-  -- a site of this name that has begun says where it listens once it does, and serves; and where it begins with stamps
-  -- of its name, warns of that first
-  abbrev pub IsServedAt : List ℕ → List ℕ → ℕ → Seen → Course (Link R W)
-  IsServedAt name address most site = WarnsIf (has_stamps_of name (store_in site)) (own_stamps_line name)
-      (Listens address (Announces (codes "listening " ++ address) (AreAllServed address most site)))
+  -- a site that listens says where, and serves
+  abbrev pub IsServedListening : ServeOptions → Seen → Course (Link R W)
+  IsServedListening options site = Announces (codes "listening " ++ options.listen.now)
+      (AreAllServed options.listen.now (most_of options.connections) site)
+
+  -- a site that has begun listens, for connections that are idle for so long at most, if that is given, and where it
+  -- begins with stamps of its name, warns of that first
+  abbrev pub IsServedAt : ServeOptions → Seen → Course (Link R W)
+  IsServedAt options site = WarnsIf (has_stamps_of options.site (store_in site)) (own_stamps_line options.site)
+      (Listens options.listen.now options.idle (IsServedListening options site))
 
   -- the site begins and is served, or the texts are refused
-  abbrev pub IsServedFrom : List ℕ → List ℕ → Option (List ℕ) → List ℕ → Option ℕ → Course (Link R W)
-  IsServedFrom schema name state address connections events end =
-      ((site : Seen) × IsBegun schema name state site × IsServedAt name address (most_of connections) site events end)
+  abbrev pub IsServedFrom : ServeOptions → List ℕ → Option (List ℕ) → Course (Link R W)
+  IsServedFrom options schema state events end =
+      ((site : Seen) × IsBegun schema options.site state site × IsServedAt options site events end)
       ⊎ IsRefusedFor (IsNotBegun schema state) events end
 
   -- first the schema, then the state, if one is named
-  abbrev pub IsServeRun : List ℕ → List ℕ → Option (List ℕ) → List ℕ → Option ℕ → Course (Link R W)
-  IsServeRun schema_name name state_name address connections =
-      Reads schema_name (λ schema.
-      ReadsIfNamed state_name (λ state.
-      IsServedFrom schema name state address connections))
+  abbrev pub IsServeRun : ServeOptions → Course (Link R W)
+  IsServeRun options =
+      Reads options.schema.now (λ schema.
+      ReadsIfNamed (option_map (λ s. s.now) options.state) (λ state.
+      IsServedFrom options schema state))

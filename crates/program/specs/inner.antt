@@ -1,4 +1,3 @@
 pub mod Begun
-pub mod Loads
 pub mod Served
 pub mod Ways

@@ -45,9 +45,10 @@ pub trait Host {
         ensures { MatchResult result (λ link. does self.old (connected address.now (Some link)) self.new)
             (λ failed. does self.old (connected address.now None) self.new) };
 
-    /// Listens at an address.
-    fn listen(&mut self, address: &str) -> Result<Self::Listener, NetworkFailed>
-        ensures { does self.old (listened address.now (is_ok result)) self.new };
+    /// Listens at an address. If a number is given, a read or a write of a connection that comes there fails once it
+    /// has taken so many seconds.
+    fn listen(&mut self, address: &str, idle: Option<u32>) -> Result<Self::Listener, NetworkFailed>
+        ensures { does self.old (listened address.now idle (is_ok result)) self.new };
 
     /// Waits for the next connection.
     fn accept(

@@ -1,8 +1,8 @@
 //! Files that a run reads.
-ghost use Rattle.std.specs.Prelude.{Ok, MatchResult, option_map};
+ghost use Rattle.std.specs.Prelude.{◌≡◌, Ok, MatchResult, option_map};
 ghost use Rattle.std.specs.Process.{exit_status};
 ghost use Rattle.program.specs.Events.{read, Runs};
-ghost use Rattle.program.specs.inner.Ways.{found_as, IsUnread, IsUnreadThere};
+ghost use Rattle.program.specs.inner.Ways.{found_as, IsFound, IsUnread, IsUnreadIfNamed, IsUnreadThere};
 
 use crate::device::FileFault;
 use crate::host::Host;
@@ -20,6 +20,26 @@ pub(crate) fn read_file<H: Host>(host: &mut H, name: &str) -> Result<Vec<u8>, Ex
     }
 }
 
+/// Returns the same, of a file that need not be named.
+pub(crate) fn read_if_named<H: Host>(
+    host: &mut H,
+    name: Option<&str>,
+) -> Result<Option<Vec<u8>>, ExitCode>
+    ensures { MatchResult result
+        (λ found. IsFound H.does (option_map (λ s. s.now) name.entry) (option_map (λ bytes. bytes.items) found)
+        host.old host.new)
+        (λ end. Runs H.does host.old host.new
+        (λ events. IsUnreadIfNamed (option_map (λ s. s.now) name.entry) events (exit_status end))) }
+{
+    match name {
+        Some(name) => match read_file(host, name) {
+            Ok(bytes) => Ok(Some(bytes)),
+            Err(end) => Err(end),
+        },
+        None => Ok(None),
+    }
+}
+
 /// Returns the same, of a file that need not be there.
 pub(crate) fn read_if_there<H: Host>(host: &mut H, name: &str) -> Result<Option<Vec<u8>>, ExitCode>
     ensures { MatchResult result
@@ -31,5 +51,15 @@ pub(crate) fn read_if_there<H: Host>(host: &mut H, name: &str) -> Result<Option<
         Err(FileFault::Missing) => Ok(None),
         Err(FileFault::Failed) => Err(report_file(host, name, FileFault::Failed)),
         Err(FileFault::NoMemory) => Err(report_file(host, name, FileFault::NoMemory)),
+    }
+}
+
+/// Returns the bytes of a file that need not be there.
+pub(crate) fn lent(file: &Option<Vec<u8>>) -> Option<&[u8]>
+    ensures { option_map (λ s. s.now) result ≡ option_map (λ s. s.items) file.now }
+{
+    match file {
+        Some(bytes) => Some(bytes.as_slice()),
+        None => None,
     }
 }

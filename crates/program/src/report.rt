@@ -1,7 +1,7 @@
 //! What a run writes at its end, and the status that it ends with.
-ghost use Rattle.std.specs.Prelude.{◌≡◌, ◌⊎◌, ◌++◌, is_ok, if◌then◌else◌};
+ghost use Rattle.std.specs.Prelude.{◌≡◌, ◌⊎◌, ◌++◌, is_ok};
 ghost use Rattle.std.specs.Process.{exit_status};
-ghost use Rattle.http_service.specs.decision_texts.Refusals.{error_line};
+ghost use Rattle.http_service.specs.answer_lines.Refusals.{error_line};
 ghost use Rattle.program.specs.Events.{Runs};
 ghost use Rattle.program.specs.Reports.{IsReported, IsAnswerReported, IsRefusalReported, IsMemoryReported};
 ghost use Rattle.program.specs.Reports.{IsFileReported};
@@ -31,7 +31,7 @@ pub(crate) const FAILED: u8 = 3;
 const NO_MEMORY_LINE: &[u8; 47] = b"{\"error\":{\"code\":1,\"place\":null,\"within\":null}}";
 
 /// Returns the status of a run whose last writing came to this.
-pub(crate) fn status_of(written: Result<(), StreamFailed>, status: u8) -> ExitCode
+fn status_of(written: Result<(), StreamFailed>, status: u8) -> ExitCode
     ensures { exit_status result ≡ status_after (is_ok written) status }
 {
     match written {
@@ -56,19 +56,12 @@ pub(crate) fn report_answer<H: Host>(host: &mut H, line: &[u8]) -> ExitCode
     tell(host, Stream::Answers, "", line, ANSWERED)
 }
 
-/// Returns the status of a run that tells of policies.
-fn check_status(some_refused: bool) -> u8
-    ensures { result ≡ if some_refused then 1 else 0 }
-{
-    if some_refused { REFUSED } else { ANSWERED }
-}
-
 /// Writes the lines of policies, if there are any.
 pub(crate) fn report_lines<H: Host>(host: &mut H, lines: &[u8], some_refused: bool) -> ExitCode
     ensures { Runs H.does host.old host.new
         (λ events. AreLinesReported lines.now some_refused events (exit_status result)) }
 {
-    let status = check_status(some_refused);
+    let status = if some_refused { REFUSED } else { ANSWERED };
     if lines.is_empty() {
         return ExitCode::from(status);
     }

@@ -16,50 +16,20 @@ use program_lines::{Line, line_of};
 use std::alloc::Global;
 use std::process::ExitCode;
 
-/// Carries out a command. The name that `pull` is given is for the record alone: nothing is stamped.
+/// Carries out a command.
 fn run_line<H: Host>(alloc: Global, host: &mut H, line: &Line<'_>) -> ExitCode
     requires { HasSites line.now }
     ensures { Runs H.does host.old host.new (λ events.
         IsLineRun H.Reader.Source H.Writer.Sink line.now events (exit_status result)) }
 {
     match line {
-        Line::Check { schema, policies } => run_check(alloc, host, schema, policies),
-        Line::Decide {
-            schema,
-            policies,
-            entities,
-            request,
-        } => run_decide(alloc, host, *schema, policies, entities, request),
-        Line::Load {
-            schema,
-            site,
-            policies,
-            entities,
-            state,
-        } => run_load(alloc, host, schema, *site, *state, *policies, *entities),
-        Line::Serve {
-            schema,
-            site,
-            listen,
-            state,
-            connections,
-        } => run_serve(alloc, host, schema, *site, *state, listen, *connections),
-        Line::Pull {
-            schema,
-            site: _,
-            from,
-            state,
-        } => run_pull(alloc, host, schema, from, state),
-        Line::Merge {
-            schema,
-            first,
-            second,
-        } => run_merge(alloc, host, schema, first, second),
-        Line::Drill {
-            schema,
-            sites,
-            script,
-        } => run_drill(alloc, host, schema, *sites, script),
+        Line::Check(options) => run_check(alloc, host, options),
+        Line::Decide(options) => run_decide(alloc, host, options),
+        Line::Load(options) => run_load(alloc, host, options),
+        Line::Serve(options) => run_serve(alloc, host, options),
+        Line::Pull(options) => run_pull(alloc, host, options),
+        Line::Merge(options) => run_merge(alloc, host, options),
+        Line::Drill(options) => run_drill(alloc, host, options),
     }
 }
 

@@ -1,21 +1,20 @@
 //! A site that is served, one connection after another.
-ghost use Rattle.std.specs.Prelude.{◌≡◌, ◌*◌, ◌++◌, min, option_map, codes};
+ghost use Rattle.std.specs.Prelude.{◌≡◌, ◌*◌, min};
 ghost use Rattle.std.specs.Process.{exit_status};
+ghost use Rattle.program_lines.specs.stamped_store.Stamping.{has_stamps_of};
+ghost use Rattle.site_loading.specs.site_steps.Seen.{store_in};
 ghost use Rattle.program.specs.Events.{Runs};
-ghost use Rattle.program.specs.Courses.{Announces, Listens};
-ghost use Rattle.program.specs.Serving.{AreAllServed, IsServedOver, IsServedFrom, IsServedAt, IsServeRun};
-ghost use Rattle.program.specs.Serving.{most_of, pause_after};
+ghost use Rattle.program.specs.Serving.{IsServedAt, IsServeRun, most_of, own_stamps_line, pause_after};
 ghost use Rattle.program.specs.inner.Served.{AreServedOrFewer, IsAwaited, IsFailureNoted, IsNextOrNone};
-ghost use Rattle.program.specs.inner.Served.{IsServeNamed, IsServeUnder, IsServingEnded, IsTried};
+ghost use Rattle.program.specs.inner.Served.{IsTried, IsWarned};
 
 use crate::begin::begin;
-use crate::device::{Link, NetworkFailed, Stream};
+use crate::device::{Link, NetworkFailed, Stream, StreamFailed};
 use crate::host::Host;
-use crate::reading::read_file;
-use crate::report::{ANSWERED, report_failure, report_refusal, status_of};
+use crate::reading::{lent, read_file, read_if_named};
+use crate::report::{ANSWERED, FAILED, report_failure, report_refusal};
 use http_service::{Site, serve};
-use program_lines::SiteName;
-use state_exchanges::{Sink, Source, StreamFault};
+use program_lines::{ServeOptions, SiteName};
 use std::alloc::Global;
 use std::process::ExitCode;
 
@@ -33,17 +32,6 @@ const LONGEST_PAUSE: u64 = 1000;
 
 /// How often in a row a connection can fail before it stands. No run comes to that.
 const MOST_FAILURES: u64 = u64::MAX;
-
-/// Answers what comes over a connection, as `serve` says, and returns how that ended.
-fn serve_link<R: Source, W: Sink>(
-    alloc: Global,
-    site: &mut Site,
-    link: &mut Link<R, W>,
-) -> Result<(), StreamFault>
-    ensures { IsServedOver R.Source W.Sink site.old link.old result link.new site.new }
-{
-    serve(alloc, site, &mut link.reader, &mut link.writer)
-}
 
 /// Returns the pause behind the next failure: twice as long, up to the longest.
 fn longer(pause: u64) -> u64
@@ -118,7 +106,7 @@ fn serve_next<H: Host>(
 {
     match next_link(host, listener, address) {
         Ok(mut link) => {
-            let end = serve_link(alloc, site, &mut link);
+            let end = serve(alloc, site, &mut link.reader, &mut link.writer);
             host.close(link);
             host.note_served(end);
             Ok(())
@@ -157,171 +145,64 @@ fn most_of(connections: Option<u32>) -> u64
     }
 }
 
-/// Ends a run that served, and tells it where no connection could be accepted any more.
-fn end_served<H: Host>(host: &mut H, address: &str, served: Result<(), NetworkFailed>) -> ExitCode
-    ensures { Runs H.does host.old host.new
-        (λ events. IsServingEnded address.now served events (exit_status result)) }
-{
-    match served {
-        Ok(()) => status_of(Ok(()), ANSWERED),
-        Err(NetworkFailed) => report_failure(host, address),
-    }
-}
-
-/// Serves so many connections, and ends.
-fn serve_to_end<H: Host>(
-    alloc: Global,
-    host: &mut H,
-    listener: &H::Listener,
-    mut site: Site,
-    address: &str,
-    most: u64,
-) -> ExitCode
+/// Warns where a site begins with stamps of its name, since a name is to be used once: stamps that are given again
+/// under it would name other updates.
+fn warn_of_own_stamps<H: Host>(host: &mut H, site: &Site, name: SiteName)
     ensures { Runs H.does host.old host.new (λ events.
-        AreAllServed H.Reader.Source H.Writer.Sink address.now most site events (exit_status result)) }
+        IsWarned (has_stamps_of name (store_in site.now)) (own_stamps_line name) events) }
 {
-    let served = serve_all(alloc, host, listener, address, &mut site, most);
-    end_served(host, address, served)
-}
-
-/// Says where the site listens, and then serves.
-fn serve_listening<H: Host>(
-    alloc: Global,
-    host: &mut H,
-    listener: &H::Listener,
-    site: Site,
-    address: &str,
-    most: u64,
-) -> ExitCode
-    ensures { Runs H.does host.old host.new (λ events. Announces (codes "listening " ++ address.now)
-        (AreAllServed H.Reader.Source H.Writer.Sink address.now most site) events (exit_status result)) }
-{
-    let place = address.as_bytes();
-    match host.write_line(Stream::Answers, "listening ", place) {
-        Ok(()) => serve_to_end(alloc, host, listener, site, address, most),
-        Err(failed) => status_of(Err(failed), ANSWERED),
+    if !site.has_stamps_of(name) {
+        return;
     }
+    let _ = host.write_line(Stream::Faults, OWN_STAMPS, name.as_bytes());
 }
 
-/// Listens at an address, and then serves.
-fn serve_at<H: Host>(alloc: Global, host: &mut H, site: Site, address: &str, most: u64) -> ExitCode
-    ensures { Runs H.does host.old host.new (λ events. Listens address.now
-        (Announces (codes "listening " ++ address.now)
-        (AreAllServed H.Reader.Source H.Writer.Sink address.now most site)) events (exit_status result)) }
-{
-    match host.listen(address) {
-        Ok(listener) => serve_listening(alloc, host, &listener, site, address, most),
-        Err(NetworkFailed) => report_failure(host, address),
-    }
-}
-
-/// Serves a site of this name at an address. Where it begins with stamps of its name, that is told first, since a name
-/// is to be used once: stamps that are given again under it would name other updates. It is served all the same.
+/// Serves a site that has begun: warns where it has stamps of its name already, listens, says where, and serves one
+/// connection after another, so many, if a number is given.
 fn serve_begun<H: Host>(
     alloc: Global,
     host: &mut H,
-    site: Site,
-    name: SiteName,
-    address: &str,
-    most: u64,
+    options: &ServeOptions<'_>,
+    mut site: Site,
 ) -> ExitCode
     ensures { Runs H.does host.old host.new (λ events.
-        IsServedAt H.Reader.Source H.Writer.Sink name address.now most site events (exit_status result)) }
+        IsServedAt H.Reader.Source H.Writer.Sink options.now site events (exit_status result)) }
 {
-    if !site.has_stamps_of(name) {
-        return serve_at(alloc, host, site, address, most);
-    }
-    let _ = host.write_line(Stream::Faults, OWN_STAMPS, name.as_bytes());
-    serve_at(alloc, host, site, address, most)
-}
-
-/// Begins a site, and then serves it.
-fn serve_from<H: Host>(
-    alloc: Global,
-    host: &mut H,
-    schema: &[u8],
-    site: SiteName,
-    state: Option<&[u8]>,
-    address: &str,
-    connections: Option<u32>,
-) -> ExitCode
-    ensures { Runs H.does host.old host.new (λ events.
-        IsServedFrom H.Reader.Source H.Writer.Sink schema.now site (option_map (λ s. s.now) state.entry) address.now
-        connections events (exit_status result)) }
-{
-    match begin(alloc, schema, site, state) {
-        Ok(begun) => serve_begun(alloc, host, begun, site, address, most_of(connections)),
-        Err(refusal) => report_refusal(alloc, host, refusal),
-    }
-}
-
-/// Reads the state, if one is named, and then begins the site and serves it.
-fn serve_under<H: Host>(
-    alloc: Global,
-    host: &mut H,
-    schema: &[u8],
-    site: SiteName,
-    state: Option<&str>,
-    address: &str,
-    connections: Option<u32>,
-) -> ExitCode
-    ensures { Runs H.does host.old host.new (λ events.
-        IsServeUnder H.Reader.Source H.Writer.Sink site (option_map (λ s. s.now) state.entry) address.now connections
-        schema.now events (exit_status result)) }
-{
-    match state {
-        Some(name) => serve_named(alloc, host, schema, site, name, address, connections),
-        None => serve_from(alloc, host, schema, site, None, address, connections),
-    }
-}
-
-/// Reads the state of this name, and then begins the site and serves it.
-fn serve_named<H: Host>(
-    alloc: Global,
-    host: &mut H,
-    schema: &[u8],
-    site: SiteName,
-    name: &str,
-    address: &str,
-    connections: Option<u32>,
-) -> ExitCode
-    ensures { Runs H.does host.old host.new (λ events.
-        IsServeNamed H.Reader.Source H.Writer.Sink site name.now address.now connections schema.now events
-        (exit_status result)) }
-{
-    let state = match read_file(host, name) {
-        Ok(bytes) => bytes,
-        Err(end) => return end,
+    let address = options.listen;
+    warn_of_own_stamps(host, &site, options.site);
+    let listener = match host.listen(address, options.idle) {
+        Ok(listener) => listener,
+        Err(NetworkFailed) => return report_failure(host, address),
     };
-    serve_from(
-        alloc,
-        host,
-        schema,
-        site,
-        Some(&state),
-        address,
-        connections,
-    )
+    if let Err(StreamFailed) = host.write_line(Stream::Answers, "listening ", address.as_bytes()) {
+        return ExitCode::from(FAILED);
+    }
+    let most = most_of(options.connections);
+    match serve_all(alloc, host, &listener, address, &mut site, most) {
+        Ok(()) => ExitCode::from(ANSWERED),
+        Err(NetworkFailed) => report_failure(host, address),
+    }
 }
 
-/// Reads the schema of this name, and then the state, if one is named; then begins the site and serves it at an
-/// address, one connection after another: so many, if a number is given.
+/// Reads the schema, and then the state, if one is named; then begins the site and serves it.
 pub(crate) fn run_serve<H: Host>(
     alloc: Global,
     host: &mut H,
-    schema: &str,
-    site: SiteName,
-    state: Option<&str>,
-    address: &str,
-    connections: Option<u32>,
+    options: &ServeOptions<'_>,
 ) -> ExitCode
     ensures { Runs H.does host.old host.new (λ events.
-        IsServeRun H.Reader.Source H.Writer.Sink schema.now site (option_map (λ s. s.now) state.entry) address.now
-        connections events (exit_status result)) }
+        IsServeRun H.Reader.Source H.Writer.Sink options.now events (exit_status result)) }
 {
-    let schema = match read_file(host, schema) {
+    let schema = match read_file(host, options.schema) {
         Ok(bytes) => bytes,
         Err(end) => return end,
     };
-    serve_under(alloc, host, &schema, site, state, address, connections)
+    let state = match read_if_named(host, options.state) {
+        Ok(found) => found,
+        Err(end) => return end,
+    };
+    match begin(alloc, &schema, options.site, lent(&state)) {
+        Ok(site) => serve_begun(alloc, host, options, site),
+        Err(refusal) => report_refusal(alloc, host, refusal),
+    }
 }

@@ -22,6 +22,13 @@ pub struct SystemHost<'a, R, O, E> {
     pub faults: E,
 }
 
+/// A listener, with how long a read or a write of its connections may take.
+#[derive(Drop)]
+pub struct Listening<L> {
+    listener: L,
+    idle: Option<Duration>,
+}
+
 impl From<io::Error> for StreamFailed {
     fn from(_error: io::Error) -> StreamFailed {
         StreamFailed
@@ -82,12 +89,24 @@ fn link<S: io::Read + Write + OpenStream + Drop>(
     })
 }
 
+/// Returns the two ends of a stream whose reads and writes may take so long, if a limit is given.
+fn limited_link<S: io::Read + Write + OpenStream + Drop>(
+    stream: S,
+    idle: Option<Duration>,
+) -> Result<Link<Counted<S>, Counted<S>>, NetworkFailed> {
+    if idle.is_some() {
+        stream.set_read_timeout(idle)?;
+        stream.set_write_timeout(idle)?;
+    }
+    link(stream)
+}
+
 impl<R: Files + Net + Clock + AllocGlobal, O: Write, E: Write> Host for SystemHost<'_, R, O, E> {
     type Reader = Counted<R::Stream>;
 
     type Writer = Counted<R::Stream>;
 
-    type Listener = R::Listener;
+    type Listener = Listening<R::Listener>;
 
     ghost does = { λ old event new. Changes O.contents E.contents old.answers old.faults event new.answers new.faults };
 
@@ -132,9 +151,16 @@ impl<R: Files + Net + Clock + AllocGlobal, O: Write, E: Write> Host for SystemHo
         }
     }
 
-    fn listen(&mut self, address: &str) -> Result<Self::Listener, NetworkFailed> {
+    fn listen(
+        &mut self,
+        address: &str,
+        idle: Option<u32>,
+    ) -> Result<Self::Listener, NetworkFailed> {
         match TcpListener::bind(self.files, address) {
-            Ok(listener) => Ok(listener),
+            Ok(listener) => Ok(Listening {
+                listener,
+                idle: idle.map(|seconds| Duration::from_secs(u64::from(seconds))),
+            }),
             Err(_) => Err(NetworkFailed),
         }
     }
@@ -143,8 +169,8 @@ impl<R: Files + Net + Clock + AllocGlobal, O: Write, E: Write> Host for SystemHo
         &mut self,
         listener: &Self::Listener,
     ) -> Result<Link<Self::Reader, Self::Writer>, NetworkFailed> {
-        match listener.accept() {
-            Ok((stream, _)) => link(stream),
+        match listener.listener.accept() {
+            Ok((stream, _)) => limited_link(stream, listener.idle),
             Err(_) => Err(NetworkFailed),
         }
     }

@@ -4,8 +4,8 @@ use Rattle.std.proofs.Common.{Err, refl, sym, ap, arith}
 use Rattle.std.specs.List.{AllZip}
 use Rattle.std.proofs.lemmas.List.{append_assoc, append-nil, length-append}
 use Rattle.json_words.specs.ReadsAs.{◌>>=◌}
-use Rattle.schema_decisions.specs.decision_texts.declared.refusal.Refusal.{Refusal}
-use Rattle.schema_decisions.specs.decision_texts.Refusals.{bad_shape}
+use Rattle.schema_decisions.specs.answer_lines.declared.refusal.Refusal.{Refusal}
+use Rattle.schema_decisions.specs.answer_lines.Refusals.{bad_shape}
 use Rattle.site.specs.declared.event.Deed.{Deed}
 use Rattle.site.specs.declared.event.Deed.TheVariants as deed
 use Rattle.site.specs.declared.event.Event.{Event}

@@ -3,8 +3,8 @@
 use Rattle.std.specs.Prelude.{◌≡◌, ℕ, suc, List, [], ◌∷◌, Some, Result, Ok, Err}
 use Rattle.std.specs.List.{AllZip}
 use Rattle.json_words.specs.ReadsAs.{◌>>=◌, or_fault}
-use Rattle.schema_decisions.specs.decision_texts.declared.refusal.Refusal.{Refusal}
-use Rattle.schema_decisions.specs.decision_texts.Refusals.{bad_shape}
+use Rattle.schema_decisions.specs.answer_lines.declared.refusal.Refusal.{Refusal}
+use Rattle.schema_decisions.specs.answer_lines.Refusals.{bad_shape}
 use Rattle.site.specs.declared.event.Event.{Event}
 use Rattle.program_drills.specs.declared.made.Made.{Made}
 use Rattle.program_drills.specs.Lines.{lines}

@@ -1,6 +1,6 @@
 //! A schema and a script, played.
 ghost use Rattle.std.specs.Prelude.{◌≤◌, ◌≡◌, IfOk, IfErr};
-ghost use Rattle.schema_decisions.specs.decision_texts.Refusals.{no_memory};
+ghost use Rattle.schema_decisions.specs.answer_lines.Refusals.{no_memory};
 ghost use Rattle.schema_decisions.specs.schema.Views.{schema_view};
 ghost use Rattle.program_drills.specs.Drills.{IsDrilled, IsPlayedOut, IsDrillRefused};
 ghost use Rattle.program_drills.specs.Scripts.{IsScriptRefused};

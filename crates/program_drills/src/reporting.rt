@@ -2,7 +2,7 @@
 ghost use Rattle.std.specs.Prelude.{◌≡◌, ℕ, List, [], ◌∷◌, ◌++◌, map, IfOk, OnOk, Some};
 ghost use Rattle.std.specs.List.{AllZip, join_with_byte};
 ghost use Rattle.serde_json.specs.View.{view};
-ghost use Rattle.schema_decisions.specs.decision_texts.Lines.{answer_line};
+ghost use Rattle.schema_decisions.specs.answer_lines.Lines.{answer_line};
 ghost use Rattle.http_replies.specs.Replies.{answer_reply, fault_reply, put_reply, stamp_reply, taken_reply};
 ghost use Rattle.program_drills.specs.Drills.{IsTold};
 ghost use Rattle.program_drills.specs.Lines.{line_end};

@@ -1,6 +1,6 @@
 //! Scripts, read line by line.
 ghost use Rattle.std.specs.Prelude.{◌≡◌, IfOk, IfErr, Some};
-ghost use Rattle.schema_decisions.specs.decision_texts.Refusals.{bad_shape, no_memory};
+ghost use Rattle.schema_decisions.specs.answer_lines.Refusals.{bad_shape, no_memory};
 ghost use Rattle.program_drills.specs.Scripts.{AreEventsOf, IsScriptRefused};
 
 use crate::made::{Made, after_deed};

@@ -36,13 +36,13 @@ met_is m name rows result e f =
 -- of another word there is no command
 pub unknown_word : (word : Text) (rows : List Row) → ¬ (word ≡ codes "check") → ¬ (word ≡ codes "decide")
     → ¬ (word ≡ codes "load") → ¬ (word ≡ codes "serve") → ¬ (word ≡ codes "pull") → ¬ (word ≡ codes "merge") → ¬ (word ≡ codes "drill") → (line : Line) → IsLineOf word rows line → ⊥
-unknown_word word rows a b l c d e f (Check schema policies) is = a (sym is.0)
-unknown_word word rows a b l c d e f (Decide schema policies entities request) is = b (sym is.0)
-unknown_word word rows a b l c d e f (Load schema site policies entities state) is = l (sym is.0)
-unknown_word word rows a b l c d e f (Serve schema site listen state connections) is = c (sym is.0)
-unknown_word word rows a b l c d e f (Pull schema site from state) is = d (sym is.0)
-unknown_word word rows a b l c d e f (Merge schema first second) is = e (sym is.0)
-unknown_word word rows a b l c d e f (Drill schema sites script) is = f (sym is.0)
+unknown_word word rows a b l c d e f (Check options) is = a (sym is.0)
+unknown_word word rows a b l c d e f (Decide options) is = b (sym is.0)
+unknown_word word rows a b l c d e f (Load options) is = l (sym is.0)
+unknown_word word rows a b l c d e f (Serve options) is = c (sym is.0)
+unknown_word word rows a b l c d e f (Pull options) is = d (sym is.0)
+unknown_word word rows a b l c d e f (Merge options) is = e (sym is.0)
+unknown_word word rows a b l c d e f (Drill options) is = f (sym is.0)
 
 -- something was given, and is no such thing
 none_given : (rows : List Row) (id text : Text) → first_of id rows ≡ None → IsGiven rows id text → ⊥
@@ -169,80 +169,81 @@ drill_is_no_load = unlike 100 108 (codes "drill") (codes "load") refl refl (inl 
 module _ (rows : List Row) where
   of_check : (line : Line) → IsLineOf (codes "check") rows line → ((text : Text) × IsGiven rows (codes "schema") text)
       × ((text : Text) × IsGiven rows (codes "policies") text)
-  of_check (Check schema policies) is = ((schema.now, is.1.0), (policies.now, is.1.1))
-  of_check (Decide schema policies entities request) is = absurd (decide_is_no_check is.0)
-  of_check (Load schema site policies entities state) is = absurd (check_is_no_load (sym is.0))
-  of_check (Serve schema site listen state connections) is = absurd (serve_is_no_check is.0)
-  of_check (Pull schema site from state) is = absurd (pull_is_no_check is.0)
-  of_check (Merge schema first second) is = absurd (merge_is_no_check is.0)
-  of_check (Drill schema sites script) is = absurd (check_is_no_drill (sym is.0))
+  of_check (Check options) is = ((options.schema.now, is.1.0), (options.policies.now, is.1.1))
+  of_check (Decide options) is = absurd (decide_is_no_check is.0)
+  of_check (Load options) is = absurd (check_is_no_load (sym is.0))
+  of_check (Serve options) is = absurd (serve_is_no_check is.0)
+  of_check (Pull options) is = absurd (pull_is_no_check is.0)
+  of_check (Merge options) is = absurd (merge_is_no_check is.0)
+  of_check (Drill options) is = absurd (check_is_no_drill (sym is.0))
 
   of_decide : (line : Line) → IsLineOf (codes "decide") rows line → ((text : Text) × IsGiven rows (codes "policies") text)
       × ((text : Text) × IsGiven rows (codes "entities") text)
       × ((text : Text) × IsGiven rows (codes "request") text)
-  of_decide (Check schema policies) is = absurd (check_is_no_decide is.0)
-  of_decide (Decide schema policies entities request) is = ((policies.now, is.1.1), (entities.now, is.1.2), (request.now, is.1.3))
-  of_decide (Load schema site policies entities state) is = absurd (decide_is_no_load (sym is.0))
-  of_decide (Serve schema site listen state connections) is = absurd (serve_is_no_decide is.0)
-  of_decide (Pull schema site from state) is = absurd (pull_is_no_decide is.0)
-  of_decide (Merge schema first second) is = absurd (merge_is_no_decide is.0)
-  of_decide (Drill schema sites script) is = absurd (decide_is_no_drill (sym is.0))
+  of_decide (Check options) is = absurd (check_is_no_decide is.0)
+  of_decide (Decide options) is = ((options.policies.now, is.1.1), (options.entities.now, is.1.2), (options.request.now, is.1.3))
+  of_decide (Load options) is = absurd (decide_is_no_load (sym is.0))
+  of_decide (Serve options) is = absurd (serve_is_no_decide is.0)
+  of_decide (Pull options) is = absurd (pull_is_no_decide is.0)
+  of_decide (Merge options) is = absurd (merge_is_no_decide is.0)
+  of_decide (Drill options) is = absurd (decide_is_no_drill (sym is.0))
 
   of_load : (line : Line) → IsLineOf (codes "load") rows line → ((text : Text) × IsGiven rows (codes "schema") text)
       × ((text : Text) × IsGivenSite rows text)
-  of_load (Check schema policies) is = absurd (check_is_no_load is.0)
-  of_load (Decide schema policies entities request) is = absurd (decide_is_no_load is.0)
-  of_load (Load schema site policies entities state) is = ((schema.now, is.1.0), (site, is.1.1))
-  of_load (Serve schema site listen state connections) is = absurd (serve_is_no_load is.0)
-  of_load (Pull schema site from state) is = absurd (pull_is_no_load is.0)
-  of_load (Merge schema first second) is = absurd (merge_is_no_load is.0)
-  of_load (Drill schema sites script) is = absurd (drill_is_no_load is.0)
+  of_load (Check options) is = absurd (check_is_no_load is.0)
+  of_load (Decide options) is = absurd (decide_is_no_load is.0)
+  of_load (Load options) is = ((options.schema.now, is.1.0), (options.site, is.1.1))
+  of_load (Serve options) is = absurd (serve_is_no_load is.0)
+  of_load (Pull options) is = absurd (pull_is_no_load is.0)
+  of_load (Merge options) is = absurd (merge_is_no_load is.0)
+  of_load (Drill options) is = absurd (drill_is_no_load is.0)
 
   of_serve : (line : Line) → IsLineOf (codes "serve") rows line → ((text : Text) × IsGiven rows (codes "schema") text)
       × ((text : Text) × IsGivenSite rows text)
       × ((text : Text) × IsGiven rows (codes "listen") text)
       × ((number : Option ℕ) × MayBeGivenNumber rows (codes "connections") 0 4294967295 number)
-  of_serve (Check schema policies) is = absurd (check_is_no_serve is.0)
-  of_serve (Decide schema policies entities request) is = absurd (decide_is_no_serve is.0)
-  of_serve (Load schema site policies entities state) is = absurd (serve_is_no_load (sym is.0))
-  of_serve (Serve schema site listen state connections) is = ((schema.now, is.1.0), (site, is.1.1), (listen.now, is.1.2), (connections, is.1.4))
-  of_serve (Pull schema site from state) is = absurd (pull_is_no_serve is.0)
-  of_serve (Merge schema first second) is = absurd (merge_is_no_serve is.0)
-  of_serve (Drill schema sites script) is = absurd (serve_is_no_drill (sym is.0))
+      × ((number : Option ℕ) × MayBeGivenNumber rows (codes "idle") 1 86400 number)
+  of_serve (Check options) is = absurd (check_is_no_serve is.0)
+  of_serve (Decide options) is = absurd (decide_is_no_serve is.0)
+  of_serve (Load options) is = absurd (serve_is_no_load (sym is.0))
+  of_serve (Serve options) is = ((options.schema.now, is.1.0), (options.site, is.1.1), (options.listen.now, is.1.2), (options.connections, is.1.4), (options.idle, is.1.5))
+  of_serve (Pull options) is = absurd (pull_is_no_serve is.0)
+  of_serve (Merge options) is = absurd (merge_is_no_serve is.0)
+  of_serve (Drill options) is = absurd (serve_is_no_drill (sym is.0))
 
   of_pull : (line : Line) → IsLineOf (codes "pull") rows line → ((text : Text) × IsGiven rows (codes "schema") text)
       × ((text : Text) × IsGivenSite rows text)
       × ((text : Text) × IsGiven rows (codes "from") text)
       × ((text : Text) × IsGiven rows (codes "state") text)
-  of_pull (Check schema policies) is = absurd (check_is_no_pull is.0)
-  of_pull (Decide schema policies entities request) is = absurd (decide_is_no_pull is.0)
-  of_pull (Load schema site policies entities state) is = absurd (pull_is_no_load (sym is.0))
-  of_pull (Serve schema site listen state connections) is = absurd (serve_is_no_pull is.0)
-  of_pull (Pull schema site from state) is = ((schema.now, is.1.0), (site, is.1.1), (from.now, is.1.2), (state.now, is.1.3))
-  of_pull (Merge schema first second) is = absurd (merge_is_no_pull is.0)
-  of_pull (Drill schema sites script) is = absurd (pull_is_no_drill (sym is.0))
+  of_pull (Check options) is = absurd (check_is_no_pull is.0)
+  of_pull (Decide options) is = absurd (decide_is_no_pull is.0)
+  of_pull (Load options) is = absurd (pull_is_no_load (sym is.0))
+  of_pull (Serve options) is = absurd (serve_is_no_pull is.0)
+  of_pull (Pull options) is = ((options.schema.now, is.1.0), (options.site, is.1.1), (options.from.now, is.1.2), (options.state.now, is.1.3))
+  of_pull (Merge options) is = absurd (merge_is_no_pull is.0)
+  of_pull (Drill options) is = absurd (pull_is_no_drill (sym is.0))
 
   of_merge : (line : Line) → IsLineOf (codes "merge") rows line → ((text : Text) × IsGiven rows (codes "schema") text)
       × ((text : Text) × IsGiven rows (codes "first") text)
       × ((text : Text) × IsGiven rows (codes "second") text)
-  of_merge (Check schema policies) is = absurd (check_is_no_merge is.0)
-  of_merge (Decide schema policies entities request) is = absurd (decide_is_no_merge is.0)
-  of_merge (Load schema site policies entities state) is = absurd (merge_is_no_load (sym is.0))
-  of_merge (Serve schema site listen state connections) is = absurd (serve_is_no_merge is.0)
-  of_merge (Pull schema site from state) is = absurd (pull_is_no_merge is.0)
-  of_merge (Merge schema first second) is = ((schema.now, is.1.0), (first.now, is.1.1), (second.now, is.1.2))
-  of_merge (Drill schema sites script) is = absurd (merge_is_no_drill (sym is.0))
+  of_merge (Check options) is = absurd (check_is_no_merge is.0)
+  of_merge (Decide options) is = absurd (decide_is_no_merge is.0)
+  of_merge (Load options) is = absurd (merge_is_no_load (sym is.0))
+  of_merge (Serve options) is = absurd (serve_is_no_merge is.0)
+  of_merge (Pull options) is = absurd (pull_is_no_merge is.0)
+  of_merge (Merge options) is = ((options.schema.now, is.1.0), (options.first.now, is.1.1), (options.second.now, is.1.2))
+  of_merge (Drill options) is = absurd (merge_is_no_drill (sym is.0))
 
   of_drill : (line : Line) → IsLineOf (codes "drill") rows line → ((text : Text) × IsGiven rows (codes "schema") text)
       × ((number : ℕ) × IsGivenNumber rows (codes "sites") 1 64 number)
       × ((text : Text) × IsGiven rows (codes "script") text)
-  of_drill (Check schema policies) is = absurd (check_is_no_drill is.0)
-  of_drill (Decide schema policies entities request) is = absurd (decide_is_no_drill is.0)
-  of_drill (Load schema site policies entities state) is = absurd (drill_is_no_load (sym is.0))
-  of_drill (Serve schema site listen state connections) is = absurd (serve_is_no_drill is.0)
-  of_drill (Pull schema site from state) is = absurd (pull_is_no_drill is.0)
-  of_drill (Merge schema first second) is = absurd (merge_is_no_drill is.0)
-  of_drill (Drill schema sites script) is = ((schema.now, is.1.0), (sites, is.1.1), (script.now, is.1.2))
+  of_drill (Check options) is = absurd (check_is_no_drill is.0)
+  of_drill (Decide options) is = absurd (decide_is_no_drill is.0)
+  of_drill (Load options) is = absurd (drill_is_no_load (sym is.0))
+  of_drill (Serve options) is = absurd (serve_is_no_drill is.0)
+  of_drill (Pull options) is = absurd (pull_is_no_drill is.0)
+  of_drill (Merge options) is = absurd (merge_is_no_drill is.0)
+  of_drill (Drill options) is = ((options.schema.now, is.1.0), (options.sites, is.1.1), (options.script.now, is.1.2))
 
   -- and so no command of that word lacks it
   pub check_lacks_schema : first_of (codes "schema") rows ≡ None → IsNone (IsLineOf (codes "check") rows)
@@ -277,6 +278,9 @@ module _ (rows : List Row) where
 
   pub serve_lacks_connections : IsNone (MayBeGivenNumber rows (codes "connections") 0 4294967295) → IsNone (IsLineOf (codes "serve") rows)
   serve_lacks_connections none line is = none (of_serve line is).3.0 (of_serve line is).3.1
+
+  pub serve_lacks_idle : IsNone (MayBeGivenNumber rows (codes "idle") 1 86400) → IsNone (IsLineOf (codes "serve") rows)
+  serve_lacks_idle none line is = none (of_serve line is).4.0 (of_serve line is).4.1
 
   pub pull_lacks_schema : first_of (codes "schema") rows ≡ None → IsNone (IsLineOf (codes "pull") rows)
   pull_lacks_schema none line is = none_given rows (codes "schema") (of_pull line is).0.0 none (of_pull line is).0.1
@@ -357,10 +361,10 @@ in_bounds rows id least most number given =
 
 pub named_sites : (line : Line) (named : Option (Text × List Row)) → IsNamed line named → HasSites line
 named_sites line None is = absurd is
-named_sites (Check schema policies) (Some named) is = tt
-named_sites (Decide schema policies entities request) (Some named) is = tt
-named_sites (Load schema site policies entities state) (Some named) is = tt
-named_sites (Serve schema site listen state connections) (Some named) is = tt
-named_sites (Pull schema site from state) (Some named) is = tt
-named_sites (Merge schema first second) (Some named) is = tt
-named_sites (Drill schema sites script) (Some named) is = in_bounds named.1 (codes "sites") 1 64 sites is.1.1
+named_sites (Check options) (Some named) is = tt
+named_sites (Decide options) (Some named) is = tt
+named_sites (Load options) (Some named) is = tt
+named_sites (Serve options) (Some named) is = tt
+named_sites (Pull options) (Some named) is = tt
+named_sites (Merge options) (Some named) is = tt
+named_sites (Drill options) (Some named) is = in_bounds named.1 (codes "sites") 1 64 options.sites is.1.1

@@ -35,11 +35,12 @@ decide_app = with_rule (with_rule (with_rule (with_rule (new_app (codes "decide"
 abbrev pub site_option : Rule
 site_option = demanded (value_option (codes "site"))
 
--- serve --schema FILE --site NAME --listen ADDRESS [--state FILE] [--connections NUMBER]
+-- serve --schema FILE --site NAME --listen ADDRESS [--state FILE] [--connections NUMBER] [--idle SECONDS]
 abbrev pub serve_app : App
-serve_app = with_rule (with_rule (with_rule (with_rule (with_rule (new_app (codes "serve"))
+serve_app = with_rule (with_rule (with_rule (with_rule (with_rule (with_rule (new_app (codes "serve"))
     (demanded (value_option (codes "schema")))) site_option) (demanded (value_option (codes "listen"))))
-    (value_option (codes "state"))) (number_option (codes "connections") 0 4294967295)
+    (value_option (codes "state"))) (number_option (codes "connections") 0 4294967295))
+    (number_option (codes "idle") 1 86400)
 
 -- pull --schema FILE --site NAME --from ADDRESS --state FILE
 abbrev pub pull_app : App

@@ -9,13 +9,13 @@ use Rattle.program_lines.specs.Apps.{site_app}
 
 -- the word of a command
 abbrev pub word_of : Line → Text
-word_of (Check schema policies) = codes "check"
-word_of (Decide schema policies entities request) = codes "decide"
-word_of (Load schema site policies entities state) = codes "load"
-word_of (Serve schema site listen state connections) = codes "serve"
-word_of (Pull schema site from state) = codes "pull"
-word_of (Merge schema first second) = codes "merge"
-word_of (Drill schema sites script) = codes "drill"
+word_of (Check options) = codes "check"
+word_of (Decide options) = codes "decide"
+word_of (Load options) = codes "load"
+word_of (Serve options) = codes "serve"
+word_of (Pull options) = codes "pull"
+word_of (Merge options) = codes "merge"
+word_of (Drill options) = codes "drill"
 
 -- what was given for this is the text
 abbrev pub IsGiven : List Row → Text → Text → Type 0
@@ -46,42 +46,43 @@ MayBeGivenNumber rows id least most (Some number) = IsGivenNumber rows id least 
 
 -- these are the texts, names and numbers of its options
 abbrev pub HasTexts : List Row → Line → Type 0
-HasTexts rows (Check schema policies) =
-    IsGiven rows (codes "schema") schema.now × IsGiven rows (codes "policies") policies.now
-HasTexts rows (Decide schema policies entities request) =
-    (first_of (codes "schema") rows ≡ option_map (λ s. s.now) schema)
-    × IsGiven rows (codes "policies") policies.now
-    × IsGiven rows (codes "entities") entities.now
-    × IsGiven rows (codes "request") request.now
-HasTexts rows (Load schema site policies entities state) =
-    IsGiven rows (codes "schema") schema.now
-    × IsGivenSite rows site
-    × (first_of (codes "policies") rows ≡ option_map (λ s. s.now) policies)
-    × (first_of (codes "entities") rows ≡ option_map (λ s. s.now) entities)
-    × (first_of (codes "state") rows ≡ option_map (λ s. s.now) state)
-HasTexts rows (Serve schema site listen state connections) =
-    IsGiven rows (codes "schema") schema.now
-    × IsGivenSite rows site
-    × IsGiven rows (codes "listen") listen.now
-    × (first_of (codes "state") rows ≡ option_map (λ s. s.now) state)
-    × MayBeGivenNumber rows (codes "connections") 0 4294967295 connections
-HasTexts rows (Pull schema site from state) =
-    IsGiven rows (codes "schema") schema.now
-    × IsGivenSite rows site
-    × IsGiven rows (codes "from") from.now
-    × IsGiven rows (codes "state") state.now
-HasTexts rows (Merge schema first second) =
-    IsGiven rows (codes "schema") schema.now
-    × IsGiven rows (codes "first") first.now
-    × IsGiven rows (codes "second") second.now
-HasTexts rows (Drill schema sites script) =
-    IsGiven rows (codes "schema") schema.now
-    × IsGivenNumber rows (codes "sites") 1 64 sites
-    × IsGiven rows (codes "script") script.now
+HasTexts rows (Check options) =
+    IsGiven rows (codes "schema") options.schema.now × IsGiven rows (codes "policies") options.policies.now
+HasTexts rows (Decide options) =
+    (first_of (codes "schema") rows ≡ option_map (λ s. s.now) options.schema)
+    × IsGiven rows (codes "policies") options.policies.now
+    × IsGiven rows (codes "entities") options.entities.now
+    × IsGiven rows (codes "request") options.request.now
+HasTexts rows (Load options) =
+    IsGiven rows (codes "schema") options.schema.now
+    × IsGivenSite rows options.site
+    × (first_of (codes "policies") rows ≡ option_map (λ s. s.now) options.policies)
+    × (first_of (codes "entities") rows ≡ option_map (λ s. s.now) options.entities)
+    × (first_of (codes "state") rows ≡ option_map (λ s. s.now) options.state)
+HasTexts rows (Serve options) =
+    IsGiven rows (codes "schema") options.schema.now
+    × IsGivenSite rows options.site
+    × IsGiven rows (codes "listen") options.listen.now
+    × (first_of (codes "state") rows ≡ option_map (λ s. s.now) options.state)
+    × MayBeGivenNumber rows (codes "connections") 0 4294967295 options.connections
+    × MayBeGivenNumber rows (codes "idle") 1 86400 options.idle
+HasTexts rows (Pull options) =
+    IsGiven rows (codes "schema") options.schema.now
+    × IsGivenSite rows options.site
+    × IsGiven rows (codes "from") options.from.now
+    × IsGiven rows (codes "state") options.state.now
+HasTexts rows (Merge options) =
+    IsGiven rows (codes "schema") options.schema.now
+    × IsGiven rows (codes "first") options.first.now
+    × IsGiven rows (codes "second") options.second.now
+HasTexts rows (Drill options) =
+    IsGiven rows (codes "schema") options.schema.now
+    × IsGivenNumber rows (codes "sites") 1 64 options.sites
+    × IsGiven rows (codes "script") options.script.now
 
 -- a script is played at 1 to 64 sites
 abbrev pub HasSites : Line → Type 0
-HasSites (Drill schema sites script) = (1 ≤ sites) × (sites ≤ 64)
+HasSites (Drill options) = (1 ≤ options.sites) × (options.sites ≤ 64)
 HasSites _ = Unit {0}
 
 -- the command of this word, with these options

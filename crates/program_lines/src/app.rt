@@ -15,6 +15,9 @@ use std::alloc::Global;
 /// The greatest number of connections that can be asked for.
 pub(crate) const MOST_CONNECTIONS: u64 = 4_294_967_295;
 
+/// The most seconds that a connection may be idle: a day.
+pub(crate) const MOST_IDLE: u64 = 86_400;
+
 /// The greatest number of sites that a script can be played at.
 pub(crate) const MOST_SITES: u64 = 64;
 
@@ -77,12 +80,19 @@ fn value_option<'a>(alloc: Global, name: &'a str, value: &'a str, help: &'a str)
         .action(ArgAction::Set)
 }
 
-/// Returns an option with a number within bounds.
-fn number_option<'a>(alloc: Global, name: &'a str, least: u64, most: u64, help: &'a str) -> Arg<'a>
+/// Returns an option with a number within bounds, called by this name in the help.
+fn number_option<'a>(
+    alloc: Global,
+    name: &'a str,
+    value: &'a str,
+    least: u64,
+    most: u64,
+    help: &'a str,
+) -> Arg<'a>
     ensures rule { rule_of result ≡ number_option name.entry.now least most }
     ensures local { result.global ≡ false }
 {
-    value_option(alloc, name, "NUMBER", help).value_parser(ValueParser::unsigned(least, most))
+    value_option(alloc, name, value, help).value_parser(ValueParser::unsigned(least, most))
 }
 
 /// Returns the command with one more option that has a value, demanded.
@@ -202,6 +212,7 @@ fn serve_command<'a>(alloc: Global) -> Result<Command<'a>, NoMemory>
     let address = "Where to listen, as 127.0.0.1:7000";
     let begin = "A state or a delta to begin with; it is read and never written";
     let most = "How many connections to serve before the run ends";
+    let limit = "How long a connection may send or take nothing before it ends, 1 to 86400";
     let name =
         "The site's name, which no other site has: 1 to 32 ASCII letters, digits, '-', '_' or '.'";
     let example =
@@ -212,8 +223,10 @@ fn serve_command<'a>(alloc: Global) -> Result<Command<'a>, NoMemory>
     let command = with_site(alloc, command, name);
     let command = with_needed(alloc, command, "listen", "ADDRESS", address);
     let command = with(command, value_option(alloc, "state", "FILE", begin));
-    let connections = number_option(alloc, "connections", 0, MOST_CONNECTIONS, most);
-    with(command, connections)
+    let connections = number_option(alloc, "connections", "NUMBER", 0, MOST_CONNECTIONS, most);
+    let command = with(command, connections);
+    let idle = number_option(alloc, "idle", "SECONDS", 1, MOST_IDLE, limit);
+    with(command, idle)
 }
 
 fn pull_command<'a>(alloc: Global) -> Result<Command<'a>, NoMemory>
@@ -253,7 +266,7 @@ fn drill_command<'a>(alloc: Global) -> Result<Command<'a>, NoMemory>
     let example = "Example:\n  cedar_site drill --schema schema.json --sites 2 lost_and_late.jsonl";
     let command = bare(alloc, "drill", about, example);
     let command = with_schema(alloc, command);
-    let sites = number_option(alloc, "sites", 1, MOST_SITES, count).required(true);
+    let sites = number_option(alloc, "sites", "NUMBER", 1, MOST_SITES, count).required(true);
     let command = with(command, sites);
     with_word(alloc, command, "script", "SCRIPT", script)
 }

@@ -7,5 +7,8 @@ mod line;
 mod options;
 
 pub use fault::LineFault;
-pub use line::{Line, line_of};
+pub use line::{
+    CheckOptions, DecideOptions, DrillOptions, Line, LoadOptions, MergeOptions, PullOptions,
+    ServeOptions, line_of,
+};
 pub use stamped_store::SiteName;

@@ -10,64 +10,94 @@ ghost use Rattle.program_lines.specs.inner.Sorting.{IsLackOf};
 
 use crate::app::command;
 use crate::fault::{LineFault, sorted};
-use crate::options::{connections_in, has_no_site, option_text, site_in, sites_in};
+use crate::options::{connections_in, has_no_site, idle_in, option_text, site_in, sites_in};
 use clap::ArgMatches;
 use stamped_store::SiteName;
 use std::alloc::Global;
 
+/// What `check` is given: the names of a schema's file and of one with policies.
+#[derive(Clone, Copy)]
+pub struct CheckOptions<'a> {
+    pub schema: &'a str,
+    pub policies: &'a str,
+}
+
+/// What `decide` is given: the names of three files, and perhaps of a schema's.
+#[derive(Clone, Copy)]
+pub struct DecideOptions<'a> {
+    pub schema: Option<&'a str>,
+    pub policies: &'a str,
+    pub entities: &'a str,
+    pub request: &'a str,
+}
+
+/// What `load` is given: the name of a schema's file, a site's name, and perhaps the names of files with policies, with
+/// entities, and with a state to begin with.
+#[derive(Clone, Copy)]
+pub struct LoadOptions<'a> {
+    pub schema: &'a str,
+    pub site: SiteName,
+    pub policies: Option<&'a str>,
+    pub entities: Option<&'a str>,
+    pub state: Option<&'a str>,
+}
+
+/// What `serve` is given: the name of a schema's file, a site's name, an address, perhaps the name of a file with a
+/// state to begin with, perhaps how many connections there are to be, and perhaps how many seconds each may be idle, 1
+/// to 86,400.
+#[derive(Clone, Copy)]
+pub struct ServeOptions<'a> {
+    pub schema: &'a str,
+    pub site: SiteName,
+    pub listen: &'a str,
+    pub state: Option<&'a str>,
+    pub connections: Option<u32>,
+    pub idle: Option<u32>,
+}
+
+/// What `pull` is given: the name of a schema's file, a site's name, an address, and the name of the file with the
+/// site's state. The site's name is for the record alone: nothing is stamped.
+#[derive(Clone, Copy)]
+pub struct PullOptions<'a> {
+    pub schema: &'a str,
+    pub site: SiteName,
+    pub from: &'a str,
+    pub state: &'a str,
+}
+
+/// What `merge` is given: the names of a schema's file and of two states.
+#[derive(Clone, Copy)]
+pub struct MergeOptions<'a> {
+    pub schema: &'a str,
+    pub first: &'a str,
+    pub second: &'a str,
+}
+
+/// What `drill` is given: the name of a schema's file, how many sites there are to be, 1 to 64, and the script's name.
+#[derive(Clone, Copy)]
+pub struct DrillOptions<'a> {
+    pub schema: &'a str,
+    pub sites: u16,
+    pub script: &'a str,
+}
+
 /// What the words ask for. Each option that a command demands is there, as a field of its own.
 #[derive(Clone, Copy)]
 pub enum Line<'a> {
-    /// Tell what each policy of a file comes to under a schema: the names of two files.
-    Check {
-        schema: &'a str,
-        policies: &'a str,
-    },
-    /// Decide one request: the names of three files, and perhaps of a schema.
-    Decide {
-        schema: Option<&'a str>,
-        policies: &'a str,
-        entities: &'a str,
-        request: &'a str,
-    },
-    /// Put files into the site of this name and tell its state: a schema's file, perhaps files with policies and with
-    /// entities, and perhaps one with a state to begin with.
-    Load {
-        schema: &'a str,
-        site: SiteName,
-        policies: Option<&'a str>,
-        entities: Option<&'a str>,
-        state: Option<&'a str>,
-    },
-    /// Serve the site of this name at an address: a schema's file, perhaps a file with a state to begin with, and
-    /// perhaps how many connections there are to be.
-    Serve {
-        schema: &'a str,
-        site: SiteName,
-        listen: &'a str,
-        state: Option<&'a str>,
-        connections: Option<u32>,
-    },
-    /// Take from the site at an address what the site of this name lacks: a schema's file, and a file with its state,
-    /// which is then written. The name is for the record alone: nothing is stamped.
-    Pull {
-        schema: &'a str,
-        site: SiteName,
-        from: &'a str,
-        state: &'a str,
-    },
-    /// Merge two states: the names of a schema's file and of theirs.
-    Merge {
-        schema: &'a str,
-        first: &'a str,
-        second: &'a str,
-    },
-    /// Play a script at so many sites, 1 to 64: the names of a schema's file and of the script.
-    Drill {
-        schema: &'a str,
-        sites: u16,
-        script: &'a str,
-    },
+    /// Tell what each policy of a file comes to under a schema.
+    Check(CheckOptions<'a>),
+    /// Decide one request.
+    Decide(DecideOptions<'a>),
+    /// Put files into a site and tell its state.
+    Load(LoadOptions<'a>),
+    /// Serve a site at an address.
+    Serve(ServeOptions<'a>),
+    /// Take from the site at an address what a state lacks, which is then written.
+    Pull(PullOptions<'a>),
+    /// Merge two states.
+    Merge(MergeOptions<'a>),
+    /// Play a script at so many sites.
+    Drill(DrillOptions<'a>),
 }
 
 /// Returns the name of the command that was met, and its options.
@@ -88,7 +118,7 @@ fn check_in<'a>(options: &ArgMatches<'a>) -> Option<Line<'a>>
     let Some(policies) = option_text(options, "policies") else {
         return None;
     };
-    Some(Line::Check { schema, policies })
+    Some(Line::Check(CheckOptions { schema, policies }))
 }
 
 /// `decide`, if it has each of the files that it demands.
@@ -106,12 +136,12 @@ fn decide_in<'a>(options: &ArgMatches<'a>) -> Option<Line<'a>>
     let Some(request) = option_text(options, "request") else {
         return None;
     };
-    Some(Line::Decide {
+    Some(Line::Decide(DecideOptions {
         schema,
         policies,
         entities,
         request,
-    })
+    }))
 }
 
 /// `load`, if it has what it demands, a site's name among it.
@@ -128,16 +158,17 @@ fn load_in<'a>(options: &ArgMatches<'a>) -> Option<Line<'a>>
     let policies = option_text(options, "policies");
     let entities = option_text(options, "entities");
     let state = option_text(options, "state");
-    Some(Line::Load {
+    Some(Line::Load(LoadOptions {
         schema,
         site,
         policies,
         entities,
         state,
-    })
+    }))
 }
 
-/// `serve`, if it has each of the options that it demands, a site's name among them, and its number lies in its bounds.
+/// `serve`, if it has each of the options that it demands, a site's name among them, and its numbers lie in their
+/// bounds.
 fn serve_in<'a>(options: &ArgMatches<'a>) -> Option<Line<'a>>
     ensures { MatchOption result (IsNone (IsLineOf (codes "serve") (rows_of (found_of options.now))))
         (IsLineOf (codes "serve") (rows_of (found_of options.now))) }
@@ -154,14 +185,18 @@ fn serve_in<'a>(options: &ArgMatches<'a>) -> Option<Line<'a>>
     let Some(connections) = connections_in(options) else {
         return None;
     };
+    let Some(idle) = idle_in(options) else {
+        return None;
+    };
     let state = option_text(options, "state");
-    Some(Line::Serve {
+    Some(Line::Serve(ServeOptions {
         schema,
         site,
         listen,
         state,
         connections,
-    })
+        idle,
+    }))
 }
 
 /// `pull`, if it has each of its options, a site's name among them.
@@ -181,12 +216,12 @@ fn pull_in<'a>(options: &ArgMatches<'a>) -> Option<Line<'a>>
     let Some(state) = option_text(options, "state") else {
         return None;
     };
-    Some(Line::Pull {
+    Some(Line::Pull(PullOptions {
         schema,
         site,
         from,
         state,
-    })
+    }))
 }
 
 /// `merge`, if it has each of its files.
@@ -203,11 +238,11 @@ fn merge_in<'a>(options: &ArgMatches<'a>) -> Option<Line<'a>>
     let Some(second) = option_text(options, "second") else {
         return None;
     };
-    Some(Line::Merge {
+    Some(Line::Merge(MergeOptions {
         schema,
         first,
         second,
-    })
+    }))
 }
 
 /// `drill`, if it has both of its files, and its number of sites lies in its bounds.
@@ -224,11 +259,11 @@ fn drill_in<'a>(options: &ArgMatches<'a>) -> Option<Line<'a>>
     let Some(script) = option_text(options, "script") else {
         return None;
     };
-    Some(Line::Drill {
+    Some(Line::Drill(DrillOptions {
         schema,
         sites,
         script,
-    })
+    }))
 }
 
 /// Returns the command of this name, if it has all of its options.
@@ -295,8 +330,9 @@ fn lack_of(matches: &ArgMatches<'_>) -> LineFault
 /// Returns the command that the words give, the first of which is the program's own name.
 ///
 /// It has every option that it demands, `--site` with a site's name (1 to 32 bytes, each an ASCII letter, a digit, `-`,
-/// `_` or `.`), taken as it stands, `--sites` from 1 to 64, and `--connections`, where it is given, from 0 to
-/// 4,294,967,295. Words that are no command answer why; that `--site` has another text is told after every other fault.
+/// `_` or `.`), taken as it stands, `--sites` from 1 to 64, and, where they are given, `--connections` from 0 to
+/// 4,294,967,295 and `--idle` from 1 to 86,400. Words that are no command answer why; that `--site` has another text is
+/// told after every other fault.
 pub fn line_of<'a>(alloc: Global, words: &'a [String]) -> Result<Line<'a>, LineFault>
     ensures ok { IfOk result (Says (map string_bytes words.entry.now)) }
     ensures sites { IfOk result HasSites }

@@ -4,7 +4,7 @@ ghost use Rattle.clap.specs.Words.{first_of, found_of, rows_of};
 ghost use Rattle.program_lines.specs.Lines.{IsNumberIn, IsGivenNumber, MayBeGivenNumber, IsGivenSite, IsGivenNoSite};
 ghost use Rattle.program_lines.specs.inner.Lacking.{IsNone};
 
-use crate::app::{MOST_CONNECTIONS, MOST_SITES};
+use crate::app::{MOST_CONNECTIONS, MOST_IDLE, MOST_SITES};
 use clap::ArgMatches;
 use stamped_store::{SiteName, is_site_name};
 
@@ -56,6 +56,22 @@ pub(crate) fn connections_in(options: &ArgMatches<'_>) -> Option<Option<u32>>
         return Some(None);
     };
     match number_in(text, 0, MOST_CONNECTIONS) {
+        Some(number) => Some(Some(number as u32)),
+        None => None,
+    }
+}
+
+/// Returns how many seconds a connection may be idle, if any number was given; `None` where what was given is no such
+/// number.
+pub(crate) fn idle_in(options: &ArgMatches<'_>) -> Option<Option<u32>>
+    ensures { MatchOption result
+        (IsNone (MayBeGivenNumber (rows_of (found_of options.now)) (codes "idle") 1 86400))
+        (MayBeGivenNumber (rows_of (found_of options.now)) (codes "idle") 1 86400) }
+{
+    let Some(text) = option_text(options, "idle") else {
+        return Some(None);
+    };
+    match number_in(text, 1, MOST_IDLE) {
         Some(number) => Some(Some(number as u32)),
         None => None,
     }

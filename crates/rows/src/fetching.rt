@@ -1,6 +1,7 @@
 //! Replies that are fetched.
 use crate::ways::{PLAIN, SEVENS, SLOW, Way, by_reads, reader_of, writer_of};
 use crate::written::shown;
+use http::Method;
 use http_devices::devices::Source;
 use http_streams::fetch::{FetchFault, fetch};
 use http_texts::request::Ask;
@@ -18,13 +19,6 @@ struct Fetched {
     left: usize,
 }
 
-const GET: Ask<'static> = Ask {
-    method: b"GET",
-    host: b"h",
-    path: b"/",
-    body: None,
-};
-
 /// Returns the status and the body, apart.
 fn apart(
     alloc: Global,
@@ -40,7 +34,13 @@ fn apart(
 fn run(alloc: Global, bytes: &[u8], way: Way<'_>) -> Fetched {
     let mut reader = reader_of(way, bytes);
     let mut writer = writer_of(way, alloc);
-    let (status, body) = apart(alloc, fetch(alloc, &mut reader, &mut writer, &GET));
+    let get = Ask {
+        method: &Method::GET,
+        host: b"h",
+        path: b"/",
+        body: None,
+    };
+    let (status, body) = apart(alloc, fetch(alloc, &mut reader, &mut writer, &get));
     let left = reader.left().len();
     Fetched { status, body, left }
 }

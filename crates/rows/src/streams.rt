@@ -6,10 +6,10 @@ ghost use Rattle.rows.specs.Counts.{asked_alike, counts};
 use crate::pieces::Line;
 use crate::ways::{PLAIN, SLOW, Way, by_reads, reader_of, writer_of};
 use crate::written::shown;
+use http::StatusCode;
 use http_streams::laws::one_answer;
 use http_streams::serve::{StreamFault, serve};
 use http_streams::service::{Answers, Service};
-use http_texts::status::Status;
 use plain::NoMemory;
 use std::alloc::Global;
 
@@ -39,14 +39,20 @@ impl Answers for Counter {
 }
 
 impl Service for Counter {
-    fn call(&mut self, method: &[u8], target: &[u8], body: &[u8], text: &mut Vec<u8>) -> Status {
+    fn call(
+        &mut self,
+        method: &[u8],
+        target: &[u8],
+        body: &[u8],
+        text: &mut Vec<u8>,
+    ) -> StatusCode {
         self.requests = self.requests.saturating_add(1);
         let said = if body.is_empty() { target } else { body };
         match text.extend_from_slice(said) {
-            Ok(()) => Status::Ok,
+            Ok(()) => StatusCode::OK,
             Err(_) => {
                 self.refused = self.refused.saturating_add(1);
-                Status::ServiceUnavailable
+                StatusCode::SERVICE_UNAVAILABLE
             }
         }
     }

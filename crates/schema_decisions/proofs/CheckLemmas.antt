@@ -8,9 +8,9 @@ use Rattle.std.specs.declared.string.String.{String}
 use Rattle.entity_hierarchy.specs.policy_grammar.declared.policy.Policy.{Policy}
 use Rattle.entity_hierarchy.specs.schema.Schemas.{StatedSchema}
 use Rattle.validator.specs.Passing.{Passes}
-use Rattle.decision_texts.specs.declared.refusal.Refusal.{Refusal}
+use Rattle.decision_texts.specs.answer_lines.declared.refusal.Refusal.{Refusal}
 use Rattle.plain.specs.Refused.{OrNoMemory}
-use Rattle.decision_texts.specs.Refusals.{no_memory}
+use Rattle.decision_texts.specs.answer_lines.Refusals.{no_memory}
 use Rattle.schema_decisions.specs.Policies.{IsUnpassed, FirstUnpassed, unpassed_here, unpassed_later}
 
 abbrev Files : Type 0

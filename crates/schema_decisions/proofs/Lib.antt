@@ -1,14 +1,9 @@
-pub mod CheckFaultLemmas
 pub mod LineLemmas
 pub mod TellingLemmas
 pub mod CheckOutcomeLemmas
-pub mod ArrayLemmas
 pub mod CheckLemmas
-pub mod DecidedLemmas
-pub mod FaultLemmas
-pub mod LineOrRefusal
 pub mod OutcomeLemmas
-pub mod StoreLemmas
+pub mod UnderSchemaLemmas
 -- crates below, passed on to those above
 pub use Rattle.decision_texts.proofs as of_decision_texts
 pub use Rattle.decision_texts.proofs.of_json_values

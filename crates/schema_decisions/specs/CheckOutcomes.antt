@@ -2,7 +2,7 @@
 -- A rule of this product: it follows from the texts alone; only want of memory may come at any call, whatever the
 -- texts.
 use Rattle.std.specs.Prelude.{◌≡◌, ℕ, Bool, List}
-use Rattle.decision_texts.specs.declared.refusal.Refusal.{Refusal}
+use Rattle.decision_texts.specs.answer_lines.declared.refusal.Refusal.{Refusal}
 use Rattle.schema_decisions.specs.Checks.{IsChecked, AreChecksRefused}
 
 -- lines, and whether they tell of a refused policy; or the texts are refused

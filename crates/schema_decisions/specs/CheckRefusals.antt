@@ -3,8 +3,8 @@
 use Rattle.std.specs.Prelude.{ℕ, Some, None}
 use Rattle.validator.specs.schema_types.declared.fault.SchemaFault.{SchemaFault}
 use Rattle.validator.specs.schema_types.Codes as schemas
-use Rattle.decision_texts.specs.declared.refusal.Refusal.{Refusal}
-use Rattle.decision_texts.specs.Refusals.{no_memory}
+use Rattle.decision_texts.specs.answer_lines.declared.refusal.Refusal.{Refusal}
+use Rattle.decision_texts.specs.answer_lines.Refusals.{no_memory}
 use Rattle.validator.specs.declared.fault.TypeFault.{TypeFault}
 use Rattle.validator.specs.declared.fault.TypeFault.TheVariants.{NoMemory}
 use Rattle.validator.specs.Faults as validation

@@ -5,12 +5,12 @@ pub mod CheckOutcomes
 pub mod inner
 pub mod Refusals
 pub mod Policies
-pub mod EntityArrays
-pub mod Requests
+pub mod UnderSchema
 pub mod Decisions
 pub mod Outcomes
 -- crates below, passed on to those above
 pub use Rattle.decision_texts.specs as decision_texts
+pub use Rattle.decision_texts.specs.answer_lines
 pub use Rattle.decision_texts.specs.entity_data
 pub use Rattle.decision_texts.specs.json_values
 pub use Rattle.decision_texts.specs.policy_grammar

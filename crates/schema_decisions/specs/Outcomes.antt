@@ -4,9 +4,9 @@
 use Rattle.std.specs.Prelude.{◌≡◌, ◌⊎◌, ℕ, List, map}
 use Rattle.entity_hierarchy.specs.authoriser.Laws.{AreIdsAscending}
 use Rattle.entity_hierarchy.specs.Laws.{stated_world}
-use Rattle.decision_texts.specs.declared.refusal.Refusal.{Refusal}
-use Rattle.decision_texts.specs.Decisions.{named_policies}
-use Rattle.schema_decisions.specs.Decisions.{stated, IsAnswerTo, IsDecided, IsSchemaDecisionRefused}
+use Rattle.decision_texts.specs.answer_lines.declared.refusal.Refusal.{Refusal}
+use Rattle.decision_texts.specs.Decisions.{named_policies, stated, IsAnswerTo}
+use Rattle.schema_decisions.specs.Decisions.{IsDecided, IsSchemaDecisionRefused}
 
 -- four texts have one line at most
 abbrev pub OneLine : Type 0

@@ -1,7 +1,7 @@
 //! The texts of a schema and of policies, checked.
 ghost use Rattle.std.specs.Prelude.{◌≡◌, ◌||◌, IfOk, IfErr};
 ghost use Rattle.validator.specs.schema.Views.{schema_view};
-ghost use Rattle.decision_texts.specs.Refusals.{no_memory};
+ghost use Rattle.decision_texts.specs.answer_lines.Refusals.{no_memory};
 ghost use Rattle.decision_texts.specs.Decisions.{ArePoliciesRefused};
 ghost use Rattle.validator.specs.Outcomes.{IsCheckResult};
 ghost use Rattle.schema_decisions.specs.Lines.{is_refusal};

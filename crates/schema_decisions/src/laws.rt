@@ -2,7 +2,6 @@
 ghost use Rattle.schema_decisions.specs.Outcomes.{OneLine, NotBoth, OneRefusal, LineOrRefusal};
 ghost use Rattle.schema_decisions.specs.Outcomes.{ListsOfLinesAscend, MemberOfDecidesAlike};
 
-use crate::check_laws::checks_have_one_outcome;
 use entity_hierarchy::{
     actions_may_be_closed, answers_are_lawful, bytes_have_one_outcome, file_names_differ,
     requests_have_one_outcome, texts_have_one_reading,
@@ -23,7 +22,6 @@ pub fn texts_have_one_outcome()
     bytes_have_one_outcome();
     texts_have_one_reading();
     file_names_differ();
-    checks_have_one_outcome();
     policies_have_one_outcome();
     requests_have_one_outcome();
     actions_may_be_closed();

@@ -5,23 +5,22 @@ mod check_laws;
 mod check_refusals;
 mod checking;
 mod deciding;
-mod entity_array;
 mod laws;
 mod lines;
 mod policies;
-mod question;
 mod reading;
 mod refusal;
+mod under_schema;
 
 pub use check_laws::checks_have_one_outcome;
 pub use check_refusals::{check_refusal, schema_refusal};
 pub use checking::check_texts;
 pub use deciding::decide_under;
 pub use decision_texts::{
-    Answer, Member, Members, Policy, Refusal, Scratch, answer_line, members_of, policies_in,
-    read_uid,
+    Answer, Member, Members, Policy, Refusal, Scratch, answer_line, decide_texts, judge_entities,
+    members_of, policies_in, read_uid,
 };
-pub use entity_array::judge_entities;
 pub use laws::texts_have_one_outcome;
 pub use reading::schema_in;
+pub use under_schema::UnderSchema;
 pub use validator::Schema;

@@ -2,7 +2,7 @@
 ghost use Rattle.std.specs.Prelude.{◌≡◌, IfOk, IfErr};
 ghost use Rattle.validator.specs.schema.Schemas.{IsSchemaOf};
 ghost use Rattle.validator.specs.schema.Views.{schema_view};
-ghost use Rattle.decision_texts.specs.Refusals.{no_memory};
+ghost use Rattle.decision_texts.specs.answer_lines.Refusals.{no_memory};
 ghost use Rattle.schema_decisions.specs.Checks.{IsSchemaRefused};
 
 use crate::check_refusals::schema_refusal;

@@ -5,18 +5,13 @@ ghost use Rattle.schema_decisions.specs.Refusals.{entity_refusal};
 use decision_texts::Refusal;
 use entity_hierarchy::EntityFault;
 
-/// Returns a fault of an entity, at its place in the array, or of a request, which has none. Want of memory has no
-/// place.
-pub(crate) fn entity_refusal(place: Option<usize>, fault: EntityFault) -> Refusal
-    ensures { result ≡ entity_refusal place fault }
+/// Returns a fault of an entity or of a request as a refusal, which has no place.
+pub(crate) fn entity_refusal(fault: EntityFault) -> Refusal
+    ensures { result ≡ entity_refusal fault }
 {
-    let place = match fault {
-        EntityFault::NoMemory => None,
-        _ => place,
-    };
     Refusal {
         code: fault.code(),
-        place,
+        place: None,
         within: None,
     }
 }

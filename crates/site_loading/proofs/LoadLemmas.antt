@@ -17,10 +17,11 @@ use Rattle.schema_decisions.specs.schema.Views.{schema_view}
 use Rattle.schema_decisions.specs.entity_data.declared.entity.Entity.{Entity}
 use Rattle.site_steps.specs.stamped_store.Store.{Store, updates}
 use Rattle.site_steps.specs.message_format.Messages.{state_text, updates_stated}
-use Rattle.schema_decisions.specs.decision_texts.declared.refusal.Refusal.{Refusal}
-use Rattle.schema_decisions.specs.decision_texts.Refusals.{bad_shape, no_memory}
+use Rattle.schema_decisions.specs.answer_lines.declared.refusal.Refusal.{Refusal}
+use Rattle.schema_decisions.specs.answer_lines.Refusals.{bad_shape, no_memory}
 use Rattle.plain.specs.Refused.{OrNoMemory}
-use Rattle.schema_decisions.specs.EntityArrays.{entities_in, entities_of}
+use Rattle.schema_decisions.specs.decision_texts.EntityArrays.{entities_in, entities_of}
+use Rattle.schema_decisions.specs.UnderSchema.{reading_under}
 use Rattle.site_steps.specs.Seen.{Seen, schema_of, store_in, IsSameSite}
 use Rattle.grammar_files.specs.grammar_tokens.Lexing.{IsBadAt, BadIsNotLexed}
 use Rattle.schema_decisions.specs.policy_grammar.declared.policy.Policy.{Policy}
@@ -111,12 +112,12 @@ policies_refused law schema n s bytes ps ts (Err e) a cut puts = λ other. by_pu
 
 -- what the JSON comes to, if there is any
 abbrev judged_array : StatedSchema → Option Items → Result (List Entity) Refusal
-judged_array s o = or_fault (bad_shape None) o >>= λ (ds : Items). entities_in s ds
+judged_array s o = or_fault (bad_shape None) o >>= λ (ds : Items). entities_in (reading_under s) ds
 
 abbrev judged : StatedSchema → Option Data → Result (List Entity) Refusal
 judged s o = or_fault (bad_shape None) o >>= λ (d : Data). judged_array s (as_array d)
 
-judged_is : (s : StatedSchema) (bytes : List ℕ) → entities_of s bytes ≡ judged s (json_of bytes)
+judged_is : (s : StatedSchema) (bytes : List ℕ) → entities_of (reading_under s) bytes ≡ judged s (json_of bytes)
 unfolding entities_of
 judged_is s bytes = refl
 
@@ -133,7 +134,7 @@ no_list None e = refl
 no_list (Some ds) e = absurd cc
 
 -- it has members
-pub some_members : (s : StatedSchema) (bytes : List ℕ) (es : List Entity) → entities_of s bytes ≡ Ok es → array_of bytes ≡ None → ⊥
+pub some_members : (s : StatedSchema) (bytes : List ℕ) (es : List Entity) → entities_of (reading_under s) bytes ≡ Ok es → array_of bytes ≡ None → ⊥
 unfolding array_of
 some_members s bytes es h none = none_judged s (json_of bytes) es (sym (judged_is s bytes) ∙ h) (no_list (option_and_then as_array (json_of bytes)) none)
 
@@ -142,19 +143,19 @@ some_list None some = absurd (some refl)
 some_list (Some ds) some = (ds, refl)
 
 -- namely these
-pub members_are : (s : StatedSchema) (bytes : List ℕ) (es : List Entity) → entities_of s bytes ≡ Ok es → (ds : List Data) × (array_of bytes ≡ Some ds)
+pub members_are : (s : StatedSchema) (bytes : List ℕ) (es : List Entity) → entities_of (reading_under s) bytes ≡ Ok es → (ds : List Data) × (array_of bytes ≡ Some ds)
 members_are s bytes es h = some_list (array_of bytes) (some_members s bytes es h)
 
 pub items_are : (bytes : List ℕ) → items_of bytes ≡ array_of bytes
 unfolding array_of
 items_are bytes = refl
 
-pub entities_loaded : (schema : StatedSchema) (n : List ℕ) (s t : Store) (bytes : List ℕ) (es : List Entity) (xs : List Data) (r : Result ⊤ Refusal) → entities_of schema bytes ≡ Ok es
+pub entities_loaded : (schema : StatedSchema) (n : List ℕ) (s t : Store) (bytes : List ℕ) (es : List Entity) (xs : List Data) (r : Result ⊤ Refusal) → entities_of (reading_under schema) bytes ≡ Ok es
     → items_of bytes ≡ Some xs → OnOk r (AcceptsAll schema n s (map entity_put xs) t) → OnOk r (LoadsEntities schema n s bytes t)
 entities_loaded schema n s t bytes es xs (Ok done) read array puts = record { entities = es; read = read; items = xs; array = array; puts = puts }
 entities_loaded schema n s t bytes es xs (Err e) read array puts = tt
 
-pub entities_refused : (schema : StatedSchema) (n : List ℕ) (s : Store) (bytes : List ℕ) (es : List Entity) (xs : List Data) (r : Result ⊤ Refusal) → entities_of schema bytes ≡ Ok es
+pub entities_refused : (schema : StatedSchema) (n : List ℕ) (s : Store) (bytes : List ℕ) (es : List Entity) (xs : List Data) (r : Result ⊤ Refusal) → entities_of (reading_under schema) bytes ≡ Ok es
     → items_of bytes ≡ Some xs → IfErr r (OrNoMemory no_memory (RefusesFirst schema n s 0 (map entity_put xs))) → IfErr r (OrNoMemory no_memory (RefusesEntities schema n s bytes))
 entities_refused schema n s bytes es xs (Ok done) read array puts = tt
 entities_refused schema n s bytes es xs (Err e) read array puts = λ other. by_stored es xs read array (puts other)

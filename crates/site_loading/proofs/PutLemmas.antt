@@ -5,9 +5,9 @@ use Rattle.serde_json.specs.Data.{Data}
 use Rattle.schema_decisions.specs.schema.Views.{schema_view}
 use Rattle.schema_decisions.specs.schema.Schemas.{StatedSchema}
 use Rattle.site_steps.specs.stamped_store.Store.{Store}
-use Rattle.schema_decisions.specs.decision_texts.declared.refusal.Refusal.{Refusal}
+use Rattle.schema_decisions.specs.answer_lines.declared.refusal.Refusal.{Refusal}
 use Rattle.plain.specs.Refused.{OrNoMemory}
-use Rattle.schema_decisions.specs.decision_texts.Refusals.{no_memory}
+use Rattle.schema_decisions.specs.answer_lines.Refusals.{no_memory}
 use Rattle.site_steps.specs.declared.fault.SiteFault.{SiteFault}
 use Rattle.site_steps.specs.declared.fault.SiteFault.TheVariants as fault
 use Rattle.site_steps.specs.Seen.{Seen, schema_of, IsSameSite}

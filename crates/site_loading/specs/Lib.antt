@@ -3,5 +3,6 @@ pub mod Loads
 pub mod inner
 -- crates below, passed on to those above
 pub use Rattle.schema_decisions.specs as schema_decisions
+pub use Rattle.schema_decisions.specs.decision_texts
 pub use Rattle.schema_decisions.specs.schema
 pub use Rattle.site_steps.specs as site_steps

@@ -14,9 +14,10 @@ use Rattle.schema_decisions.specs.schema.Schemas.{StatedSchema}
 use Rattle.schema_decisions.specs.entity_data.declared.entity.Entity.{Entity}
 use Rattle.site_steps.specs.stamped_store.Store.{Store, updates}
 use Rattle.site_steps.specs.message_format.Messages.{state_text, updates_stated}
-use Rattle.schema_decisions.specs.decision_texts.declared.refusal.Refusal.{Refusal}
+use Rattle.schema_decisions.specs.answer_lines.declared.refusal.Refusal.{Refusal}
 use Rattle.schema_decisions.specs.decision_texts.Decisions.{ArePoliciesOf, ArePoliciesRefused}
-use Rattle.schema_decisions.specs.EntityArrays.{entities_of}
+use Rattle.schema_decisions.specs.decision_texts.EntityArrays.{entities_of}
+use Rattle.schema_decisions.specs.UnderSchema.{reading_under}
 use Rattle.site_loading.specs.Puts.{Deed, policy_put, entity_put, AcceptsAll, RefusesFirst}
 
 -- ---- policies
@@ -68,14 +69,14 @@ module _ (schema : StatedSchema) (n : List ℕ) where
 
   pub record LoadsEntities (s : Store) (bytes : List ℕ) (t : Store) : Type 0 where
     pub entities : List Entity
-    pub read : entities_of schema bytes ≡ Ok entities
+    pub read : entities_of (reading_under schema) bytes ≡ Ok entities
     pub items : List Data
     pub array : items_of bytes ≡ Some items
     pub puts : AcceptsAll schema n s (map entity_put items) t
 
   pub data RefusesEntities (s : Store) (bytes : List ℕ) (refusal : Refusal) : Type 0 where
-    by_array : entities_of schema bytes ≡ Err refusal → RefusesEntities s bytes refusal
-    by_stored : (entities : List Entity) (items : List Data) → entities_of schema bytes ≡ Ok entities
+    by_array : entities_of (reading_under schema) bytes ≡ Err refusal → RefusesEntities s bytes refusal
+    by_stored : (entities : List Entity) (items : List Data) → entities_of (reading_under schema) bytes ≡ Ok entities
         → items_of bytes ≡ Some items → RefusesFirst schema n s 0 (map entity_put items) refusal
         → RefusesEntities s bytes refusal
 

@@ -5,8 +5,8 @@ use Rattle.serde_json.specs.Data.{Data}
 use Rattle.schema_decisions.specs.schema.Schemas.{StatedSchema}
 use Rattle.site_steps.specs.stamped_store.declared.entry.Stamp.{Stamp}
 use Rattle.site_steps.specs.stamped_store.Store.{Store}
-use Rattle.schema_decisions.specs.decision_texts.declared.refusal.Refusal.{Refusal}
-use Rattle.schema_decisions.specs.decision_texts.Refusals.{no_memory}
+use Rattle.schema_decisions.specs.answer_lines.declared.refusal.Refusal.{Refusal}
+use Rattle.schema_decisions.specs.answer_lines.Refusals.{no_memory}
 use Rattle.site_steps.specs.declared.fault.SiteFault.{SiteFault}
 use Rattle.site_steps.specs.declared.fault.SiteFault.TheVariants.{NoMemory}
 use Rattle.site_steps.specs.declared.outcome.Put.{Put}

@@ -5,12 +5,14 @@ ghost use Rattle.serde_json.specs.View.{view};
 ghost use Rattle.schema_decisions.specs.json_values.Arrays.{to_come};
 ghost use Rattle.site_steps.specs.Seen.{schema_of, store_in, IsSameSite};
 ghost use Rattle.plain.specs.Refused.{OrNoMemory};
-ghost use Rattle.schema_decisions.specs.decision_texts.Refusals.{no_memory};
+ghost use Rattle.schema_decisions.specs.answer_lines.Refusals.{no_memory};
 ghost use Rattle.site_loading.specs.Puts.{entity_put, Accepts, AcceptsAll, RefusesAt, RefusesFirst};
 ghost use Rattle.site_loading.specs.Loads.{LoadsEntities, RefusesEntities};
 
 use crate::refusal::put_refusal;
-use schema_decisions::{Member, Members, Refusal, Scratch, judge_entities, members_of};
+use schema_decisions::{
+    Member, Members, Refusal, Scratch, UnderSchema, judge_entities, members_of,
+};
 use serde_json::Value;
 use site_steps::Site;
 use std::alloc::Global;
@@ -65,7 +67,8 @@ pub(crate) fn load_entities(alloc: Global, site: &mut Site, bytes: &[u8]) -> Res
         (store_in site.old) bytes.now)) }
     ensures same { IsSameSite site.old site.new }
 {
-    judge_entities(alloc, site.schema(), bytes)?;
+    let schema = site.schema();
+    judge_entities(alloc, &UnderSchema { schema }, bytes)?;
     let mut scratch = Scratch::new(alloc);
     let Some(mut members) = members_of(&mut scratch, bytes)? else {
         unreachable!();

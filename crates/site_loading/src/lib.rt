@@ -7,4 +7,4 @@ mod policies;
 mod refusal;
 
 pub use loading::loaded_state;
-pub use schema_decisions::{Schema, check_texts, decide_under, schema_in};
+pub use schema_decisions::{Schema, check_texts, decide_texts, decide_under, schema_in};

@@ -2,7 +2,7 @@
 ghost use Rattle.std.specs.Prelude.{◌≡◌, option_map, IfOk, IfErr, OnOk};
 ghost use Rattle.site_steps.specs.Seen.{schema_of, store_in, IsSameSite};
 ghost use Rattle.plain.specs.Refused.{OrNoMemory};
-ghost use Rattle.schema_decisions.specs.decision_texts.Refusals.{no_memory};
+ghost use Rattle.schema_decisions.specs.answer_lines.Refusals.{no_memory};
 ghost use Rattle.site_loading.specs.Loads.{IsLoadedState, IsRefused, LoadsIfNamed, RefusesIfNamed};
 ghost use Rattle.site_loading.specs.Loads.{LoadsPolicies, RefusesPolicies, LoadsEntities, RefusesEntities};
 

@@ -1,9 +1,10 @@
--- The answer over candidates is the answer over all.
+-- The answer over candidates is the answer over all, which are candidates themselves.
 use Rattle.std.specs.Prelude.{◌≡◌, Bool, List, Result, Ok, Err, IfOk}
-use Rattle.std.proofs.Common.{refl, subst}
+use Rattle.std.proofs.Common.{refl, sym, subst}
 use Rattle.values.specs.declared.entity_uid.EntityUid.{EntityUid}
 use Rattle.values.specs.declared.request.Request.{Request}
 use Rattle.ancestor_closure.specs.ancestor_search.Decided.{Decides}
+use Rattle.ancestor_closure.specs.ancestor_search.Hierarchy.{Parents}
 use Rattle.scope_index.specs.policy_grammar.declared.policy.Policy.{Policy}
 use Rattle.site_meaning.specs.evaluator.Operators.{World}
 use Rattle.site_meaning.specs.authoriser.declared.answer.Answer.{Answer}
@@ -14,9 +15,11 @@ use Rattle.site_meaning.specs.TextsRead.{policies_read}
 use Rattle.site_meaning.proofs.PolicyLemmas.{kept_ascend}
 use Rattle.site_store.specs.Candidates.{AreCandidates, Ascend, CandidatesSuffice}
 
-pub over_same : {E : Type 0} (result : Result Answer E) (W : World) (q : Request) (ps qs : List NamedPolicy) → ps ≡ qs
-    → IfOk result (IsAnswer W q ps) → IfOk result (IsAnswer W q qs)
-over_same result W q ps qs same h = subst (λ (xs : List NamedPolicy). IfOk result (IsAnswer W q xs)) same h
+-- all policies are candidates
+pub all_are_candidates : (parents : Parents) (q : Request) (ps qs : List NamedPolicy) → qs ≡ ps → AreCandidates parents q ps qs
+all_are_candidates parents q ps qs same =
+    subst (λ (xs : List NamedPolicy). AreCandidates parents q ps xs) (sym same)
+    (record { among = λ p has. has; all = λ p has applies. has })
 
 pub over_candidates : {E : Type 0} (result : Result Answer E) (W : World) (above : EntityUid → EntityUid → Bool) → Decides W.parents above
     → CandidatesSuffice → (q : Request) (k : StoreEntries Policy Entity) (ps : List NamedPolicy)

@@ -1,26 +1,29 @@
 -- What the code sees of a store and a schema is the world that they say.
-use Rattle.std.proofs.Common.{◌≡◌, ◌∙◌, refl, ap, sym, subst, List}
-use Rattle.std.specs.Prelude.{Result, IfOk, Option}
+use Rattle.std.proofs.Common.{◌≡◌, ◌∙◌, ap, subst, List, [], Some}
+use Rattle.std.specs.Prelude.{Option}
+use Rattle.std.specs.Option.{IfSome}
 use Rattle.values.specs.declared.entity_uid.EntityUid.{EntityUid}
-use Rattle.values.specs.declared.request.Request.{Request}
 use Rattle.scope_index.specs.policy_grammar.declared.policy.Policy.{Policy}
+use Rattle.scope_index.specs.Keys.{Kept}
+use Rattle.ancestor_closure.specs.ancestor_search.Decided.{Decides, reaches}
 use Rattle.ancestor_closure.specs.ancestor_search.Hierarchy.{Parents}
 use Rattle.ancestor_closure.specs.declared.keeping.KeptAncestors.{KeptAncestors}
 use Rattle.ancestor_closure.specs.Kept.{AreKept}
 use Rattle.site_meaning.specs.evaluator.Operators.{World, world_of}
-use Rattle.site_meaning.specs.authoriser.declared.answer.Answer.{Answer}
-use Rattle.site_meaning.specs.authoriser.Answers.{NamedPolicy, IsAnswer}
 use Rattle.site_meaning.specs.schema.SchemaEntries.{SchemaEntries}
 use Rattle.site_meaning.specs.schema.Views.{schema_view}
 use Rattle.site_meaning.specs.entity_data.declared.entity.Entity.{Entity}
-use Rattle.site_meaning.specs.entity_data.Entities.{EntityMap, attributes_of, kept_parents, action_or}
-use Rattle.site_meaning.specs.entity_hierarchy.Entities.{entities_under}
+use Rattle.site_meaning.specs.entity_data.Entities.{EntityMap, attributes_of, kept_parents, action_or, uids_with}
+use Rattle.site_meaning.specs.entity_data.Listing.{all_decided}
+use Rattle.site_meaning.specs.entity_hierarchy.Entities.{entities_under, actions_under, action_uids, actions_are_listed}
 use Rattle.stamped_store.specs.Store.{StoreEntries}
 use Rattle.site_meaning.specs.declared.stored_entities.StoredEntities.{StoredEntities}
 use Rattle.site_meaning.specs.Said.{data_in, world_under}
-use Rattle.site_meaning.specs.TextsRead.{entity_at}
+use Rattle.site_meaning.specs.TextsRead.{entity_at, uids_read}
+use Rattle.site_meaning.specs.Listed.{entities_listed}
 use Rattle.site_store.specs.Kept.{edges_under, AreAncestorsOf}
-use Rattle.site_store.specs.inner.Following.{AreKeptOf, HaveNoParents}
+use Rattle.site_store.specs.Seen.{SeenStore, world_stored}
+use Rattle.site_store.specs.inner.Worlds.{IsStoredWorld}
 
 abbrev pub Seen : Type 0
 Seen = StoredEntities × SchemaEntries
@@ -35,30 +38,43 @@ edges_seen w u = kept_parents (asked w u)
 abbrev pub world_seen : Seen → World
 world_seen w = world_of (λ u. attributes_of (asked w u)) (edges_seen w)
 
--- an action that states no group has no parents, whatever entities are kept
-tops_in : (schema : SchemaEntries) (entities : EntityMap)
-    → HaveNoParents (schema_view schema).member_of (λ u. kept_parents (entities_under schema entities u))
-tops_in schema entities u none =
-    ap (λ (o : Option (List EntityUid)). kept_parents (action_or o (entities u))) none
-
 module _ (w : Seen) (s : StoredEntities) (schema : SchemaEntries) (k : StoreEntries Policy Entity)
     (is_seen : w ≡ (s, schema)) (is_kept : s.store.now ≡ k) where
   pub edges_are : edges_seen w ≡ edges_under (schema_view schema) k.entities
   edges_are =
       ap edges_seen is_seen ∙ ap (λ (l : StoreEntries Policy Entity). edges_under (schema_view schema) l.entities) is_kept
 
-  pub world_is_kept : (held : KeptAncestors) → AreAncestorsOf (schema_view schema) k.entities held
-      → AreKeptOf (schema_view schema).member_of (edges_seen w) (edges_seen w) held
-  world_is_kept held h = record {
-    tops = subst (λ (v : Seen). HaveNoParents (schema_view schema).member_of (edges_seen v)) (sym is_seen)
-        (tops_in schema (data_in (entity_at s.store.now.entities)));
-    same = refl;
-    kept = subst (λ (p : Parents). AreKept p held) (sym edges_are) h;
-  }
+-- ---- a store with what is kept beside it
 
-  pub decided : {E : Type 0} (result : Result Answer E) (q : Request) (ps : List NamedPolicy)
-      → IfOk result (IsAnswer (world_seen w) q ps)
-      → IfOk result (IsAnswer (world_under (schema_view schema) (entity_at k.entities)) q ps)
-  decided result q ps h =
-      subst (λ (l : StoreEntries Policy Entity). IfOk result (IsAnswer (world_under (schema_view schema) (entity_at l.entities)) q ps))
-      is_kept (subst (λ (v : Seen). IfOk result (IsAnswer (world_seen v) q ps)) is_seen h)
+abbrev pub seen_store : SchemaEntries → StoreEntries Policy Entity → SeenStore
+seen_store schema k = record { schema = schema; kept = k }
+
+-- the uids of its entities and of the actions
+abbrev pub uids_stored : SeenStore → List EntityUid
+uids_stored s = uids_with (action_uids s.schema) (uids_read s.kept.entities)
+
+pub stored_decides : (s : SeenStore) → Decides (world_stored s).parents (reaches (world_stored s).parents (uids_stored s))
+stored_decides s = all_decided (actions_under s.schema) (action_uids s.schema) (actions_are_listed s.schema)
+    (data_in (entity_at s.kept.entities)) (uids_read s.kept.entities) (entities_listed s.kept.entities)
+
+-- an action that states no group has no parents, whatever entities are kept
+pub top_has_none : (s : SeenStore) (u : EntityUid) → (schema_view s.schema).member_of u ≡ Some [] → (world_stored s).parents u ≡ []
+top_has_none s u none =
+    ap (λ (o : Option (List EntityUid)). kept_parents (action_or o (data_in (entity_at s.kept.entities) u))) none
+
+module _ {schema : SchemaEntries} {k : StoreEntries Policy Entity} {index : Option Kept} {ancestors : Option KeptAncestors} {w : Seen}
+    (is : IsStoredWorld schema k index ancestors w) (s : SeenStore) (view_is : seen_store schema k ≡ s) where
+  -- what is searched is the world of the store,
+  pub world_searched : world_seen w ≡ world_stored s
+  world_searched =
+      ap (λ (l : StoreEntries Policy Entity). world_under (schema_view w.1) (entity_at l.entities)) is.store_is
+      ∙ ap (λ (x : SchemaEntries). world_under (schema_view x) (entity_at k.entities)) is.schema_is ∙ ap world_stored view_is
+
+  pub edges_searched : edges_seen w ≡ (world_stored s).parents
+  edges_searched = ap (λ (W : World). W.parents) world_searched
+
+  -- and what is kept are its ancestors
+  pub ancestors_kept : (held : KeptAncestors) → ancestors ≡ Some held → AreKept (world_stored s).parents held
+  ancestors_kept held stand =
+      subst (λ (x : SeenStore). AreKept (world_stored x).parents held) view_is
+      (subst (λ (o : Option KeptAncestors). IfSome o (AreAncestorsOf (schema_view schema) k.entities)) stand is.beside.ancestors_are)

@@ -1,2 +1,3 @@
 pub mod IndexFollowing
 pub mod Following
+pub mod Worlds

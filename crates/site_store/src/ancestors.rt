@@ -1,15 +1,11 @@
 //! The ancestors that are kept beside a store: made anew, and following a change of an entity.
-ghost use Rattle.std.specs.Prelude.{◌≡◌, ◌↔◌, ◌⊎◌, ◌++◌, ◌∷◌, [], None, IsTrue, IfOk, IfErr, IfSome, OnOk, OnErr};
+ghost use Rattle.std.specs.Prelude.{◌≡◌, ◌⊎◌, ◌++◌, ◌∷◌, [], None, IsTrue, IfOk, IfErr, IfSome, OnOk, OnErr};
 ghost use Rattle.values.specs.Names.{uid_cmp};
-ghost use Rattle.ancestor_closure.specs.ancestor_search.Hierarchy.{IsOnCycle};
-ghost use Rattle.site_meaning.specs.schema.Schemas.{StatedSchema};
 ghost use Rattle.site_meaning.specs.schema.Views.{schema_view};
 ghost use Rattle.stamped_store.specs.EntryOrder.{plain_entry, greater};
 ghost use Rattle.stamped_store.specs.Store.{abstract_store, store_of, updates, kept, entity_name, KeepsOtherNames};
 ghost use Rattle.stamped_store.specs.Stored.{taken, value_at};
-ghost use Rattle.site_meaning.specs.Said.{parents_with};
-ghost use Rattle.site_meaning.specs.TextsRead.{entity_at};
-ghost use Rattle.site_store.specs.Kept.{EntityEntries, AreAncestorsOf};
+ghost use Rattle.site_store.specs.Kept.{AreAncestorsOf};
 ghost use Rattle.site_store.specs.inner.Following.{AreAncestorsBut};
 ghost use Rattle.site_store.specs.Staying.{Stays};
 
@@ -152,13 +148,4 @@ pub(crate) fn take_entity(
         return store.take_entity(uid, entry);
     }
     take_and_follow(alloc, schema, store, ancestors, pace, uid, entry)
-}
-
-/// Returns whether an entity is on a cycle once its edges are those that it states: two look-ups for each parent, and
-/// no memory. It answers of each store whose ancestors these are.
-pub(crate) fn would_cycle_by(ancestors: &KeptAncestors, entity: &Entity) -> bool
-    ensures { (schema : StatedSchema) (entries : EntityEntries) → AreAncestorsOf schema entries ancestors.now
-        → (IsTrue result ↔ IsOnCycle (parents_with schema (entity_at entries) entity.now) entity.now.uid) }
-{
-    ancestors.would_cycle(&entity.uid, entity.parents.as_slice())
 }

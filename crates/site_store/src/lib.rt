@@ -10,12 +10,12 @@
 mod ancestors;
 mod answering;
 mod index;
-mod kept_world;
 mod laws;
 mod offering;
 mod pace;
 mod staying;
 mod store;
+mod stored_world;
 mod tries;
 
 pub use ancestor_closure::paths_are_decided;

@@ -1,5 +1,5 @@
 //! The store and what is kept beside it.
-ghost use Rattle.std.specs.Prelude.{◌≡◌, ◌↔◌, ◌++◌, ◌∷◌, [], IfOk, IfSome, OnOk, OnErr, IfErr, IsTrue};
+ghost use Rattle.std.specs.Prelude.{◌≡◌, ◌++◌, ◌∷◌, [], IfOk, IfSome, OnOk, OnErr, IfErr};
 ghost use Rattle.std.specs.Prelude.{string_bytes, true, false};
 ghost use Rattle.std.specs.String.{string_cmp};
 ghost use Rattle.values.specs.Names.{uid_cmp};
@@ -9,20 +9,18 @@ ghost use Rattle.stamped_store.specs.Reading.{AreEntriesRead};
 ghost use Rattle.stamped_store.specs.Store.{abstract_store, store_of, updates, kept};
 ghost use Rattle.stamped_store.specs.Store.{policy_name, entity_name, KeepsOtherNames};
 ghost use Rattle.stamped_store.specs.Stored.{taken};
-ghost use Rattle.ancestor_closure.specs.ancestor_search.Hierarchy.{IsOnCycle, with_parents};
-ghost use Rattle.site_meaning.specs.authoriser.Answers.{IsAnswer};
-ghost use Rattle.site_meaning.specs.Said.{IsAnswerOver, MakesCycle, MakesNoCycle, parents_with, world_under};
-ghost use Rattle.site_meaning.specs.TextsRead.{entity_at, policies_read};
+ghost use Rattle.site_meaning.specs.Said.{IsAnswerOver, MakesCycle, MakesNoCycle};
 ghost use Rattle.site_store.specs.Indexed.{AreIndexed};
 ghost use Rattle.site_store.specs.Kept.{AreAncestorsOf};
 ghost use Rattle.site_store.specs.Seen.{AreBeside};
 
-use crate::ancestors::{ancestors_of, take_entity, would_cycle_by};
-use crate::answering::{answer_by_kept, is_in_order};
+use crate::ancestors::{ancestors_of, take_entity};
+use crate::answering::is_in_order;
 use crate::index::{stand_index, take_policy};
 use crate::pace::Pace;
+use crate::stored_world::StoredWorld;
 use crate::tries::Tries;
-use ancestor_closure::{KeptAncestors, ParentsOf};
+use ancestor_closure::KeptAncestors;
 use plain::{NoMemory, Shared};
 use scope_index::{Policy, ScopeIndex};
 use site_meaning::{Answer, Entity, Schema, StoredEntities, world_under};
@@ -93,47 +91,6 @@ fn stand(
 {
     stand_index(alloc, store, index);
     stand_ancestors(alloc, schema, store, ancestors, pace);
-}
-
-/// Returns whether an entity is on a cycle of a graph in which its edges are those that it states.
-fn is_on_cycle_in<G: ParentsOf>(alloc: Global, graph: &G, entity: &Entity) -> Result<bool, NoMemory>
-    ensures { let changed = with_parents (G.parents graph.now) entity.now.uid entity.now.parents in
-        IfOk result (λ yes. IsTrue yes ↔ IsOnCycle changed entity.now.uid) }
-{
-    ancestor_closure::would_cycle(alloc, graph, &entity.uid, entity.parents.as_slice())
-}
-
-/// Returns whether an entity is on a cycle once its edges are those that it states, the hierarchy searched in place.
-fn would_cycle_by_world(
-    alloc: Global,
-    schema: &Schema,
-    store: &PolicyStore<Policy, Entity>,
-    entity: &Entity,
-) -> Result<bool, NoMemory>
-    ensures { IfOk result (λ yes. IsTrue yes
-        ↔ IsOnCycle (parents_with (schema_view schema.now) (entity_at store.now.entities) entity.now) entity.now.uid) }
-{
-    let entities = StoredEntities::of(store);
-    let world = world_under(alloc, &entities, schema);
-    is_on_cycle_in(alloc, &world, entity)
-}
-
-/// Returns whether an entity is on a cycle once its edges are those that it states, by what stands beside the texts.
-fn would_cycle_by_kept(
-    alloc: Global,
-    schema: &Schema,
-    store: &PolicyStore<Policy, Entity>,
-    ancestors: &Option<KeptAncestors>,
-    entity: &Entity,
-) -> Result<bool, NoMemory>
-    requires { IfSome ancestors.now (AreAncestorsOf (schema_view schema.now) store.now.entities) }
-    ensures { IfOk result (λ yes. IsTrue yes
-        ↔ IsOnCycle (parents_with (schema_view schema.now) (entity_at store.now.entities) entity.now) entity.now.uid) }
-{
-    match ancestors {
-        Some(ancestors) => Ok(would_cycle_by(ancestors, entity)),
-        None => would_cycle_by_world(alloc, schema, store, entity),
-    }
 }
 
 impl AcceleratedStore {
@@ -301,37 +258,21 @@ impl AcceleratedStore {
         );
     }
 
-    /// Returns the answer by what stands beside the texts.
-    fn answer_by_kept(&self, request: &Request) -> Result<Answer, NoMemory>
-        ensures { IfOk result (IsAnswer
-            (world_under (schema_view self.now.schema) (entity_at self.now.kept.entities)) request.now
-            (policies_read self.now.kept.policies)) }
+    /// Lends this store as requests are decided over it, where these are its entities.
+    fn lend_world<'a, 's>(&'a self, entities: &'a StoredEntities<'s>) -> StoredWorld<'a, 's>
+        requires { entities.now.store.now ≡ self.now.kept }
+        ensures { result ≡ self.now }
     {
-        answer_by_kept(
-            self.alloc,
-            self.schema.get(),
-            &self.store,
-            &self.index,
-            &self.ancestors,
-            request,
-            &self.tries,
-        )
-    }
-
-    /// Returns whether an entity is on a cycle once its edges are those that it states, by what stands beside the
-    /// texts.
-    fn would_cycle_by_kept(&self, entity: &Entity) -> Result<bool, NoMemory>
-        ensures { IfOk result (λ yes. IsTrue yes ↔ IsOnCycle
-            (parents_with (schema_view self.now.schema) (entity_at self.now.kept.entities) entity.now)
-            entity.now.uid) }
-    {
-        would_cycle_by_kept(
-            self.alloc,
-            self.schema.get(),
-            &self.store,
-            &self.ancestors,
-            entity,
-        )
+        let schema = self.schema.get();
+        let searched = world_under(self.alloc, entities, schema);
+        StoredWorld {
+            alloc: self.alloc,
+            schema,
+            store: &self.store,
+            index: &self.index,
+            ancestors: &self.ancestors,
+            searched,
+        }
     }
 
     /// Returns the answer to a request over the store: over the policies and entities that its texts are read as, and
@@ -346,7 +287,9 @@ impl AcceleratedStore {
             (abstract_store self.now.kept) request.now a) }
     {
         is_in_order(&self.store);
-        self.answer_by_kept(request)
+        let entities = StoredEntities::of(&self.store);
+        let world = self.lend_world(&entities);
+        world.answer(request, &self.tries)
     }
 
     /// Returns whether an entity would be on a cycle once it is put into the store, whatever its uid has there now.
@@ -366,7 +309,9 @@ impl AcceleratedStore {
             entity.now) }
     {
         is_in_order(&self.store);
-        self.would_cycle_by_kept(entity)
+        let entities = StoredEntities::of(&self.store);
+        let world = self.lend_world(&entities);
+        world.would_cycle(entity)
     }
 
     /// Drops what is kept beside the store, as where memory is refused for it; for tests alone, which can't have memory

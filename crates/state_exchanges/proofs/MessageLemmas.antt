@@ -17,7 +17,7 @@ use Rattle.sync_messages.specs.message_format.Updates.{IsMessage, IsMessageFault
 use Rattle.sync_messages.specs.message_format.Updates.{plain_updates}
 use Rattle.sync_messages.specs.declared.texts.SchemaTexts.{SchemaTexts}
 use Rattle.sync_messages.specs.Texts.{ReadsPolicy, RefusesPolicy, ReadsEntity, RefusesEntity}
-use Rattle.schema_decisions.specs.decision_texts.Refusals.{no_memory}
+use Rattle.schema_decisions.specs.answer_lines.Refusals.{no_memory}
 use Rattle.state_exchanges.specs.Messages.{IsMergeableMessage, message_refusal, IsMessageRefused, Joins, IsSendable}
 use Rattle.state_exchanges.specs.Messages.{IsReadBack}
 use Rattle.state_exchanges.specs.inner.Merging.{IsMergedUnder}

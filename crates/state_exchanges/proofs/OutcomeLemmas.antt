@@ -14,7 +14,7 @@ use Rattle.sync_messages.specs.message_format.Updates.{IsMessageFault, plain_upd
 use Rattle.sync_messages.specs.message_format.Bodies.{TextsHaveOneOutcome}
 use Rattle.sync_messages.specs.Laws.{PoliciesHaveOneReading, EntitiesHaveOneReading}
 use Rattle.sync_messages.specs.Texts.{ReadsPolicy, RefusesPolicy, ReadsEntity, RefusesEntity}
-use Rattle.schema_decisions.specs.decision_texts.declared.refusal.Refusal.{Refusal}
+use Rattle.schema_decisions.specs.answer_lines.declared.refusal.Refusal.{Refusal}
 use Rattle.schema_decisions.specs.CheckRefusals.{schema_refusal}
 use Rattle.state_exchanges.specs.Messages.{IsMergeableMessage, message_refusal, IsMessageRefused}
 use Rattle.state_exchanges.specs.Merges.{AreRefusedUnder, AreRefused}

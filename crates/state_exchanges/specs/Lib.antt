@@ -7,7 +7,7 @@ pub mod Exchanges
 pub mod Pulls
 -- crates below, passed on to those above
 pub use Rattle.schema_decisions.specs as schema_decisions
-pub use Rattle.schema_decisions.specs.decision_texts
+pub use Rattle.schema_decisions.specs.answer_lines
 pub use Rattle.schema_decisions.specs.entity_data
 pub use Rattle.schema_decisions.specs.policy_grammar
 pub use Rattle.sync_messages.specs.schema

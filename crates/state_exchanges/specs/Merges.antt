@@ -8,7 +8,7 @@ use Rattle.sync_messages.specs.stamped_store.Store.{Store, store_of}
 use Rattle.sync_messages.specs.message_format.declared.update.Update.{Update as SentUpdate}
 use Rattle.sync_messages.specs.message_format.Messages.{state_text}
 use Rattle.sync_messages.specs.message_format.Updates.{plain_updates}
-use Rattle.schema_decisions.specs.decision_texts.declared.refusal.Refusal.{Refusal}
+use Rattle.schema_decisions.specs.answer_lines.declared.refusal.Refusal.{Refusal}
 use Rattle.schema_decisions.specs.Checks.{IsSchemaRefused}
 use Rattle.state_exchanges.specs.Messages.{IsMergeableMessage, IsMessageRefused, IsReadBack}
 

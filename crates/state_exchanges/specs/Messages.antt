@@ -12,7 +12,7 @@ use Rattle.sync_messages.specs.message_format.Faults.{code_of, place_of, within_
 use Rattle.sync_messages.specs.message_format.declared.update.Update.{Update as SentUpdate}
 use Rattle.sync_messages.specs.message_format.Updates.{IsMessage, IsMessageFault, AreInRange, AreValid, plain_updates}
 use Rattle.sync_messages.specs.Texts.{ReadsPolicy, RefusesPolicy, ReadsEntity, RefusesEntity}
-use Rattle.schema_decisions.specs.decision_texts.declared.refusal.Refusal.{Refusal}
+use Rattle.schema_decisions.specs.answer_lines.declared.refusal.Refusal.{Refusal}
 
 -- ---- messages
 

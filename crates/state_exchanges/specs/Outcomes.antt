@@ -2,7 +2,7 @@
 -- Sources: rules of this product; that joins are associative, commutative and idempotent is from "Conflict-free
 -- Replicated Data Types" (Shapiro, Preguiça, Baquero, Zawirski 2011), state-based objects.
 use Rattle.std.specs.Prelude.{◌≡◌, ℕ, List}
-use Rattle.schema_decisions.specs.decision_texts.declared.refusal.Refusal.{Refusal}
+use Rattle.schema_decisions.specs.answer_lines.declared.refusal.Refusal.{Refusal}
 use Rattle.state_exchanges.specs.Merges.{IsMerged, IsMergedBack, AreRefused}
 
 -- a state, or a refusal

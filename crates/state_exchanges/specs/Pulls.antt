@@ -5,7 +5,7 @@ use Rattle.std.specs.Prelude.{◌≡◌, ◌⊎◌, ℕ, List, Option, Some, Non
 use Rattle.sync_messages.specs.schema.Schemas.{StatedSchema, IsSchemaOf}
 use Rattle.sync_messages.specs.stamped_store.Store.{Store}
 use Rattle.sync_messages.specs.message_format.Messages.{state_text}
-use Rattle.schema_decisions.specs.decision_texts.declared.refusal.Refusal.{Refusal}
+use Rattle.schema_decisions.specs.answer_lines.declared.refusal.Refusal.{Refusal}
 use Rattle.schema_decisions.specs.Checks.{IsSchemaRefused}
 use Rattle.state_exchanges.specs.Messages.{IsMessageRefused, IsReadBack, Joins}
 

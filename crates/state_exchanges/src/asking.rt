@@ -1,13 +1,14 @@
 //! The request for what is news, and its reply.
 ghost use Rattle.std.specs.Prelude.{◌≡◌, ◌≢◌, Err, IfOk, OnErr};
-ghost use Rattle.schema_decisions.specs.decision_texts.declared.refusal.Refusal.{Refusal};
-ghost use Rattle.schema_decisions.specs.decision_texts.Refusals.{no_memory};
+ghost use Rattle.schema_decisions.specs.answer_lines.declared.refusal.Refusal.{Refusal};
+ghost use Rattle.schema_decisions.specs.answer_lines.Refusals.{no_memory};
 ghost use Rattle.state_exchanges.specs.declared.fault.NetworkFault.{NetworkFault};
 ghost use Rattle.state_exchanges.specs.Requests.{delta_request};
 ghost use Rattle.state_exchanges.specs.Exchanges.{IsAnswered, IsUnanswered, IsRequestBegun};
 ghost use Rattle.state_exchanges.specs.inner.Faults.{pull_fault};
 
 use crate::fault::{NetworkFault, PullFault};
+use http::{Method, StatusCode};
 use http_streams::fetch::{FetchFault, fetch};
 use http_streams::{Ask, Sink, Source};
 use plain::NoMemory;
@@ -46,14 +47,14 @@ pub(crate) fn ask<R: Source, W: Sink>(
     ensures writes { result ≢ Err (PullFault.Network NetworkFault.Write) → W.failed writer.new ≡ W.failed writer.old }
 {
     let ask = Ask {
-        method: b"POST",
+        method: &Method::POST,
         host,
         path: b"/v1/delta",
         body: Some(summary),
     };
     match fetch(alloc, reader, writer, &ask) {
         Ok((status, body)) => {
-            if status == 200 {
+            if status == StatusCode::OK.as_u16() {
                 return Ok(body);
             }
             Err(PullFault::Network(NetworkFault::OtherStatus(status)))

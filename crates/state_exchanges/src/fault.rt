@@ -1,6 +1,6 @@
 //! Why nothing is pulled.
 ghost use Rattle.std.specs.Prelude.{◌≡◌};
-ghost use Rattle.schema_decisions.specs.decision_texts.Refusals.{no_memory};
+ghost use Rattle.schema_decisions.specs.answer_lines.Refusals.{no_memory};
 ghost use Rattle.state_exchanges.specs.declared.fault.PullFault.TheVariants as pull;
 
 use plain::NoMemory;

@@ -2,7 +2,7 @@
 ghost use Rattle.std.specs.Prelude.{◌≡◌, ◌++◌, ◌∷◌, [], length, IfOk, IfErr, OnOk};
 ghost use Rattle.sync_messages.specs.schema.Views.{schema_view};
 ghost use Rattle.sync_messages.specs.stamped_store.Store.{abstract_store, store_of, updates};
-ghost use Rattle.schema_decisions.specs.decision_texts.Refusals.{no_memory};
+ghost use Rattle.schema_decisions.specs.answer_lines.Refusals.{no_memory};
 ghost use Rattle.sync_messages.specs.message_format.Messages.{state_text};
 ghost use Rattle.sync_messages.specs.message_format.Updates.{plain_update, plain_updates};
 ghost use Rattle.state_exchanges.specs.Messages.{IsMergeableMessage, IsMessageRefused, IsSendable, IsReadBack, Joins};

@@ -2,7 +2,7 @@
 ghost use Rattle.std.specs.Prelude.{◌≡◌, IfOk, IfErr, Err};
 ghost use Rattle.sync_messages.specs.schema.Views.{schema_view};
 ghost use Rattle.sync_messages.specs.stamped_store.Store.{abstract_store};
-ghost use Rattle.schema_decisions.specs.decision_texts.Refusals.{no_memory};
+ghost use Rattle.schema_decisions.specs.answer_lines.Refusals.{no_memory};
 ghost use Rattle.state_exchanges.specs.Merges.{IsMerged, IsMergedBack, AreRefused, AreRefusedUnder};
 ghost use Rattle.state_exchanges.specs.inner.Merging.{IsJoinWith, IsMergedUnder};
 

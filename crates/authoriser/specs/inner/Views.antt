@@ -77,6 +77,11 @@ pub record HasAllAbove (parents : Parents) (o : Other) : Type 0 where
 abbrev pub HaveAllAbove : Parents → Others → Type 0
 HaveAllAbove parents others = All (HasAllAbove parents) others.kept.items
 
+-- what is known beside a world, of the three and of others, is what the world says
+pub record IsKnown (W : World) (q : Request) (s : RequestEntities) (others : Others) : Type 0 where
+  pub three : AreLookedUp W q s
+  pub rest : HaveAllAbove W.parents others
+
 -- the scope is true, by the ancestors that were looked up
 abbrev pub IsTrueOf : Scope → RequestEntities → Type 0
 IsTrueOf scope s =

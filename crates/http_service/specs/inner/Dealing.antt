@@ -1,6 +1,6 @@
 -- What becomes of one request, with the text that its reply is appended to.
 use Rattle.std.specs.Prelude.{◌≡◌, ◌⊎◌, ℕ, List, ◌++◌, Err}
-use Rattle.http_replies.specs.http_texts.declared.status.Status.{Status}
+use Rattle.http.specs.declared.status.StatusCode.{StatusCode}
 use Rattle.http_replies.specs.site_steps.Seen.{Seen}
 use Rattle.http_replies.specs.Replies.{IsReplyOrNoMemory}
 use Rattle.http_service.specs.Asked.{Asked}
@@ -10,12 +10,12 @@ use Rattle.http_replies.specs.site_steps.declared.reply.Reply.TheVariants as rep
 use Rattle.http_service.specs.Answered.{Replies, told}
 
 -- it is told behind what the text had, or want of memory is
-abbrev pub ReportsOrNoMemory : Status × List ℕ → Status → List ℕ → List ℕ → Type 0
+abbrev pub ReportsOrNoMemory : StatusCode × List ℕ → StatusCode → List ℕ → List ℕ → Type 0
 ReportsOrNoMemory reply status before after =
     (line : List ℕ) × (after ≡ before ++ line) × IsReplyOrNoMemory reply status line
 
 -- the reply to what was asked is appended, and the site goes on
-abbrev pub Deals : Seen → Asked → Status → List ℕ → List ℕ → Seen → Type 0
+abbrev pub Deals : Seen → Asked → StatusCode → List ℕ → List ℕ → Seen → Type 0
 Deals old a status before after new =
     (line : List ℕ) × (after ≡ before ++ line) × Replies old a status line new
 
@@ -29,6 +29,6 @@ lacking (reply.Found r) = reply.Found (Err fault.NoMemory)
 lacking (reply.Written r) = reply.Written (Err fault.NoMemory)
 
 -- a reply is appended, or that there is no memory to report it
-abbrev pub Tells : Reply → Status → List ℕ → List ℕ → Type 0
+abbrev pub Tells : Reply → StatusCode → List ℕ → List ℕ → Type 0
 Tells r status before after =
     (body : List ℕ) × (after ≡ before ++ body) × (((status, body) ≡ told r) ⊎ ((status, body) ≡ told (lacking r)))

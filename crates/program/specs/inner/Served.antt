@@ -1,5 +1,5 @@
--- What is left of a run that serves, once the schema is read, and what each step of it comes to.
-use Rattle.std.specs.Prelude.{◌≡◌, ℕ, zero, suc, Bool, List, [], ◌∷◌, ◌++◌, Option, Some, Result, Ok, Err}
+-- What each step of a run that serves comes to.
+use Rattle.std.specs.Prelude.{◌≡◌, ℕ, zero, suc, Bool, true, false, List, [], ◌∷◌, ◌++◌, Some, Result, Ok, Err}
 use Rattle.state_exchanges.specs.http_devices.declared.devices.Source.{Ghosts as Source}
 use Rattle.state_exchanges.specs.http_devices.declared.devices.Sink.{Ghosts as Sink}
 use Rattle.site_loading.specs.site_steps.Seen.{Seen}
@@ -7,10 +7,9 @@ use Rattle.program.specs.declared.device.Link.{Link}
 use Rattle.program.specs.declared.device.NetworkFailed.{NetworkFailed}
 use Rattle.program.specs.declared.device.Stream.TheVariants.{Faults}
 use Rattle.program.specs.Events.{Event, accepted, paused, wrote}
-use Rattle.program.specs.Reports.{ended, IsFailureReported}
-use Rattle.program.specs.Courses.{Course, Reads, ReadsIfNamed}
+use Rattle.program.specs.Reports.{ended}
 use Rattle.program.specs.Serving.{failing_line, pause_after, IsFailure, AreFailures, IsGivenUp, IsNextServed}
-use Rattle.program.specs.Serving.{AreServed, AreCutShort, IsServedFrom}
+use Rattle.program.specs.Serving.{AreServed, AreCutShort}
 
 module _ {L : Type 0} where
   -- what a failure brings, with so many right before: a warning of the first, and a pause
@@ -30,10 +29,10 @@ module _ {L : Type 0} where
       × (events ≡ failures ++ accepted (Some link) ∷ [])
   IsAwaited address (Err failed) events = IsGivenUp address events
 
-  -- nothing is left to do where so many were served; where fewer came, that is told
-  abbrev pub IsServingEnded : List ℕ → Result (Unit {0}) NetworkFailed → Course L
-  IsServingEnded address (Ok done) events end = (events ≡ []) × (end ≡ 0)
-  IsServingEnded address (Err failed) events end = IsFailureReported address events end
+  -- where it is due, a warning is written, whether or not the stream takes it
+  abbrev pub IsWarned : Bool → List ℕ → List (Event L) → Type 0
+  IsWarned false line events = events ≡ []
+  IsWarned true line events = (done : Bool) × (events ≡ wrote Faults (ended line) done ∷ [])
 
 module _ {R W : Type 0} (reader : Source R) (writer : Sink W) where
   -- a connection was served, or none came
@@ -46,11 +45,3 @@ module _ {R W : Type 0} (reader : Source R) (writer : Sink W) where
       → Type 0
   AreServedOrFewer address most old (Ok done) events new = AreServed reader writer address most old events new
   AreServedOrFewer address most old (Err failed) events new = AreCutShort reader writer address most old events new
-
-  abbrev pub IsServeNamed : List ℕ → List ℕ → List ℕ → Option ℕ → List ℕ → Course (Link R W)
-  IsServeNamed name state_name address connections schema =
-      Reads state_name (λ state. IsServedFrom reader writer schema name (Some state) address connections)
-
-  abbrev pub IsServeUnder : List ℕ → Option (List ℕ) → List ℕ → Option ℕ → List ℕ → Course (Link R W)
-  IsServeUnder name state_name address connections schema =
-      ReadsIfNamed state_name (λ state. IsServedFrom reader writer schema name state address connections)

@@ -1,5 +1,5 @@
 -- The faults of a fetch among those of a pull.
-use Rattle.schema_decisions.specs.decision_texts.Refusals.{no_memory}
+use Rattle.schema_decisions.specs.answer_lines.Refusals.{no_memory}
 use Rattle.http_streams.specs.declared.fetch.FetchFault.{FetchFault}
 use Rattle.http_streams.specs.declared.fetch.FetchFault.TheVariants as fetch
 use Rattle.state_exchanges.specs.declared.fault.NetworkFault.TheVariants as network

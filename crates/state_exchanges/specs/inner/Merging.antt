@@ -1,6 +1,6 @@
 -- Two messages merged under a schema that is read already.
 use Rattle.std.specs.Prelude.{◌≡◌, ℕ, List, Result, Ok}
-use Rattle.schema_decisions.specs.decision_texts.declared.refusal.Refusal.{Refusal}
+use Rattle.schema_decisions.specs.answer_lines.declared.refusal.Refusal.{Refusal}
 use Rattle.sync_messages.specs.schema.Schemas.{StatedSchema}
 use Rattle.sync_messages.specs.stamped_store.Store.{Store, IsStoreJoin, abstract_store}
 use Rattle.sync_messages.specs.message_format.Messages.{state_text}

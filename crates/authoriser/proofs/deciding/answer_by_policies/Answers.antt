@@ -1,20 +1,34 @@
+use Rattle.std.specs.Prelude.{[], refl}
+use Rattle.std.proofs.Common.{◌∙◌, subst}
 use Rattle.std.proofs.lemmas.Result.{IfOk-weaker}
 use Rattle.evaluator.specs.Operators.{world_of}
-use Rattle.authoriser.specs.Answers.{IsAnswer}
+use Rattle.authoriser.specs.Answers.{PolicyEvaluatesTo, IsAnswer}
 use Rattle.authoriser.specs.Views.{named}
-use Rattle.authoriser.proofs.Judging.{by_policies}
+use Rattle.authoriser.proofs.Judging.{next_policy, all_judged, counted, by_policies}
 use Rattle.authoriser.proofs.deciding.answer_by_policies.Goals as goal
 
-pub returns-then-is_searched : goal.returns-then-is_searched
-returns-then-is_searched g c =
-    let k = c.args.known.now in
-    let W = world_of (g.L.Lookup.stored k.0) (g.L.Ancestry.parents k.0) in
-    let ps = named c.args.policies.now in
-    IfOk-weaker c.answer_by_search.result _ (λ a. IsAnswer W k.1 ps a) (λ a h. by_policies W k.1 ps a c.requires h) c.answer_by_search.ensures
+pub loop-id-init : goal.loop-id-init
+loop-id-init g c = record {
+  same = refl;
+  judged = ([], tt, c.new-tally.ensures);
+}
 
-pub returns-else-is_searched : goal.returns-else-is_searched
-returns-else-is_searched g c =
+pub loop-id-preserved : goal.loop-id-preserved
+loop-id-preserved g c =
+    let k = c.args.known.now in
+    let same = c.keep_next.ensures ∙ c.loop-id.invariant.same in
+    let outcome = subst (λ s. PolicyEvaluatesTo (world_of (g.L.Lookup.stored s.0) (g.L.Ancestry.parents s.0)) s.1 c.loop-id-item.result.1.now c.in_ok-outcome.outcome) same c.in_ok-outcome.ensures in
+    record {
+      same = same;
+      judged = next_policy (world_of (g.L.Lookup.stored k.0) (g.L.Ancestry.parents k.0)) k.1 c.args.policies.now c.loop-id.id-index c.loop-id-item.result c.loop-id.tally c.note.new.self c.in_ok-outcome.outcome
+          c.loop-id-test.true c.loop-id-item.is outcome c.in_ok-note.ensures c.loop-id.invariant.judged;
+    }
+
+pub returns : goal.returns
+returns g c =
     let k = c.args.known.now in
     let W = world_of (g.L.Lookup.stored k.0) (g.L.Ancestry.parents k.0) in
     let ps = named c.args.policies.now in
-    IfOk-weaker c.answer_by_known.result _ (λ a. IsAnswer W k.1 ps a) (λ a h. by_policies W k.1 ps a c.requires h) c.answer_by_known.ensures
+    let js = c.loop-id.invariant.judged in
+    IfOk-weaker c.into_answer.result _ (λ a. IsAnswer W k.1 ps a)
+    (λ a is. by_policies W k.1 ps a c.requires (js.0, all_judged W k.1 c.args.policies.now c.loop-id.id-index js.0 c.loop-id-test.false js.1, is ∙ counted c.loop-id.tally js.0 js.2)) c.into_answer.ensures

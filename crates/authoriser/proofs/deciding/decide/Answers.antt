@@ -7,5 +7,5 @@ use Rattle.authoriser.proofs.deciding.decide.Goals as goal
 
 pub returns : goal.returns
 returns g c =
-    subst (λ k. IfOk c.answer_over.result (λ a. IsAnswer (world_of (g.L.Lookup.stored k.0) (g.L.Ancestry.parents k.0)) k.1 (named c.args.policies.now) a))
-    c.in_ok-known.ensures c.answer_over.ensures
+    subst (λ k. IfOk c.decide_known.result (λ a. IsAnswer (world_of (g.L.Lookup.stored k.0) (g.L.Ancestry.parents k.0)) k.1 (named c.args.policies.now) a))
+    c.in_ok-known.ensures c.decide_known.ensures

@@ -1,6 +1,6 @@
 use Rattle.std.proofs.Common.{◌∙◌, ap, sym}
 use Rattle.json_words.specs.ReadsAs.{or_fault}
-use Rattle.entity_uids.proofs.ListLemmas.{array_names}
+use Rattle.answer_lines.proofs.of_entity_uids.ListLemmas.{array_names}
 use Rattle.decision_texts.specs.declared.bare.ShapeFault.TheVariants.{BadShape}
 use Rattle.decision_texts.specs.Bare.{uids_of}
 use Rattle.decision_texts.proofs.bare.parent_uids.Goals as goal

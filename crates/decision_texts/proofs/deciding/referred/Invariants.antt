@@ -1,5 +1,5 @@
 use Rattle.std.proofs.Common.{◌≡◌, map, take, string_bytes}
-use Rattle.authoriser.specs.Views.{named}
+use Rattle.answer_lines.specs.authoriser.Views.{named}
 use Rattle.decision_texts.proofs.deciding.referred.Given as goal
 
 abbrev pub invariant-loop-id : goal.invariant-loop-id

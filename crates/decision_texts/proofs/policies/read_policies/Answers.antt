@@ -1,6 +1,6 @@
 use Rattle.std.proofs.Common.{inr, subst, List, ℕ}
 use Rattle.std.proofs.lemmas.Result.{IfErr-weaker}
-use Rattle.entity_uids.specs.policy_grammar.PolicyText.{IsFileRefused}
+use Rattle.answer_lines.specs.policy_grammar.PolicyText.{IsFileRefused}
 use Rattle.decision_texts.specs.Decisions.{IsFileFault}
 use Rattle.decision_texts.proofs.FaultLemmas.{weaker}
 use Rattle.decision_texts.proofs.policies.read_policies.Goals as goal

@@ -28,8 +28,8 @@ overflow_add-result c =
     (sym (framing_is _ _ c.requires.seen _ _ found.0 c.requires.within found.1 c.requires.count) ∙ ap (λ (m : List ℕ). framing m (map (header_bytes c.args.seen.now) c.args.headers.now)) (sym c.of.ensures) ∙ sym c.in-Body.ensures) in
     omega (arith, fits, head_fits _ _ c.requires.seen _ _ found.0 c.requires.within found.1)
 
-pub returns-in-Body : goal.returns-in-Body
-returns-in-Body c =
+pub returns-then-is_cut_off : goal.returns-then-is_cut_off
+returns-then-is_cut_off c =
     let found = c.requires.complete in
     cut_off_below _ (drop c.args.head.now.len c.args.buf.now) found.0 c.in-Body.size _
     (admitted _ _ c.requires.seen _ _ found.0 c.requires.within found.1 (omega (arith, c.requires.few, c.requires.count)))
@@ -37,8 +37,8 @@ returns-in-Body c =
     (omega (arith, length-drop c.args.head.now.len c.args.buf.now, c.is_cut_off.ensures.cut c.if-is_cut_off.true))
     (omega (arith, found.1.len))
 
-pub returns-in-Body-2 : goal.returns-in-Body-2
-returns-in-Body-2 c =
+pub returns-else-is_cut_off : goal.returns-else-is_cut_off
+returns-else-is_cut_off c =
     let found = c.requires.complete in
     whole _ _ c.requires.seen _ _ found.0 c.requires.within found.1 c.in-Body.size _ c.requires.count
     (omega (arith, c.requires.few, c.requires.count)) (ap (λ (m : List ℕ). framing m (map (header_bytes c.args.seen.now) c.args.headers.now)) (sym c.of.ensures) ∙ sym c.in-Body.ensures) (c.is_cut_off.ensures.whole c.if-is_cut_off.false) c.closes.ensures

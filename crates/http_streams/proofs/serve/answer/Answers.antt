@@ -1,7 +1,7 @@
 use Rattle.std.proofs.Common.{◌≡◌, ◌≤◌, ◌++◌, ◌-◌, ℕ, Bool, List, length, take, drop, sym, ap, ◌∙◌, inl, arith}
 use Rattle.std.proofs.lemmas.List.{drop_at, length-take-le, take_rest}
 use Rattle.http_framing.specs.http_texts.ReplyText.{reply_text}
-use Rattle.http_framing.specs.http_texts.declared.status.Status.{Status}
+use Rattle.http.specs.declared.status.StatusCode.{StatusCode}
 use Rattle.http_streams.proofs.StreamLemmas.{exchanged}
 use Rattle.http_streams.proofs.serve.answer.Goals as goal
 
@@ -9,7 +9,7 @@ short : (now old : List ℕ) (n : ℕ) → now ≡ take n old → n ≤ length o
 short now old n is fits = ap length is ∙ length-take-le n old fits
 
 -- the rest of a text from its start on, where the text before its head was put has a reply behind its room
-sent : (all now old reply : List ℕ) (start room : ℕ) (last : Bool) (status : Status) → all ≡ now
+sent : (all now old reply : List ℕ) (start room : ℕ) (last : Bool) (status : StatusCode) → all ≡ now
     → drop start now ≡ reply_text last status (drop room (old ++ reply)) → length old ≡ room
     → take (length all - start) (drop start all) ≡ reply_text last status reply
 sent all now old reply start room last status same head len =

@@ -7,7 +7,7 @@ write_digits-requires c =
     let short : length (decimal c.args.number) ≤ 20 = search (rules, length-decimal-le 20) in
     (omega (arith, short, c.requires.fits), c.requires.inside)
 
-pub returns-clause-start : goal.returns-clause-start
-returns-clause-start c =
+pub returns-clause-least : goal.returns-clause-least
+returns-clause-least c =
     let short : length (decimal c.args.number) ≤ 20 = search (rules, length-decimal-le 20) in
     omega (arith, short, c.write_digits.ensures.start)

@@ -8,4 +8,4 @@ returns-clause-text c =
     let none : drop 256 c.args.room.now ≡ [] = drop_all 256 c.args.room.now (omega (arith, c.requires.fits)) in
     c.put_head.ensures.text
     ∙ ap (reply_text true c.args.status)
-    (c.put_error-body.ensures.text ∙ ap (λ (t : List ℕ). error_line c.code.result ++ t) none ∙ append-nil _ ∙ ap error_line c.code.ensures.value)
+    (c.put_error-body.ensures.text ∙ ap (λ (t : List ℕ). error_line c.as_u16.result ++ t) none ∙ append-nil _ ∙ ap error_line c.as_u16.ensures.value)

@@ -1,13 +1,52 @@
-use Rattle.std.proofs.Common.{◌++◌, codes, sym, ◌∙◌}
+use Rattle.std.proofs.Common.{◌++◌, codes}
 use Rattle.std.specs.Process.{exit_status}
-use Rattle.program.specs.Courses.{Announces, Listens}
-use Rattle.program.specs.Serving.{AreAllServed, own_stamps_line}
-use Rattle.program.proofs.EventLemmas.{warns_on}
+use Rattle.program.specs.Courses.{Listens}
+use Rattle.program.specs.Serving.{AreAllServed, IsServedListening, most_of, own_stamps_line}
+use Rattle.program.proofs.EventLemmas.{warned_on, listens_on, listens_none, announces_on, announces_none}
+use Rattle.program.proofs.ServeLemmas.{serving_done, serving_cut}
 use Rattle.program.proofs.serving.serve_begun.Goals as goal
+
+pub returns-in-Err : goal.returns-in-Err
+returns-in-Err g c =
+    let options = c.args.options.now in
+    let listening = IsServedListening g.H.Reader.Source g.H.Writer.Sink options c.args.site in
+    warned_on g.H.Host.does _ _ _ _ (own_stamps_line options.site) (Listens options.listen.now options.idle listening)
+    (exit_status c.report_failure.result) c.warn_of_own_stamps.ensures (
+    listens_none g.H.Host.does _ _ _ options.listen.now options.idle listening (exit_status c.report_failure.result) c.in-Err.ensures c.report_failure.ensures)
+
+pub returns-in-Err-write_line : goal.returns-in-Err-write_line
+returns-in-Err-write_line g c =
+    let options = c.args.options.now in
+    let listening = IsServedListening g.H.Reader.Source g.H.Writer.Sink options c.args.site in
+    let all = AreAllServed g.H.Reader.Source g.H.Writer.Sink options.listen.now (most_of options.connections) c.args.site in
+    warned_on g.H.Host.does _ _ _ _ (own_stamps_line options.site) (Listens options.listen.now options.idle listening)
+    (exit_status c.from.result) c.warn_of_own_stamps.ensures (
+    listens_on g.H.Host.does _ _ _ options.listen.now options.idle listening (exit_status c.from.result) c.in-Ok.ensures (
+    announces_none g.H.Host.does _ _ (codes "listening " ++ options.listen.now) all (exit_status c.from.result)
+    (rw c.as_bytes.ensures.value at c.in-Err-write_line.ensures) c.from.ensures))
+
+pub returns-in-Ok-serve_all : goal.returns-in-Ok-serve_all
+returns-in-Ok-serve_all g c =
+    let options = c.args.options.now in
+    let listening = IsServedListening g.H.Reader.Source g.H.Writer.Sink options c.args.site in
+    let all = AreAllServed g.H.Reader.Source g.H.Writer.Sink options.listen.now (most_of options.connections) c.args.site in
+    warned_on g.H.Host.does _ _ _ _ (own_stamps_line options.site) (Listens options.listen.now options.idle listening)
+    (exit_status c.from-in-Ok-serve_all.result) c.warn_of_own_stamps.ensures (
+    listens_on g.H.Host.does _ _ _ options.listen.now options.idle listening (exit_status c.from-in-Ok-serve_all.result) c.in-Ok.ensures (
+    announces_on g.H.Host.does _ _ _ (codes "listening " ++ options.listen.now) all (exit_status c.from-in-Ok-serve_all.result)
+    (rw c.as_bytes.ensures.value at c.in_default.ensures) (
+    serving_done g.H.Host.does g.H.Reader.Source g.H.Writer.Sink options.listen.now _ _ _ _ (most_of options.connections) (exit_status c.from-in-Ok-serve_all.result)
+    (rw c.most_of-most.ensures at c.in-Ok-serve_all.ensures) c.from-in-Ok-serve_all.ensures)))
 
 pub returns : goal.returns
 returns g c =
-    warns_on g.H.Host.does _ _ _ _ _ (own_stamps_line c.args.name)
-    (Listens c.args.address.now (Announces (codes "listening " ++ c.args.address.now) (AreAllServed g.H.Reader.Source g.H.Writer.Sink c.args.address.now c.args.most c.args.site)))
-    (exit_status c.serve_at-2.result) (sym c.has_stamps_of.ensures ∙ c.if-not-has_stamps_of.false)
-    (rw c.as_bytes.ensures.bytes at c.write_line.ensures) c.serve_at-2.ensures
+    let options = c.args.options.now in
+    let listening = IsServedListening g.H.Reader.Source g.H.Writer.Sink options c.args.site in
+    let all = AreAllServed g.H.Reader.Source g.H.Writer.Sink options.listen.now (most_of options.connections) c.args.site in
+    warned_on g.H.Host.does _ _ _ _ (own_stamps_line options.site) (Listens options.listen.now options.idle listening)
+    (exit_status c.report_failure-in-Err-serve_all.result) c.warn_of_own_stamps.ensures (
+    listens_on g.H.Host.does _ _ _ options.listen.now options.idle listening (exit_status c.report_failure-in-Err-serve_all.result) c.in-Ok.ensures (
+    announces_on g.H.Host.does _ _ _ (codes "listening " ++ options.listen.now) all (exit_status c.report_failure-in-Err-serve_all.result)
+    (rw c.as_bytes.ensures.value at c.in_default.ensures) (
+    serving_cut g.H.Host.does g.H.Reader.Source g.H.Writer.Sink options.listen.now _ _ _ _ _ (most_of options.connections)
+    (exit_status c.report_failure-in-Err-serve_all.result) (rw c.most_of-most.ensures at c.in-Err-serve_all.ensures) c.report_failure-in-Err-serve_all.ensures)))

@@ -1,5 +1,5 @@
 use Rattle.std.proofs.Common.{◌∙◌, ℕ, Some, ap, sym, subst, rules}
-use Rattle.schema_decisions.specs.decision_texts.Refusals.{bad_shape}
+use Rattle.schema_decisions.specs.answer_lines.Refusals.{bad_shape}
 use Rattle.program_drills.specs.Said.{said_of}
 use Rattle.program_drills.specs.inner.Reading.{IsLineRead, IsReadUpTo}
 use Rattle.program_drills.proofs.ScriptSteps.{read_more, all_read, next_refused, is_unread}

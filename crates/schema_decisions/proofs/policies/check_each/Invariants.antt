@@ -1,7 +1,7 @@
 use Rattle.std.proofs.Common.{Result, drop}
 use Rattle.std.specs.Prelude.{⊤}
 use Rattle.entity_hierarchy.specs.schema.Views.{schema_view}
-use Rattle.decision_texts.specs.declared.refusal.Refusal.{Refusal}
+use Rattle.decision_texts.specs.answer_lines.declared.refusal.Refusal.{Refusal}
 use Rattle.schema_decisions.proofs.CheckLemmas.{cores, AreChecked}
 use Rattle.schema_decisions.proofs.policies.check_each.Given as goal
 

@@ -1,4 +1,4 @@
-use Rattle.std.proofs.Common.{◌≡◌, ◌≢◌, ℕ, Err, refl, ap, subst}
+use Rattle.std.proofs.Common.{◌≡◌, ◌≢◌, ◌∙◌, ℕ, Err, refl, sym, ap, subst}
 use Rattle.state_exchanges.specs.declared.fault.PullFault.TheVariants.{Network}
 use Rattle.state_exchanges.specs.Requests.{delta_request}
 use Rattle.state_exchanges.specs.Exchanges.{IsAnswered}
@@ -6,27 +6,28 @@ use Rattle.state_exchanges.specs.inner.Faults.{pull_fault}
 use Rattle.state_exchanges.proofs.FetchLemmas.{request_is, answered, begun, begun_part, unanswered, other_status}
 use Rattle.state_exchanges.proofs.asking.ask.Goals as goal
 
-pub returns-then-status-eq200-clause-answered : goal.returns-then-status-eq200-clause-answered
-returns-then-status-eq200-clause-answered g c =
+pub returns-then-status-as_u16-clause-answered : goal.returns-then-status-as_u16-clause-answered
+returns-then-status-as_u16-clause-answered g c =
     let h = c.in-Ok.ensures.ok in
-    subst (λ (status : ℕ). IsAnswered g.R.Source.left g.R.Source.reads g.W.Sink.holds (delta_request c.args.host.now c.args.summary.now) c.args.reader.now c.fetch.new.reader c.args.writer.now c.fetch.new.writer status c.in-Ok.body.items) (search c.if-status-eq200)
+    let same : c.in-Ok.status ≡ 200 = search (c.if-status-as_u16, c.as_u16.ensures) in
+    subst (λ (status : ℕ). IsAnswered g.R.Source.left g.R.Source.reads g.W.Sink.holds (delta_request c.args.host.now c.args.summary.now) c.args.reader.now c.fetch.new.reader c.args.writer.now c.fetch.new.writer status c.in-Ok.body.items) same
     (answered g.R.Source.left g.R.Source.reads g.R.Source.failed g.R.Source.fails g.W.Sink.holds g.W.Sink.failed g.W.Sink.fails _ _ (request_is _ _ _ _ refl refl) c.args.reader.now c.fetch.new.reader c.args.writer.now c.fetch.new.writer c.in-Ok.status c.in-Ok.body.items h.0 h.1 h.2 h.3 h.4 h.5 h.6 h.7)
 
-pub returns-else-status-eq200-clause-network : goal.returns-else-status-eq200-clause-network
-returns-else-status-eq200-clause-network g c f e =
+pub returns-in-Ok-clause-network : goal.returns-in-Ok-clause-network
+returns-in-Ok-clause-network g c f e =
     let h = c.in-Ok.ensures.ok in
-    let apart : c.in-Ok.status ≢ 200 = search c.if-status-eq200 in
+    let apart : c.in-Ok.status ≢ 200 = λ is. c.if-status-as_u16.false (is ∙ sym c.as_u16.ensures.value) in
     other_status g.R.Source.left g.R.Source.reads g.R.Source.failed g.R.Source.fails g.W.Sink.holds g.W.Sink.failed g.W.Sink.fails _ _ refl c.args.reader.now c.fetch.new.reader c.args.writer.now c.fetch.new.writer c.in-Ok.status c.in-Ok.body.items apart
     (answered g.R.Source.left g.R.Source.reads g.R.Source.failed g.R.Source.fails g.W.Sink.holds g.W.Sink.failed g.W.Sink.fails _ _ (request_is _ _ _ _ refl refl) c.args.reader.now c.fetch.new.reader c.args.writer.now c.fetch.new.writer c.in-Ok.status c.in-Ok.body.items h.0 h.1 h.2 h.3 h.4 h.5 h.6 h.7)
     f (cc)
 
-pub returns-else-status-eq200-clause-err : goal.returns-else-status-eq200-clause-err
-returns-else-status-eq200-clause-err g c =
+pub returns-in-Ok-clause-err : goal.returns-in-Ok-clause-err
+returns-in-Ok-clause-err g c =
     let h = c.in-Ok.ensures.ok in
     begun g.R.Source.left g.R.Source.reads g.R.Source.failed g.R.Source.fails g.W.Sink.holds g.W.Sink.failed g.W.Sink.fails _ _ (request_is _ _ _ _ refl refl) c.args.reader.now c.fetch.new.reader c.args.writer.now c.fetch.new.writer h.0 h.3 h.4
 
-pub returns-in-Err-clause-network : goal.returns-in-Err-clause-network
-returns-in-Err-clause-network g c f e =
+pub returns-clause-network : goal.returns-clause-network
+returns-clause-network g c f e =
     let h = c.in-Err.ensures in
     let told : pull_fault c.in-Err.fault ≡ Network f = cc in
     unanswered g.R.Source.left g.R.Source.reads g.R.Source.failed g.R.Source.fails g.W.Sink.holds g.W.Sink.failed g.W.Sink.fails _ _ (request_is _ _ _ _ refl refl) c.args.reader.now c.fetch.new.reader c.args.writer.now c.fetch.new.writer c.in-Err.fault
@@ -38,6 +39,6 @@ returns-in-Err-clause-network g c f e =
       part = h.err;
     }) f told
 
-pub returns-in-Err-clause-err : goal.returns-in-Err-clause-err
-returns-in-Err-clause-err g c =
+pub returns-clause-err : goal.returns-clause-err
+returns-clause-err g c =
     begun_part g.R.Source.left g.R.Source.reads g.R.Source.failed g.R.Source.fails g.W.Sink.holds g.W.Sink.failed g.W.Sink.fails _ _ (request_is _ _ _ _ refl refl) c.args.reader.now c.fetch.new.reader c.args.writer.now c.fetch.new.writer c.in-Err.ensures.err

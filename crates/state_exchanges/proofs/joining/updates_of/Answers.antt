@@ -1,7 +1,7 @@
 use Rattle.std.proofs.Common.{◌≡◌, sym, subst}
 use Rattle.sync_messages.specs.schema.Views.{schema_view}
-use Rattle.schema_decisions.specs.decision_texts.declared.refusal.Refusal.{Refusal}
-use Rattle.schema_decisions.specs.decision_texts.Refusals.{no_memory}
+use Rattle.schema_decisions.specs.answer_lines.declared.refusal.Refusal.{Refusal}
+use Rattle.schema_decisions.specs.answer_lines.Refusals.{no_memory}
 use Rattle.state_exchanges.specs.Messages.{IsMessageRefused}
 use Rattle.state_exchanges.proofs.MessageLemmas.{message_of, told}
 use Rattle.state_exchanges.proofs.joining.updates_of.Goals as goal

@@ -1,6 +1,6 @@
 use Rattle.std.specs.Prelude.{IfOk, Result}
 use Rattle.std.proofs.Common.{subst}
-use Rattle.schema_decisions.specs.decision_texts.declared.refusal.Refusal.{Refusal}
+use Rattle.schema_decisions.specs.answer_lines.declared.refusal.Refusal.{Refusal}
 use Rattle.sync_messages.specs.schema.Views.{schema_view}
 use Rattle.sync_messages.specs.stamped_store.Store.{abstract_store}
 use Rattle.state_exchanges.specs.declared.joining.Joined.{Joined}

@@ -1,0 +1,143 @@
+//! Refusals: their code, their place, and their line.
+ghost use Rattle.std.specs.Prelude.{◌≡◌, IfOk};
+ghost use Rattle.serde_json.specs.Data.{put as with_member};
+ghost use Rattle.serde_json.specs.View.{view, members_view};
+ghost use Rattle.answer_lines.specs.Refusals.{no_memory, bad_shape, told_at, number_or_null, refusal_json, error_line};
+
+use json_words::write_json;
+use plain::{NoMemory, beside};
+use serde_json::{Map, Value, put};
+use std::alloc::{AllocFailed, Global};
+use thiserror::Error;
+
+/// Why texts are refused.
+#[derive(Clone, Copy, PartialEq, Eq, Debug, Error)]
+#[error("refused with code {code}")]
+pub struct Refusal {
+    /// The number: 1 for want of memory, else that of the fault (docs/codes.md).
+    pub code: u8,
+    /// Where: a byte of the policies' text, or an entity's place in its array; both from 0. None where there is no such
+    /// place.
+    pub place: Option<usize>,
+    /// The number of the refusal inside, where one stands in another.
+    pub within: Option<u8>,
+}
+
+impl From<NoMemory> for Refusal {
+    ghost from_gives = { λ _ e. e ≡ no_memory };
+
+    fn from(_error: NoMemory) -> Refusal {
+        Refusal {
+            code: 1,
+            place: None,
+            within: None,
+        }
+    }
+}
+
+impl<T: Drop> From<AllocFailed<T>> for Refusal {
+    ghost from_gives = { λ _ e. e ≡ no_memory };
+
+    fn from(_error: AllocFailed<T>) -> Refusal {
+        Refusal {
+            code: 1,
+            place: None,
+            within: None,
+        }
+    }
+}
+
+impl Refusal {
+    /// Returns the refusal of a growth (1), which has no place.
+    pub fn no_memory() -> Refusal
+        ensures { result ≡ no_memory }
+    {
+        Refusal {
+            code: 1,
+            place: None,
+            within: None,
+        }
+    }
+
+    /// Returns the refusal of JSON that is no entity or no request (30), at the entity's place in its array, if any.
+    pub fn bad_shape(place: Option<usize>) -> Refusal
+        ensures { result ≡ bad_shape place }
+    {
+        Refusal {
+            code: 30,
+            place,
+            within: None,
+        }
+    }
+
+    /// Returns this refusal, told at a place. Want of memory has none.
+    pub fn told_at(self, place: usize) -> Refusal
+        ensures { result ≡ told_at place self }
+    {
+        if self.code == 1 {
+            return self;
+        }
+        Refusal {
+            code: self.code,
+            place: Some(place),
+            within: self.within,
+        }
+    }
+}
+
+fn number_or_null(number: Option<u64>) -> Value
+    ensures { view result ≡ number_or_null number }
+{
+    match number {
+        Some(number) => Value::from(number),
+        None => Value::Null,
+    }
+}
+
+/// Returns the members with one more.
+fn with_value(
+    alloc: Global,
+    members: Map<String, Value>,
+    key: &str,
+    value: Value,
+) -> Result<Map<String, Value>, NoMemory>
+    ensures { IfOk result
+        (λ m. members_view m.entries ≡ with_member key.now (view value) (members_view members.entries)) }
+{
+    let mut members = members;
+    let done = put(&mut members, alloc, key, value);
+    let (members, _done) = beside(members, done)?;
+    Ok(members)
+}
+
+/// Returns the JSON of a refusal with these parts.
+fn parts_value(
+    alloc: Global,
+    code: u64,
+    place: Option<u64>,
+    within: Option<u64>,
+) -> Result<Value, NoMemory>
+    ensures { IfOk result (λ v. view v ≡ refusal_json (record { code = code; place = place; within = within })) }
+{
+    let members = with_value(alloc, Map::new(alloc), "code", number_or_null(Some(code)))?;
+    let members = with_value(alloc, members, "place", number_or_null(place))?;
+    let members = with_value(alloc, members, "within", number_or_null(within))?;
+    let members = with_value(alloc, Map::new(alloc), "error", Value::Object(members))?;
+    Ok(Value::Object(members))
+}
+
+fn refusal_value(alloc: Global, refusal: Refusal) -> Result<Value, NoMemory>
+    ensures { IfOk result (λ v. view v ≡ refusal_json refusal) }
+{
+    let place = refusal.place.map(|place| place as u64);
+    let within = refusal.within.map(u64::from);
+    parts_value(alloc, u64::from(refusal.code), place, within)
+}
+
+/// Returns the line that tells a refusal, without its line end: `{"error":{"code":30,"place":0,"within":null}}`.
+pub fn error_line(alloc: Global, refusal: Refusal) -> Result<Vec<u8>, NoMemory>
+    ensures { IfOk result (λ b. b.items ≡ error_line refusal) }
+{
+    let value = refusal_value(alloc, refusal)?;
+    write_json(alloc, &value)
+}

@@ -1,0 +1,32 @@
+-- What texts are read as where no schema is at hand. Rules of this product: a request may be decided by any policies,
+-- no action is declared, and whatever has not the form of an entity or a request has one fault.
+use Rattle.std.specs.Prelude.{◌≡◌, None}
+use Rattle.serde_json.specs.Data.{Data}
+use Rattle.values.specs.declared.request.Request.{Request}
+use Rattle.entity_data.specs.Entities.{no_actions}
+use Rattle.answer_lines.specs.declared.refusal.Refusal.{Refusal}
+use Rattle.answer_lines.specs.Refusals.{no_memory, bad_shape}
+use Rattle.decision_texts.specs.declared.bare.ShapeFault.{ShapeFault}
+use Rattle.decision_texts.specs.declared.bare.ShapeFault.TheVariants.{NoMemory, BadShape}
+use Rattle.decision_texts.specs.Settings.{Reading, told_by}
+use Rattle.decision_texts.specs.Bare.{entity_of}
+use Rattle.decision_texts.specs.BareRequests.{StatesRequest}
+
+abbrev pub refusal_of : ShapeFault → Refusal
+refusal_of NoMemory = no_memory
+refusal_of BadShape = bad_shape None
+
+-- the value states no request
+pub record StatesNone (d : Data) (refusal : Refusal) : Type 0 where
+  pub none : (q : Request) → StatesRequest d q → ⊥
+  pub is : refusal ≡ bad_shape None
+
+abbrev pub bare_reading : Reading
+bare_reading = record {
+  admits = λ policies. Unit {0};
+  rejects = λ policies refusal. ⊥;
+  entity = λ d. told_by refusal_of (entity_of d);
+  states = StatesRequest;
+  faults = StatesNone;
+  actions = no_actions;
+}

@@ -1,0 +1,119 @@
+//! The entities of an array.
+ghost use Rattle.std.specs.Prelude.{◌≡◌, ◌<◌, ◌^◌, List, length, None, Ok, Err, IfErr, OnOk};
+ghost use Rattle.serde_json.specs.View.{view};
+ghost use Rattle.json_words.specs.ReadsAs.{ReadsAs};
+ghost use Rattle.json_values.specs.Arrays.{to_come, each_of, told};
+ghost use Rattle.entity_data.specs.declared.entity.Entity.{Entity as Stated};
+ghost use Rattle.plain.specs.Refused.{OrNoMemory};
+ghost use Rattle.answer_lines.specs.Refusals.{no_memory, bad_shape};
+ghost use Rattle.decision_texts.specs.EntityArrays.{placed, entity_at, entities_of};
+ghost use Rattle.decision_texts.specs.inner.Stores.{Holds, KeepsNext, ReadsStore};
+
+use crate::setting::Setting;
+use answer_lines::Refusal;
+use entity_data::{Entity, EntityStore};
+use json_values::{Member, Members, Scratch, members_of};
+use serde_json::Value;
+use std::alloc::Global;
+
+/// Returns the entity at a place of the array.
+fn read_entity_at<S: Setting>(
+    alloc: Global,
+    setting: &S,
+    value: &Value,
+    place: usize,
+) -> Result<Entity, Refusal>
+    ensures { ReadsAs no_memory (λ e. e) result
+        (placed place ((S.reading setting.now).entity (view value.now))) }
+{
+    match setting.read_entity(alloc, value) {
+        Ok(entity) => Ok(entity),
+        Err(refusal) => Err(refusal.told_at(place)),
+    }
+}
+
+/// Keeps the entity that a value states at a place of the array, behind those that the store has. Its JSON is given up
+/// before it is kept.
+fn keep_entity<S: Setting>(
+    alloc: Global,
+    setting: &S,
+    store: &mut EntityStore,
+    value: Value,
+    place: usize,
+) -> Result<(), Refusal>
+    ensures { (es : List Stated) → Holds store.old es →
+        KeepsNext (S.reading setting.now) es place (view value) result store.new }
+{
+    let read = read_entity_at(alloc, setting, &value, place);
+    drop(value);
+    let entity = read?;
+    if !store.put(entity)? {
+        return Err(Refusal::bad_shape(Some(place)));
+    }
+    Ok(())
+}
+
+/// Returns a member's refusal, or that of a text that is no JSON: what stands behind the member is read first.
+fn if_json(alloc: Global, members: &mut Members<'_>, refusal: Refusal) -> Refusal
+    ensures { (result ≡ no_memory → ⊥) → result ≡ told (bad_shape None) refusal (to_come members.old) }
+{
+    match members.rest_is_json(alloc) {
+        Ok(true) => refusal,
+        Ok(false) => Refusal::bad_shape(None),
+        Err(_) => Refusal::no_memory(),
+    }
+}
+
+/// Returns the entities of an array, each the only one of its uid. One member's JSON is held at a time.
+fn read_array<S: Setting>(
+    alloc: Global,
+    setting: &S,
+    members: &mut Members<'_>,
+) -> Result<EntityStore, Refusal>
+    requires { length members.old.reader < 2 ^ 63 }
+    ensures { ReadsStore result
+        (each_of (bad_shape None) (entity_at (S.reading setting.now)) (to_come members.old)) }
+{
+    let mut store = EntityStore::new(alloc);
+    let mut place = 0;
+    'members: loop {
+        match members.next(alloc)? {
+            Member::Value(value) => {
+                if let Err(refusal) = keep_entity(alloc, setting, &mut store, value, place) {
+                    return Err(if_json(alloc, members, refusal));
+                }
+            }
+            Member::End => return Ok(store),
+            Member::NotJson => return Err(Refusal::bad_shape(None)),
+        }
+        place += 1;
+    }
+}
+
+/// Returns the entities of a text.
+pub(crate) fn read_entities<S: Setting>(
+    alloc: Global,
+    setting: &S,
+    text: &[u8],
+) -> Result<EntityStore, Refusal>
+    ensures { ReadsStore result (entities_of (S.reading setting.now) text.now) }
+{
+    let mut scratch = Scratch::new(alloc);
+    match members_of(&mut scratch, text)? {
+        Some(mut members) => read_array(alloc, setting, &mut members),
+        None => Err(Refusal::bad_shape(None)),
+    }
+}
+
+/// Checks that a text is a JSON array of entities, each the only one of its uid. Refused as
+/// [`decide_in`](crate::decide_in) refuses entities.
+pub fn judge_entities<S: Setting>(alloc: Global, setting: &S, text: &[u8]) -> Result<(), Refusal>
+    ensures read { OnOk result ((es : List Stated) × (entities_of (S.reading setting.now) text.now ≡ Ok es)) }
+    ensures refused { IfErr result
+        (OrNoMemory no_memory (λ r. entities_of (S.reading setting.now) text.now ≡ Err r)) }
+{
+    match read_entities(alloc, setting, text) {
+        Ok(_) => Ok(()),
+        Err(refusal) => Err(refusal),
+    }
+}

@@ -1,0 +1,45 @@
+//! What texts are read under: no schema, or one.
+ghost use Rattle.std.specs.Prelude.{◌≡◌, IfOk, IfErr, map};
+ghost use Rattle.serde_json.specs.View.{view};
+ghost use Rattle.json_words.specs.ReadsAs.{ReadsAs};
+ghost use Rattle.plain.specs.Refused.{OrNoMemory};
+ghost use Rattle.answer_lines.specs.Refusals.{no_memory};
+ghost use Rattle.decision_texts.specs.Settings.{Reading};
+
+use answer_lines::{Policy, Refusal};
+use entity_data::{ActionSource, Entity};
+use serde_json::Value;
+use std::alloc::Global;
+use values::Request;
+
+/// What texts are read under.
+///
+/// It says by which policies a request may be decided, which entity and which request a JSON value states, for what
+/// each is refused, and which actions stand beside the entities. In which order texts are refused is the same under
+/// each ([`crate::decide_in`]).
+pub trait Setting {
+    /// The actions that are declared.
+    type Actions: ActionSource + Drop;
+
+    /// What texts are read as.
+    ghost reading: { Self → Reading };
+
+    /// Returns the actions that are declared. Takes no memory.
+    fn actions(&self) -> Self::Actions
+        ensures { Self.Actions.declared result ≡ (reading self.now).actions };
+
+    /// Checks that a request may be decided by the policies of a file, in the file's order.
+    fn judge(&self, alloc: Global, policies: &[(String, Policy)]) -> Result<(), Refusal>
+        ensures admitted { IfOk result (λ _. (reading self.now).admits (map (λ p. p.1) policies.now)) }
+        ensures refused { IfErr result
+            (OrNoMemory no_memory ((reading self.now).rejects (map (λ p. p.1) policies.now))) };
+
+    /// Returns the entity that a value states, or its refusal, which has no place.
+    fn read_entity(&self, alloc: Global, value: &Value) -> Result<Entity, Refusal>
+        ensures { ReadsAs no_memory (λ e. e) result ((reading self.now).entity (view value.now)) };
+
+    /// Returns the request that a value states, or its refusal, which has no place.
+    fn read_request(&self, alloc: Global, value: &Value) -> Result<Request, Refusal>
+        ensures read { IfOk result ((reading self.now).states (view value.now)) }
+        ensures refused { IfErr result (OrNoMemory no_memory ((reading self.now).faults (view value.now))) };
+}

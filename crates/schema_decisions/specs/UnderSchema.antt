@@ -1,0 +1,30 @@
+-- What texts are read as under a schema. Rules of this product: a request may be decided by policies each of which
+-- passes, and the schema's actions stand beside the entities, each with the parents that its `memberOf` states.
+-- Source: Cedar reference guide 4.0, "Policy validation".
+use Rattle.std.specs.Prelude.{◌≡◌, All}
+use Rattle.serde_json.specs.Data.{Data}
+use Rattle.entity_hierarchy.specs.schema.Schemas.{StatedSchema}
+use Rattle.entity_hierarchy.specs.entities.declared.fault.EntityFault.{EntityFault}
+use Rattle.entity_hierarchy.specs.entities.Entities.{entity_stated_in}
+use Rattle.entity_hierarchy.specs.entities.Requests.{StatesRequest, RequestRefused}
+use Rattle.validator.specs.Passing.{Passes}
+use Rattle.decision_texts.specs.answer_lines.declared.refusal.Refusal.{Refusal}
+use Rattle.decision_texts.specs.Settings.{Reading, told_by}
+use Rattle.schema_decisions.specs.Policies.{FirstUnpassed}
+use Rattle.schema_decisions.specs.Refusals.{entity_refusal}
+
+-- the value states no request, and this is the first fault
+pub record IsRequestFault (s : StatedSchema) (d : Data) (refusal : Refusal) : Type 0 where
+  pub fault : EntityFault
+  pub due : RequestRefused s d fault
+  pub is : refusal ≡ entity_refusal fault
+
+abbrev pub reading_under : StatedSchema → Reading
+reading_under s = record {
+  admits = All (Passes s);
+  rejects = FirstUnpassed s 0;
+  entity = λ d. told_by entity_refusal (entity_stated_in s d);
+  states = StatesRequest s;
+  faults = IsRequestFault s;
+  actions = s.member_of;
+}
