@@ -106,12 +106,10 @@ PAGE = """# The surface
 
 Made from the sources by `tools/made_docs.py`: to change it, change a doc comment there.
 
-What a program that builds on Weirbowl names: fifteen crates, lowest first, each with its calls and
-types, and with a type's own methods. `tools/surface.py`, which `./test` runs, fails where one is
-missing. A call that allocates takes `alloc: Global` first, behind `self`, and may return
-`NoMemory`; an error implements `Error`, and its `code` is a number of docs/codes.md. The contract
-of a call says exactly what it gives (docs/proved.md); docs/DECISIONS.md says where calls differ
-from what was specified.
+Fifteen crates for programs that build on Weirbowl, lowest first, each type with its methods.
+`tools/surface.py` fails where one is missing. A call that allocates takes `alloc: Global` first,
+behind `self`, and may return `NoMemory`; an error implements `Error`, and its `code` is a number of
+docs/codes.md. docs/proved.md has the contracts, docs/DECISIONS.md the departures.
 """
 
 

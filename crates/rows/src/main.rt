@@ -6,6 +6,8 @@
 //!
 //! - `name`, `json`: the text as it was read, in its canonical form.
 //! - `tokens`: how many there are, and the kind and the place of each; or the place at which there is none.
+//! - `place`: behind a byte's number, the line and the column of that byte, and where its character begins.
+//! - `excerpt`: the lines that show what stands between two bars, in one line, with `\n` and `\t` as in a text.
 //!
 //! Streams (`streams`) to a service that answers each request by its body, or by its target, and counts:
 //!
@@ -21,10 +23,11 @@
 //!   where it is read in pieces of 7 bytes.
 //! - `far`: what is fetched of a reply that is not cut, by its size; `refused` where memory was.
 //!
-//! In a text `\r`, `\n`, `\t` and `\\` are what they are elsewhere, `\v` is the byte 11, `\p` 12 and `\f` 255, `\k`
-//! stands for 1,024 letters and `\h` for a field.
+//! In a text `\r`, `\n`, `\t` and `\\` are what they are elsewhere, `\v` is the byte 11, `\p` 12 and `\f` 255, `\d`
+//! is U+202E, `\k` stands for 1,024 letters and `\h` for a field.
 #![tactic(auto)]
 
+mod excerpts;
 mod fetching;
 mod keeping;
 mod pieces;
@@ -42,7 +45,7 @@ use std::io;
 fn came_to(alloc: Global, word: &str, text: &str) -> Result<String, NoMemory> {
     let bytes = unescaped(alloc, text)?;
     match word {
-        "tokens" | "name" | "json" => texts::came_to(alloc, word, &bytes),
+        "tokens" | "name" | "json" | "place" | "excerpt" => texts::came_to(alloc, word, &bytes),
         "serve" | "whole" | "slow" | "reply" => streams::came_to(alloc, word, &bytes),
         "fetch" | "far" => fetching::came_to(alloc, word, &bytes),
         _ => bad_row(alloc),

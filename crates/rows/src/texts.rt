@@ -1,4 +1,5 @@
-//! Texts of the policy language and of JSON.
+//! Texts of the policy language and of JSON, and places in texts.
+use crate::excerpts::{marked, placed};
 use crate::keeping::ended;
 use crate::pieces::Line;
 use crate::written::{bad_row, text_of};
@@ -62,11 +63,13 @@ fn json(alloc: Global, bytes: &[u8]) -> Result<String, NoMemory> {
     }
 }
 
-/// Returns what a row of the policy language comes to.
+/// Returns what a row comes to whose text is UTF-8.
 fn of_text(alloc: Global, word: &str, text: &str) -> Result<String, NoMemory> {
     match word {
         "tokens" => lexed(alloc, text),
         "name" => name(alloc, text),
+        "place" => placed(alloc, text),
+        "excerpt" => marked(alloc, text),
         _ => bad_row(alloc),
     }
 }

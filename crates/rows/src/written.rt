@@ -17,6 +17,7 @@ fn push_escape(bytes: &mut Bytes, letter: u8) {
         b'v' => bytes.push(&[11]),
         b'p' => bytes.push(&[12]),
         b'f' => bytes.push(&[255]),
+        b'd' => bytes.push("\u{202e}".as_bytes()),
         b'h' => bytes.push(b"h:1\r\n"),
         b'k' => push_letters(bytes),
         other => bytes.push(&[other]),

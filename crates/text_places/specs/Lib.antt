@@ -1,0 +1,2 @@
+pub mod LineAndColumn
+pub mod Excerpt
