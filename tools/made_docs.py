@@ -55,8 +55,8 @@ The files of specs/, highest crate first, each with what it defines, in short, a
 **With a number**, and with its relations that a public contract cites (or functions, where there
 are none): the contract of a whole run, `program::run`, rests on so many of its lines
 (docs/reading.md); these stand in the order in which a reader meets their names.
-**Without one**: of laws (docs/proved.md), and of what code shows to contracts: those that have a
-public source, and by name the rest but for laws. `tools/made_docs.py --where NAME` tells of any.
+**Without one**: of laws (docs/proved.md), and of what code shows to contracts, where they have a
+public source. `tools/made_docs.py --where NAME` tells of any.
 
 In brackets: *in quotes alone*, a heading of the Cedar reference guide 4.0; *with a slash*, a file
 below cedar-lean/Cedar of its formal model cedar-spec; *in part ours*: a rule of this product too.
@@ -284,22 +284,18 @@ def where(name):
 
 def definitions():
     walk = reading_list.Walk()
-    cited, (files, _), lines, rest = cited_names(walk), reached(), [DEFINITIONS], []
+    cited, (files, _), lines = cited_names(walk), reached(), [DEFINITIONS]
     for crate in reversed(products()):
         modules = dict(modules_of(crate))
         counted = {it: lines for it, lines in files.get(crate, {}).items() if it in modules}
         others = [it for it in modules if it not in counted and source(head_of(it), "") not in ("", "ours")]
         told = [*counted, *others]
-        # of laws docs/proved.md tells
-        named = [name for it, name in modules.items() if it in cited and it not in told and name not in ("Laws", "Outcomes")]
-        rest += [f"`{crate}` {', '.join(named)}"] if named else []
         lines += [f"## `{crate}`", ""] if told else []
         for path, number in counted.items():
             names = names_of(walk, crate, path, modules[path], cited)
             lines += wrapped(f"- {modules[path]} {number}: {told_of(head_of(path))}. {names}".rstrip())
         lines += itertools.chain(*(wrapped(f"- {modules[it]}: {told_of(head_of(it))}.") for it in others))
         lines += [""] if told else []
-    lines += ["## The rest", "", *wrapped(f"{'; '.join(rest)}.")]
     return "\n".join(lines).rstrip("\n") + "\n"
 
 

@@ -109,7 +109,7 @@ Made from the sources by `tools/made_docs.py`: to change it, change a doc commen
 Fifteen crates for programs that build on Weirbowl, lowest first, each type with its methods.
 `tools/surface.py` fails where one is missing. A call that allocates takes `alloc: Global` first,
 behind `self`, and may return `NoMemory`; an error implements `Error`, and its `code` is a number of
-docs/codes.md. docs/proved.md has the contracts, docs/DECISIONS.md the departures.
+docs/codes.md.
 """
 
 

@@ -20,7 +20,8 @@ use Rattle.site_loading.specs.site_steps.declared.fault.SiteFault.{SiteFault}
 use Rattle.site_loading.specs.site_steps.declared.fault.SiteFault.TheVariants.{NoMemory, Policy, Check as Unfit, Entity}
 use Rattle.site_loading.specs.site_steps.declared.fault.SiteFault.TheVariants.{Message, NotThere, WouldCycle, ClockFull}
 use Rattle.site_loading.specs.site_steps.declared.fault.SiteFault.TheVariants.{Request}
-use Rattle.http_service.specs.site_steps.Runs.{IsMessageOf, IsNoMessageOf}
+use Rattle.http_service.specs.site_steps.Runs.{IsNoMessageOf}
+use Rattle.http_service.specs.site_steps.sync_messages.Messages.{IsMessageOf}
 use Rattle.program.specs.declared.device.Link.{Link}
 use Rattle.program.specs.declared.device.NetworkFailed.{NetworkFailed}
 use Rattle.program.specs.declared.device.Stream.TheVariants.{Faults}

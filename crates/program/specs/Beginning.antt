@@ -14,7 +14,8 @@ use Rattle.site_loading.specs.site_steps.Faults.{code_of, place_of, within_of}
 use Rattle.site_loading.specs.site_steps.Seen.{Seen, schema_of, store_in}
 use Rattle.site_loading.specs.site_steps.declared.fault.SiteFault.{SiteFault}
 use Rattle.site_loading.specs.site_steps.declared.fault.SiteFault.TheVariants.{Message}
-use Rattle.http_service.specs.site_steps.Runs.{IsMessageOf, IsNoMessageOf}
+use Rattle.http_service.specs.site_steps.Runs.{IsNoMessageOf}
+use Rattle.http_service.specs.site_steps.sync_messages.Messages.{IsMessageOf}
 
 -- the fault of a site as it is told
 abbrev pub site_refusal : SiteFault → Refusal

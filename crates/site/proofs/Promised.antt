@@ -19,7 +19,8 @@ use Rattle.site_steps.specs.Inputs.{Input}
 use Rattle.site_steps.specs.Inputs as input
 use Rattle.site_steps.specs.declared.reply.Reply.{Reply}
 use Rattle.site_steps.specs.declared.reply.Reply.TheVariants as reply
-use Rattle.site_steps.specs.Runs.{Step, IsMessageOf, took_by, updates_of_message}
+use Rattle.site_steps.specs.sync_messages.Messages.{IsMessageOf}
+use Rattle.site_steps.specs.Runs.{Step, took_by, updates_of_message}
 use Rattle.site_steps.specs.Outcomes.{HadMemoryForAll, InputsHaveOneOutcome}
 use Rattle.site.specs.declared.event.Deed.TheVariants as deed
 use Rattle.site.specs.declared.event.Event.{Event}

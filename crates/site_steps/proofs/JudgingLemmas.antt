@@ -1,5 +1,5 @@
 -- What is handed in, judged: faults as those of a site, and the one text of an entity read back.
-use Rattle.std.specs.Prelude.{◌≡◌, ◌≢◌, ◌↔◌, ℕ, List, Bool, true, false, IsTrue, Some, None, Result, Ok, IfOk, cond}
+use Rattle.std.specs.Prelude.{◌≡◌, ◌↔◌, ℕ, List, Bool, true, false, IsTrue, Some, None, Result, Ok, IfOk, cond}
 use Rattle.std.proofs.Common.{sym, subst, refl, ap, ◌∙◌}
 use Rattle.std.specs.Str.{bytes_eq, is_utf8, IsUtf8}
 use Rattle.std.proofs.lemmas.Str.{IsUtf8-from_is_utf8}

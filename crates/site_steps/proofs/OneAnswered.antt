@@ -17,8 +17,8 @@ use Rattle.site_soundness.specs.message_format.declared.fault.MessageFault.{Mess
 use Rattle.site_soundness.specs.message_format.Summaries.{summary_stated}
 use Rattle.site_soundness.specs.message_format.declared.update.Update.{Update as SentUpdate}
 use Rattle.site_soundness.specs.message_format.Messages.{delta_text}
-use Rattle.site_soundness.specs.message_format.Updates.{plain_updates, IsMessageFault}
-use Rattle.site_soundness.specs.sync_messages.Texts.{RefusesPolicy, RefusesEntity}
+use Rattle.site_soundness.specs.message_format.Updates.{plain_updates}
+use Rattle.site_soundness.specs.sync_messages.Messages.{IsMessageOf, IsMessageFaultOf}
 use Rattle.site_steps.specs.declared.fault.SiteFault.{SiteFault}
 use Rattle.site_steps.specs.declared.fault.SiteFault.TheVariants as fault
 use Rattle.site_steps.specs.declared.outcome.Taken as taking
@@ -26,21 +26,17 @@ use Rattle.site_steps.specs.declared.outcome.Taken.TheVariants.{All, Short}
 use Rattle.site_steps.specs.Admitted.{IsPolicyUnder, IsEntityUnder, IsRequestOf, IsNoRequest}
 use Rattle.site_steps.specs.Steps.{Answers}
 use Rattle.site_steps.specs.declared.reply.Found.{Found}
-use Rattle.site_steps.specs.Runs.{IsMessageOf, TakesMessage, Finds, Writes, WritesDelta}
+use Rattle.site_steps.specs.Runs.{TakesMessage, Finds, Writes, WritesDelta}
 use Rattle.site_steps.specs.Outcomes.{HadMemory, HadMemoryForAll}
 use Rattle.site_steps.proofs.OneStored.{same_ok, one_value, one_fault, not_both}
 
 -- ---- messages
 
-abbrev pub RefusedMessage : StatedSchema → List ℕ → MessageFault → Type 0
-RefusedMessage schema bytes f = IsMessageFault (IsPolicyUnder schema) (IsEntityUnder schema) (λ _. RefusesPolicy schema)
-    (RefusesEntity schema) schema.label bytes f
-
 pub data MessageComes (schema : StatedSchema) (s : Store) (bytes : List ℕ) : Result taking.Taken SiteFault → Store → Type 0 where
   joined : (k : ℕ) (t : Store) (us : List (SentUpdate Policy Entity)) → IsMessageOf schema bytes us
       → k ≡ length (plain_updates us) → t ≡ store_of (updates s ++ plain_updates us)
       → MessageComes schema s bytes (Ok (All k)) t
-  unread : (f : MessageFault) (t : Store) → RefusedMessage schema bytes f → t ≡ s
+  unread : (f : MessageFault) (t : Store) → IsMessageFaultOf schema bytes f → t ≡ s
       → MessageComes schema s bytes (Err (fault.Message f)) t
 
 pub message_comes : (schema : StatedSchema) (s : Store) (bytes : List ℕ) (r : Result taking.Taken SiteFault) (t : Store)
@@ -61,10 +57,10 @@ message_comes schema s bytes (Err (fault.Request f)) t h m = absurd h.0
 pub record MessagesAreOne (schema : StatedSchema) : Type 0 where
   pub updates : (bytes : List ℕ) (us vs : List (SentUpdate Policy Entity)) → IsMessageOf schema bytes us
       → IsMessageOf schema bytes vs → us ≡ vs
-  pub fault : (bytes : List ℕ) (f g : MessageFault) → RefusedMessage schema bytes f → RefusedMessage schema bytes g
+  pub fault : (bytes : List ℕ) (f g : MessageFault) → IsMessageFaultOf schema bytes f → IsMessageFaultOf schema bytes g
       → f ≡ g
   pub apart : (bytes : List ℕ) (us : List (SentUpdate Policy Entity)) (f : MessageFault) → IsMessageOf schema bytes us
-      → RefusedMessage schema bytes f → ⊥
+      → IsMessageFaultOf schema bytes f → ⊥
 
 pub one_message : (schema : StatedSchema) → MessagesAreOne schema → (s : Store) (bytes : List ℕ)
     (x y : Result taking.Taken SiteFault) (t u : Store) → MessageComes schema s bytes x t

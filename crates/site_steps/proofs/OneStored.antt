@@ -5,7 +5,6 @@ use Rattle.std.proofs.Common.{sym, ap, ◌∙◌, subst, arith}
 use Rattle.serde_json.specs.Data.{Data}
 use Rattle.values.specs.declared.entity_uid.EntityUid.{EntityUid}
 use Rattle.values.specs.declared.name.Name.{Name}
-use Rattle.values.specs.declared.request.Request.{Request}
 use Rattle.site_store.specs.policy_grammar.declared.policy.Policy.{Policy}
 use Rattle.site_store.specs.policy_grammar.declared.fault.ReadFault.{ReadFault}
 use Rattle.site_store.specs.policy_grammar.PolicyText.{IsPolicyText, IsPolicyRefused}

@@ -1,6 +1,5 @@
 -- In no reply of a run does a policy err for a type, an attribute or an extension function.
-use Rattle.std.specs.Prelude.{◌≡◌, ℕ, List, [], ◌∷◌, Option, Some, None, Ok, Err}
-use Rattle.std.specs.List.{AllByRecursion}
+use Rattle.std.specs.Prelude.{ℕ, List, [], ◌∷◌, Option, Some, None, Ok, Err}
 use Rattle.serde_json.specs.Data.{Data}
 use Rattle.site_store.specs.authoriser.declared.answer.Answer.{Answer}
 use Rattle.json_words.specs.Json.{json_of}

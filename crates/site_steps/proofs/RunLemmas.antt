@@ -9,12 +9,15 @@ use Rattle.site_store.specs.entity_data.declared.entity.Entity.{Entity}
 use Rattle.site_store.specs.schema.Schemas.{StatedSchema}
 use Rattle.site_store.specs.stamped_store.Store.{Store, Update, updates, store_of, policy_name, entity_name}
 use Rattle.site_soundness.specs.message_format.declared.update.Update.{Update as SentUpdate}
-use Rattle.site_soundness.specs.message_format.Updates.{AreInRange, plain_updates, IsMessage, IsMessageFault, IsUpdateRead}
+use Rattle.site_soundness.specs.message_format.Updates.{AreInRange, plain_updates, IsUpdateRead}
+use Rattle.site_soundness.specs.sync_messages.Messages.{IsMessageOf, IsMessageFaultOf}
 use Rattle.site_soundness.specs.sync_messages.Texts.{RefusesPolicy, RefusesEntity}
 use Rattle.site_soundness.specs.sync_messages.Laws.{PoliciesHaveOneReading, EntitiesHaveOneReading}
 use Rattle.site_soundness.specs.message_format.Bodies.{TextsHaveOneOutcome}
 use Rattle.site_soundness.specs.message_format.declared.fault.MessageFault.{MessageFault}
-use Rattle.site_store.specs.schema.Views.{schema_view}
+use Rattle.site_soundness.specs.message_format.declared.fault.MessageFault.TheVariants as sending
+use Rattle.plain.specs.Refused.{OrNoMemory}
+use Rattle.site_steps.specs.Faults.{of_message}
 use Rattle.site_steps.specs.declared.fault.SiteFault.{SiteFault}
 use Rattle.site_steps.specs.declared.fault.SiteFault.TheVariants as fault
 use Rattle.site_steps.specs.declared.outcome.Taken.TheVariants.{All, Short}
@@ -26,7 +29,7 @@ use Rattle.site_steps.specs.declared.reply.Reply.{Reply}
 use Rattle.site_steps.specs.declared.reply.Reply.TheVariants as reply
 use Rattle.site_store.specs.schema.SchemaEntries.{SchemaEntries}
 use Rattle.site_soundness.specs.sync_messages.declared.texts.SchemaTexts.{SchemaTexts}
-use Rattle.site_steps.specs.Runs.{Step, Run, HoldsAfter, took_by, took, update_of_entity, updates_of_message}
+use Rattle.site_steps.specs.Runs.{IsNoMessageOf, Step, Run, HoldsAfter, took_by, took, update_of_entity, updates_of_message}
 
 -- updates of a message are valid where they are in range and are read
 pub all_valid : (schema : StatedSchema) (us : List (SentUpdate Policy Entity)) → AreInRange (plain_updates us)
@@ -215,22 +218,20 @@ pub same_stores : AreStores → (schema : StatedSchema) (us vs : List Update) (s
     → HoldsAfter schema vs t → store_of us ≡ store_of vs → s ≡ t
 same_stores law schema us vs s t h k same = after_run law schema us s h ∙ same ∙ sym (after_run law schema vs t k)
 
--- ---- messages, read under a schema that is the site's
+-- ---- messages
 
-pub message_valid : (a b : SchemaEntries) (label bytes : List ℕ) (us : List (SentUpdate Policy Entity)) → a ≡ b
-    → IsMessage (IsPolicyUnder (schema_view a)) (IsEntityUnder (schema_view a)) label bytes us
-    → AllByRecursion (IsValidUnder (schema_view b)) us
-message_valid a b label bytes us same h =
-    subst (λ (k : SchemaEntries). AllByRecursion (IsValidUnder (schema_view k)) us) same
-    (all_valid (schema_view a) us h.in_range h.are_read)
+pub message_valid : (schema : StatedSchema) (bytes : List ℕ) (us : List (SentUpdate Policy Entity)) → IsMessageOf schema bytes us
+    → AllByRecursion (IsValidUnder schema) us
+message_valid schema bytes us h = all_valid schema us h.in_range h.are_read
 
-pub message_refused : (a b : SchemaEntries) (m label bytes : List ℕ) (f : MessageFault) → a ≡ b → m ≡ label
-    → IsMessageFault (IsPolicyUnder (schema_view a)) (IsEntityUnder (schema_view a)) (λ _. RefusesPolicy (schema_view a))
-    (RefusesEntity (schema_view a)) m bytes f
-    → IsMessageFault (IsPolicyUnder (schema_view b)) (IsEntityUnder (schema_view b)) (λ _. RefusesPolicy (schema_view b))
-    (RefusesEntity (schema_view b)) label bytes f
-message_refused a b m label bytes f same named h =
-    subst (λ (k : SchemaEntries). IsMessageFault (IsPolicyUnder (schema_view k)) (IsEntityUnder (schema_view k))
-    (λ _. RefusesPolicy (schema_view k)) (RefusesEntity (schema_view k)) label bytes f) same
-    (subst (λ (l : List ℕ). IsMessageFault (IsPolicyUnder (schema_view a)) (IsEntityUnder (schema_view a))
-    (λ _. RefusesPolicy (schema_view a)) (RefusesEntity (schema_view a)) l bytes f) named h)
+-- a fault that is due, as a site's
+pub message_refused : (schema : StatedSchema) (bytes : List ℕ) (f : MessageFault) → OrNoMemory sending.NoMemory (IsMessageFaultOf schema bytes) f
+    → IsNoMessageOf schema bytes (of_message f)
+message_refused schema bytes sending.NoMemory due = tt
+message_refused schema bytes sending.NotJson due = due (λ e. absurd cc)
+message_refused schema bytes sending.BadShape due = due (λ e. absurd cc)
+message_refused schema bytes sending.OtherSchema due = due (λ e. absurd cc)
+message_refused schema bytes sending.Version due = due (λ e. absurd cc)
+message_refused schema bytes (sending.CountRange place) due = due (λ e. absurd cc)
+message_refused schema bytes (sending.BadEntry place within) due = due (λ e. absurd cc)
+message_refused schema bytes (sending.BodyOfOtherName place) due = due (λ e. absurd cc)

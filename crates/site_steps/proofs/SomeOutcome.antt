@@ -48,9 +48,9 @@ use Rattle.site_soundness.specs.message_format.Summaries.{summary_text, summary_
 use Rattle.site_soundness.specs.message_format.declared.bodies.BodyFault.{BodyFault}
 use Rattle.site_soundness.specs.message_format.declared.update.Update.{Update as SentUpdate}
 use Rattle.site_soundness.specs.message_format.Messages.{state_text, delta_text}
-use Rattle.site_soundness.specs.message_format.Updates.{AreValid, IsReadable, IsValid, plain_updates, IsMessageFault, stamped}
+use Rattle.site_soundness.specs.message_format.Updates.{AreValid, IsReadable, IsValid, plain_updates, stamped}
 use Rattle.site_soundness.specs.sync_messages.Laws.{PoliciesHaveOneReading}
-use Rattle.site_soundness.specs.sync_messages.Texts.{RefusesPolicy, RefusesEntity, entity_of_text, no_policy as text_of_none}
+use Rattle.site_soundness.specs.sync_messages.Texts.{RefusesPolicy, entity_of_text, no_policy as text_of_none}
 use Rattle.site_soundness.specs.sync_messages.Texts.{not_passing as text_of_failing}
 use Rattle.site_steps.specs.declared.fault.SiteFault.{SiteFault}
 use Rattle.site_steps.specs.declared.fault.SiteFault.TheVariants as fault
@@ -64,7 +64,8 @@ use Rattle.site_steps.specs.Inputs as input
 use Rattle.site_steps.specs.declared.reply.Found.{Found}
 use Rattle.site_steps.specs.declared.reply.Reply.{Reply}
 use Rattle.site_steps.specs.declared.reply.Reply.TheVariants as reply
-use Rattle.site_steps.specs.Runs.{IsMessageOf, TakesMessage, WritesDelta}
+use Rattle.site_soundness.specs.sync_messages.Messages.{IsMessageOf, IsMessageFaultOf}
+use Rattle.site_steps.specs.Runs.{TakesMessage, WritesDelta}
 use Rattle.site_steps.specs.Outcomes.{HadMemory, HadMemoryForAll, IsOutcome}
 
 -- a result that a command may have, and the store behind it
@@ -304,8 +305,7 @@ module _ (stores : LawsOfStores) (schema : StatedSchema) (s : Store) (held : May
 
 abbrev pub ReadsOrRefuses : StatedSchema → List ℕ → Type 0
 ReadsOrRefuses schema bytes = ((us : List (SentUpdate Policy Entity)) × IsMessageOf schema bytes us)
-    ⊎ ((f : MessageFault) × IsMessageFault (IsPolicyUnder schema) (IsEntityUnder schema) (λ _. RefusesPolicy schema)
-    (RefusesEntity schema) schema.label bytes f)
+    ⊎ ((f : MessageFault) × IsMessageFaultOf schema bytes f)
 
 some_take : (schema : StatedSchema) (s : Store) (bytes : List ℕ) → ReadsOrRefuses schema bytes
     → (x : Result taking.Taken SiteFault) × (t : Store) × TakesMessage schema s bytes x t × HadMemoryForAll x

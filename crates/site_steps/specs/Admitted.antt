@@ -76,7 +76,7 @@ IsNoRequest schema (Some d) f = RequestRefused schema d f
 -- ---- updates that another site sent
 
 -- An update is valid: its name and stamp are in their ranges, and its text, if it has one, is read as what stands
--- beside it. (`IsValid` of state_messages is the second half alone.)
+-- beside it. (`IsValid` of message_format is the second half alone.)
 pub record IsValidUnder (schema : StatedSchema) (u : Update Policy Entity) : Type 0 where
   pub in_range : IsStamped (stamped (plain_update u))
   pub is_read : IsUpdateRead (IsPolicyUnder schema) (IsEntityUnder schema) u

@@ -15,13 +15,13 @@ use Rattle.site_soundness.specs.message_format.declared.fault.MessageFault.{Mess
 use Rattle.site_soundness.specs.message_format.Summaries.{summary_text, summary_stated}
 use Rattle.site_soundness.specs.message_format.declared.update.Update.{Update as SentUpdate}
 use Rattle.site_soundness.specs.message_format.Messages.{state_text, delta_text, updates_stated}
-use Rattle.site_soundness.specs.message_format.Updates.{IsMessage, IsMessageFault, plain_updates}
-use Rattle.site_soundness.specs.sync_messages.Texts.{RefusesPolicy, RefusesEntity}
+use Rattle.site_soundness.specs.message_format.Updates.{plain_updates}
+use Rattle.site_soundness.specs.sync_messages.Messages.{IsMessageOf, IsMessageFaultOf}
 use Rattle.site_steps.specs.declared.fault.SiteFault.{SiteFault}
 use Rattle.site_steps.specs.declared.fault.SiteFault.TheVariants as fault
 use Rattle.site_steps.specs.declared.outcome.Taken as taking
 use Rattle.site_steps.specs.declared.outcome.Taken.TheVariants.{All, Short}
-use Rattle.site_steps.specs.Admitted.{IsPolicyUnder, IsEntityUnder, entity_stated}
+use Rattle.site_steps.specs.Admitted.{entity_stated}
 use Rattle.site_steps.specs.Steps.{PutsPolicy, PutsEntity, Deletes, TakesUpdates, Answers, policy_found}
 use Rattle.site_steps.specs.Inputs.{Input}
 use Rattle.site_steps.specs.Inputs as input
@@ -31,16 +31,10 @@ use Rattle.site_steps.specs.declared.reply.Reply.TheVariants as reply
 
 -- ---- messages
 
--- the bytes are a state or a delta of this schema, each of its updates in range and readable under it
-abbrev pub IsMessageOf : StatedSchema → List ℕ → List (SentUpdate Policy Entity) → Type 0
-IsMessageOf schema bytes us = IsMessage (IsPolicyUnder schema) (IsEntityUnder schema) schema.label bytes us
-
--- they are none, and this is the first fault, unless memory was refused
+-- bytes are no message of this schema, and this is the first fault, unless memory was refused
 abbrev pub IsNoMessageOf : StatedSchema → List ℕ → SiteFault → Type 0
 IsNoMessageOf schema bytes fault.NoMemory = Unit {0}
-IsNoMessageOf schema bytes (fault.Message f) =
-    IsMessageFault (IsPolicyUnder schema) (IsEntityUnder schema) (λ _. RefusesPolicy schema) (RefusesEntity schema)
-    schema.label bytes f
+IsNoMessageOf schema bytes (fault.Message f) = IsMessageFaultOf schema bytes f
 IsNoMessageOf schema bytes _ = ⊥
 
 -- a message comes: all of its updates are taken, or the first ones, or it is refused whole

@@ -7,12 +7,13 @@ ghost use Rattle.site_store.specs.stamped_store.Deltas.{summary_of};
 ghost use Rattle.site_store.specs.stamped_store.Store.{store_of, updates};
 ghost use Rattle.site_soundness.specs.message_format.Summaries.{summary_text};
 ghost use Rattle.site_soundness.specs.message_format.Messages.{state_text};
+ghost use Rattle.site_soundness.specs.sync_messages.Messages.{IsMessageOf};
 ghost use Rattle.site_soundness.specs.Answers.{ErrsHarmlessly};
 ghost use Rattle.site_steps.specs.Admitted.{IsValidUnder};
 ghost use Rattle.site_steps.specs.Seen.{schema_of, store_in, IsSameSite};
 ghost use Rattle.site_steps.specs.Steps.{PutsEntity, Answers};
 ghost use Rattle.site_steps.specs.Inputs.{input_of};
-ghost use Rattle.site_steps.specs.Runs.{IsMessageOf, IsNoMessageOf, TakesMessage, Finds, Writes, WritesDelta};
+ghost use Rattle.site_steps.specs.Runs.{IsNoMessageOf, TakesMessage, Finds, Writes, WritesDelta};
 ghost use Rattle.site_steps.specs.Right.{AreHarmlessReplies};
 ghost use Rattle.site_steps.specs.Runs.{Step, Run, took};
 
@@ -24,7 +25,7 @@ use crate::reply::{Found, Reply};
 use crate::site::Site;
 use json_values::{Scratch, read_json_by};
 use plain::{Items, NoMemory, Text};
-use site_soundness::{MessageFault, SchemaTexts, Summary, Update, read_message, read_summary};
+use site_soundness::{MessageFault, Summary, Update, read_summary, read_updates};
 use site_store::{Answer, Entity, EntityFault, Policy, Schema, Stamp, updates_have_one_store};
 use std::alloc::Global;
 
@@ -49,7 +50,7 @@ fn put_entity(
     }
 }
 
-/// Returns the updates of a message, each valid under the schema.
+/// Returns the updates of a message, each valid under the schema, or its first fault as a site's.
 fn updates_of(
     alloc: Global,
     schema: &Schema,
@@ -59,11 +60,9 @@ fn updates_of(
     ensures valid { IfOk result (λ us. AllByRecursion (IsValidUnder (schema_view schema.now)) us.items) }
     ensures refused { IfErr result (IsNoMessageOf (schema_view schema.now) bytes.now) }
 {
-    let texts = SchemaTexts::under(schema);
-    match read_message(alloc, schema.label(), &texts, bytes) {
+    match read_updates(alloc, schema, bytes) {
         Ok(updates) => Ok(updates),
-        Err(MessageFault::NoMemory) => Err(SiteFault::NoMemory),
-        Err(fault) => Err(SiteFault::Message(fault)),
+        Err(fault) => Err(SiteFault::from(fault)),
     }
 }
 

@@ -1,5 +1,5 @@
 -- Merged states: neither order nor repeats nor groups of messages matter.
-use Rattle.std.specs.Prelude.{◌≡◌, ◌↔◌, ◌⊎◌, ℕ, List, ◌++◌, Result, Ok}
+use Rattle.std.specs.Prelude.{◌≡◌, ◌↔◌, ℕ, List, ◌++◌, Result, Ok}
 use Rattle.std.proofs.Common.{sym, ap, ◌∙◌, subst, ⊎_elim}
 use Rattle.std.specs.List.{Contains}
 use Rattle.std.proofs.lemmas.List.Elements.{Contains-append_left, Contains-append_right, Contains-append_cases}
@@ -12,7 +12,8 @@ use Rattle.sync_messages.specs.message_format.declared.fault.MessageFault.{Messa
 use Rattle.sync_messages.specs.message_format.Messages.{state_text}
 use Rattle.sync_messages.specs.message_format.declared.update.Update.{Update as SentUpdate}
 use Rattle.sync_messages.specs.message_format.Updates.{plain_updates}
-use Rattle.state_exchanges.specs.Messages.{IsMergeableMessage, IsReadBack}
+use Rattle.sync_messages.specs.Messages.{IsMessageOf}
+use Rattle.state_exchanges.specs.Messages.{IsReadBack}
 use Rattle.state_exchanges.specs.Merges.{IsStoreOfBoth, IsMerged, IsMergedBack}
 
 -- the laws of stores
@@ -58,13 +59,13 @@ module _ {X : Type 0} where
 ok_same : (a b : List Update) (r : Result (List Update) MessageFault) → r ≡ Ok a → r ≡ Ok b → a ≡ b
 ok_same a b r h k = cc
 
-pub shown_same : (s : StatedSchema) (bytes : List ℕ) (us vs : List (SentUpdate Policy Entity)) → IsMergeableMessage s bytes us
-    → IsMergeableMessage s bytes vs → plain_updates us ≡ plain_updates vs
+pub shown_same : (s : StatedSchema) (bytes : List ℕ) (us vs : List (SentUpdate Policy Entity)) → IsMessageOf s bytes us
+    → IsMessageOf s bytes vs → plain_updates us ≡ plain_updates vs
 shown_same s bytes us vs h k = ok_same (plain_updates us) (plain_updates vs) _ h.stated k.stated
 
 -- the store of both, of whatever updates they state
 pub store_as : (s : StatedSchema) (f g : List ℕ) (m : Store) (us vs : List (SentUpdate Policy Entity)) → IsStoreOfBoth s f g m
-    → IsMergeableMessage s f us → IsMergeableMessage s g vs → m ≡ store_of (plain_updates us ++ plain_updates vs)
+    → IsMessageOf s f us → IsMessageOf s g vs → m ≡ store_of (plain_updates us ++ plain_updates vs)
 store_as s f g m us vs h first second =
     h.store_is ∙ ap (λ l. store_of (l ++ plain_updates h.second)) (shown_same s f h.first us h.first_read first)
     ∙ ap (λ l. store_of (plain_updates us ++ l)) (shown_same s g h.second vs h.second_read second)
@@ -105,7 +106,7 @@ module _ (law : AreStores) (one : OneSchema) where
       c.text_is ∙ ap (state_text s.label) same ∙ sym a.text_is
 
   pub again : (schema f g text other : List ℕ) (m : IsMerged schema f g text) (h : List ℕ) (us : List (SentUpdate Policy Entity))
-      → IsMergedBack m → IsMergeableMessage m.stated h us
+      → IsMergedBack m → IsMessageOf m.stated h us
       → ((u : Update) → Contains ((plain_updates m.both.first ++ plain_updates m.both.second) ++ plain_updates us) u
       ↔ Contains (plain_updates m.both.first ++ plain_updates m.both.second) u)
       → IsMerged schema text h other → other ≡ text

@@ -13,12 +13,14 @@ use Rattle.sync_messages.specs.message_format.Summaries.{IsStamped}
 use Rattle.sync_messages.specs.message_format.Messages.{state_text, updates_stated}
 use Rattle.plain.specs.Refused.{OrNoMemory}
 use Rattle.sync_messages.specs.message_format.declared.update.Update.{Update as SentUpdate}
-use Rattle.sync_messages.specs.message_format.Updates.{IsMessage, IsMessageFault, IsValid, AreInRange, AreValid, stamped}
+use Rattle.sync_messages.specs.message_format.Updates.{IsMessage, IsValid, AreInRange, AreValid, stamped}
 use Rattle.sync_messages.specs.message_format.Updates.{plain_updates}
 use Rattle.sync_messages.specs.declared.texts.SchemaTexts.{SchemaTexts}
-use Rattle.sync_messages.specs.Texts.{ReadsPolicy, RefusesPolicy, ReadsEntity, RefusesEntity}
+use Rattle.sync_messages.specs.Texts.{ReadsPolicy, ReadsEntity}
+use Rattle.sync_messages.proofs.MessageLemmas.{message_of}
 use Rattle.schema_decisions.specs.answer_lines.Refusals.{no_memory}
-use Rattle.state_exchanges.specs.Messages.{IsMergeableMessage, message_refusal, IsMessageRefused, Joins, IsSendable}
+use Rattle.sync_messages.specs.Messages.{IsMessageFaultOf}
+use Rattle.state_exchanges.specs.Messages.{message_refusal, IsMessageRefused, Joins, IsSendable}
 use Rattle.state_exchanges.specs.Messages.{IsReadBack}
 use Rattle.state_exchanges.specs.inner.Merging.{IsMergedUnder}
 use Rattle.state_exchanges.proofs.StoreLemmas.{none_of_empty, store_all, append_all}
@@ -27,35 +29,10 @@ use Rattle.state_exchanges.proofs.StoreLemmas.{none_of_empty, store_all, append_
 abbrev pub texts_of : SchemaEntries → SchemaTexts
 texts_of schema = record { schema = record { ref_ptr = (0, 0); now = schema } }
 
-abbrev Due : StatedSchema → List ℕ → MessageFault → Type 0
-Due s bytes f = IsMessageFault (λ id. ReadsPolicy s) (ReadsEntity s) (λ id. RefusesPolicy s) (RefusesEntity s) s.label bytes f
-
--- ---- a message read under a schema that is the one at hand
-
-pub message_of : (a b : SchemaEntries) (label bytes : List ℕ) (us : List (SentUpdate Policy Entity)) → a ≡ b → label ≡ (schema_view b).label
-    → IsMessage (λ id. ReadsPolicy (schema_view a)) (ReadsEntity (schema_view a)) label bytes us
-    → IsMergeableMessage (schema_view b) bytes us
-message_of a b label bytes us same named h =
-    subst (λ (l : List ℕ). IsMessage (λ id. ReadsPolicy (schema_view b)) (ReadsEntity (schema_view b)) l bytes us) named
-    (subst (λ (k : SchemaEntries). IsMessage (λ id. ReadsPolicy (schema_view k)) (ReadsEntity (schema_view k)) label bytes us) same h)
-
-refused_of : (a b : SchemaEntries) (label bytes : List ℕ) (f : MessageFault) → a ≡ b → label ≡ (schema_view b).label
-    → IsMessageFault (λ id. ReadsPolicy (schema_view a)) (ReadsEntity (schema_view a)) (λ id. RefusesPolicy (schema_view a))
-    (RefusesEntity (schema_view a)) label bytes f
-    → Due (schema_view b) bytes f
-refused_of a b label bytes f same named h =
-    subst (λ (l : List ℕ). IsMessageFault (λ id. ReadsPolicy (schema_view b)) (ReadsEntity (schema_view b))
-    (λ id. RefusesPolicy (schema_view b)) (RefusesEntity (schema_view b)) l bytes f) named
-    (subst (λ (k : SchemaEntries). IsMessageFault (λ id. ReadsPolicy (schema_view k)) (ReadsEntity (schema_view k))
-    (λ id. RefusesPolicy (schema_view k)) (RefusesEntity (schema_view k)) label bytes f) same h)
-
 -- a fault that is due is told, if it is not told as want of memory
-pub told : (a b : SchemaEntries) (label bytes : List ℕ) (f : MessageFault) → a ≡ b → label ≡ (schema_view b).label
-    → OrNoMemory fault.NoMemory (IsMessageFault (λ id. ReadsPolicy (schema_view a)) (ReadsEntity (schema_view a))
-    (λ id. RefusesPolicy (schema_view a)) (RefusesEntity (schema_view a)) label bytes) f
-    → (message_refusal f ≡ no_memory → ⊥) → IsMessageRefused (schema_view b) bytes (message_refusal f)
-told a b label bytes f same named due other =
-    record { fault = f; due = refused_of a b label bytes f same named (due (λ e. other (ap message_refusal e))); is = refl }
+pub told : (s : StatedSchema) (bytes : List ℕ) (f : MessageFault) → OrNoMemory fault.NoMemory (IsMessageFaultOf s bytes) f
+    → (message_refusal f ≡ no_memory → ⊥) → IsMessageRefused s bytes (message_refusal f)
+told s bytes f due other = record { fault = f; due = due (λ e. other (ap message_refusal e)); is = refl }
 
 -- ---- what is in a store
 

@@ -10,27 +10,25 @@ use Rattle.sync_messages.specs.stamped_store.Store.{store_of}
 use Rattle.sync_messages.specs.message_format.declared.fault.MessageFault.{MessageFault}
 use Rattle.sync_messages.specs.message_format.Messages.{state_text}
 use Rattle.sync_messages.specs.message_format.declared.update.Update.{Update as SentUpdate}
-use Rattle.sync_messages.specs.message_format.Updates.{IsMessageFault, plain_updates}
+use Rattle.sync_messages.specs.message_format.Updates.{plain_updates}
 use Rattle.sync_messages.specs.message_format.Bodies.{TextsHaveOneOutcome}
 use Rattle.sync_messages.specs.Laws.{PoliciesHaveOneReading, EntitiesHaveOneReading}
 use Rattle.sync_messages.specs.Texts.{ReadsPolicy, RefusesPolicy, ReadsEntity, RefusesEntity}
 use Rattle.schema_decisions.specs.answer_lines.declared.refusal.Refusal.{Refusal}
 use Rattle.schema_decisions.specs.CheckRefusals.{schema_refusal}
-use Rattle.state_exchanges.specs.Messages.{IsMergeableMessage, message_refusal, IsMessageRefused}
+use Rattle.sync_messages.specs.Messages.{IsMessageOf, IsMessageFaultOf}
+use Rattle.state_exchanges.specs.Messages.{message_refusal, IsMessageRefused}
 use Rattle.state_exchanges.specs.Merges.{AreRefusedUnder, AreRefused}
 use Rattle.state_exchanges.specs.Outcomes.{MergeOutcome, merged, refused, IsOutcomeOfTexts, HaveOneOutcome}
 use Rattle.state_exchanges.proofs.MergeLemmas.{MergedAt, merged_at, store_as}
 
-abbrev pub IsFaultOf : StatedSchema → List ℕ → MessageFault → Type 0
-IsFaultOf s bytes f = IsMessageFault (λ id. ReadsPolicy s) (ReadsEntity s) (λ id. RefusesPolicy s) (RefusesEntity s) s.label bytes f
-
 -- the laws of messages of a schema
 pub record Laws (s : StatedSchema) : Type 0 where
-  pub fault : (bytes : List ℕ) (f g : MessageFault) → IsFaultOf s bytes f → IsFaultOf s bytes g → f ≡ g
-  pub apart : (bytes : List ℕ) (us : List (SentUpdate Policy Entity)) (f : MessageFault) → IsMergeableMessage s bytes us
-      → IsFaultOf s bytes f → ⊥
-  pub some : (bytes : List ℕ) → ((us : List (SentUpdate Policy Entity)) × IsMergeableMessage s bytes us)
-      ⊎ ((f : MessageFault) × IsFaultOf s bytes f)
+  pub fault : (bytes : List ℕ) (f g : MessageFault) → IsMessageFaultOf s bytes f → IsMessageFaultOf s bytes g → f ≡ g
+  pub apart : (bytes : List ℕ) (us : List (SentUpdate Policy Entity)) (f : MessageFault) → IsMessageOf s bytes us
+      → IsMessageFaultOf s bytes f → ⊥
+  pub some : (bytes : List ℕ) → ((us : List (SentUpdate Policy Entity)) × IsMessageOf s bytes us)
+      ⊎ ((f : MessageFault) × IsMessageFaultOf s bytes f)
 
 -- under a schema each text has one outcome
 pub texts_are_one : (s : StatedSchema) → PoliciesHaveOneReading → EntitiesHaveOneReading
@@ -45,7 +43,7 @@ module _ (s : StatedSchema) (laws : Laws s) where
   refused_same : (bytes : List ℕ) (r q : Refusal) → IsMessageRefused s bytes r → IsMessageRefused s bytes q → r ≡ q
   refused_same bytes r q a b = a.is ∙ ap message_refusal (laws.fault bytes a.fault b.fault a.due b.due) ∙ sym b.is
 
-  refused_apart : (bytes : List ℕ) (us : List (SentUpdate Policy Entity)) (r : Refusal) → IsMergeableMessage s bytes us
+  refused_apart : (bytes : List ℕ) (us : List (SentUpdate Policy Entity)) (r : Refusal) → IsMessageOf s bytes us
       → IsMessageRefused s bytes r → ⊥
   refused_apart bytes us r h a = laws.apart bytes us a.fault h a.due
 
@@ -81,8 +79,8 @@ module _ (one : schemas.OneSchema) (not_both : schemas.NotBoth) (one_refusal : s
     abbrev SomeCome : Type 0
     SomeCome = (come : MergeOutcome) × IsOutcomeOfTexts schema f g come
 
-    by_second : (us : List (SentUpdate Policy Entity)) → IsMergeableMessage s f us → ((vs : List (SentUpdate Policy Entity)) × IsMergeableMessage s g vs)
-        ⊎ ((e : MessageFault) × IsFaultOf s g e) → SomeCome
+    by_second : (us : List (SentUpdate Policy Entity)) → IsMessageOf s f us → ((vs : List (SentUpdate Policy Entity)) × IsMessageOf s g vs)
+        ⊎ ((e : MessageFault) × IsMessageFaultOf s g e) → SomeCome
     by_second us first (inl h) =
         let m = store_of (plain_updates us ++ plain_updates h.0) in (
           merged (state_text s.label m),
@@ -103,7 +101,7 @@ module _ (one : schemas.OneSchema) (not_both : schemas.NotBoth) (one_refusal : s
       }),
     )
 
-    by_first : ((us : List (SentUpdate Policy Entity)) × IsMergeableMessage s f us) ⊎ ((e : MessageFault) × IsFaultOf s f e) → SomeCome
+    by_first : ((us : List (SentUpdate Policy Entity)) × IsMessageOf s f us) ⊎ ((e : MessageFault) × IsMessageFaultOf s f e) → SomeCome
     by_first (inl h) = by_second h.0 h.1 (laws.some g)
     by_first (inr e) = (
       refused (message_refusal e.0),

@@ -10,7 +10,8 @@ use Rattle.sync_messages.specs.message_format.Messages.{state_text}
 use Rattle.sync_messages.specs.message_format.Updates.{plain_updates}
 use Rattle.schema_decisions.specs.answer_lines.declared.refusal.Refusal.{Refusal}
 use Rattle.schema_decisions.specs.Checks.{IsSchemaRefused}
-use Rattle.state_exchanges.specs.Messages.{IsMergeableMessage, IsMessageRefused, IsReadBack}
+use Rattle.sync_messages.specs.Messages.{IsMessageOf}
+use Rattle.state_exchanges.specs.Messages.{IsMessageRefused, IsReadBack}
 
 -- ---- under a schema
 
@@ -18,14 +19,14 @@ use Rattle.state_exchanges.specs.Messages.{IsMergeableMessage, IsMessageRefused,
 pub record IsStoreOfBoth (s : StatedSchema) (f g : List ℕ) (m : Store) : Type 0 where
   pub first : List (SentUpdate Policy Entity)
   pub second : List (SentUpdate Policy Entity)
-  pub first_read : IsMergeableMessage s f first
-  pub second_read : IsMergeableMessage s g second
+  pub first_read : IsMessageOf s f first
+  pub second_read : IsMessageOf s g second
   pub store_is : m ≡ store_of (plain_updates first ++ plain_updates second)
 
 -- the first is a message, the second is none
 pub record IsSecondRefused (s : StatedSchema) (f g : List ℕ) (refusal : Refusal) : Type 0 where
   pub first : List (SentUpdate Policy Entity)
-  pub first_read : IsMergeableMessage s f first
+  pub first_read : IsMessageOf s f first
   pub refused : IsMessageRefused s g refusal
 
 -- which of the two is the first that is none, and why

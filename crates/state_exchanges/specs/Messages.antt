@@ -10,16 +10,12 @@ use Rattle.sync_messages.specs.stamped_store.Store.{Store, updates, store_of}
 use Rattle.sync_messages.specs.message_format.declared.fault.MessageFault.{MessageFault}
 use Rattle.sync_messages.specs.message_format.Faults.{code_of, place_of, within_of}
 use Rattle.sync_messages.specs.message_format.declared.update.Update.{Update as SentUpdate}
-use Rattle.sync_messages.specs.message_format.Updates.{IsMessage, IsMessageFault, AreInRange, AreValid, plain_updates}
-use Rattle.sync_messages.specs.Texts.{ReadsPolicy, RefusesPolicy, ReadsEntity, RefusesEntity}
+use Rattle.sync_messages.specs.message_format.Updates.{AreInRange, AreValid, plain_updates}
+use Rattle.sync_messages.specs.Messages.{IsMessageOf, IsMessageFaultOf}
+use Rattle.sync_messages.specs.Texts.{ReadsPolicy, ReadsEntity}
 use Rattle.schema_decisions.specs.answer_lines.declared.refusal.Refusal.{Refusal}
 
 -- ---- messages
-
--- The bytes are a state or a delta of this schema, with these updates in this order, each of them valid: they may be
--- joined into a store. (`IsMessageOf` of `site_steps` says the same, by what a site admits.)
-abbrev pub IsMergeableMessage : StatedSchema → List ℕ → List (SentUpdate Policy Entity) → Type 0
-IsMergeableMessage s bytes us = IsMessage (λ id. ReadsPolicy s) (ReadsEntity s) s.label bytes us
 
 -- the fault of a message as it is told
 abbrev pub message_refusal : MessageFault → Refusal
@@ -28,8 +24,7 @@ message_refusal f = record { code = code_of f; place = place_of f; within = with
 -- the bytes are no message of this schema, for this first fault
 pub record IsMessageRefused (s : StatedSchema) (bytes : List ℕ) (refusal : Refusal) : Type 0 where
   pub fault : MessageFault
-  pub due : IsMessageFault (λ id. ReadsPolicy s) (ReadsEntity s) (λ id. RefusesPolicy s) (RefusesEntity s) s.label bytes
-      fault
+  pub due : IsMessageFaultOf s bytes fault
   pub is : refusal ≡ message_refusal fault
 
 -- ---- stores
@@ -37,7 +32,7 @@ pub record IsMessageRefused (s : StatedSchema) (bytes : List ℕ) (refusal : Ref
 -- a message is joined into the store m: t is the store of the updates of both, and so many came
 pub record Joins (s : StatedSchema) (m : Store) (bytes : List ℕ) (t : Store) (count : ℕ) : Type 0 where
   pub came : List (SentUpdate Policy Entity)
-  pub message : IsMergeableMessage s bytes came
+  pub message : IsMessageOf s bytes came
   pub store_is : t ≡ store_of (updates m ++ plain_updates came)
   pub count_is : count ≡ length came
 
@@ -49,5 +44,5 @@ pub record IsSendable (s : StatedSchema) (m : Store) : Type 0 where
 -- the bytes are a message again, of the updates of the store
 pub record IsReadBack (s : StatedSchema) (m : Store) (bytes : List ℕ) : Type 0 where
   pub read : List (SentUpdate Policy Entity)
-  pub message : IsMergeableMessage s bytes read
+  pub message : IsMessageOf s bytes read
   pub same : plain_updates read ≡ updates m

@@ -10,12 +10,12 @@ use Rattle.sync_messages.specs.stamped_store.Deltas.{summary_of}
 use Rattle.sync_messages.specs.message_format.declared.update.Update.{Update as SentUpdate}
 use Rattle.sync_messages.specs.message_format.Updates.{plain_updates}
 use Rattle.sync_messages.specs.message_format.Summaries.{summary_text}
-use Rattle.state_exchanges.specs.Messages.{IsMergeableMessage}
+use Rattle.sync_messages.specs.Messages.{IsMessageOf}
 
 -- what a state holds: nothing where it is absent, else the updates of the message that it is
 abbrev pub Holds : StatedSchema → Option (List ℕ) → Store → Type 0
 Holds s None m = m ≡ store_of []
-Holds s (Some bytes) m = (us : List (SentUpdate Policy Entity)) × IsMergeableMessage s bytes us
+Holds s (Some bytes) m = (us : List (SentUpdate Policy Entity)) × IsMessageOf s bytes us
     × (m ≡ store_of (plain_updates us))
 
 -- this summary, posted to the host

@@ -5,14 +5,14 @@ ghost use Rattle.sync_messages.specs.stamped_store.Store.{abstract_store, store_
 ghost use Rattle.schema_decisions.specs.answer_lines.Refusals.{no_memory};
 ghost use Rattle.sync_messages.specs.message_format.Messages.{state_text};
 ghost use Rattle.sync_messages.specs.message_format.Updates.{plain_update, plain_updates};
-ghost use Rattle.state_exchanges.specs.Messages.{IsMergeableMessage, IsMessageRefused, IsSendable, IsReadBack, Joins};
+ghost use Rattle.state_exchanges.specs.Messages.{IsMessageRefused, IsSendable, IsReadBack, Joins};
 ghost use Rattle.state_exchanges.specs.Messages.{message_refusal};
 
 use plain::NoMemory;
 use schema_decisions::{Policy, Refusal};
 use std::alloc::Global;
 use sync_messages::{
-    Entity, MessageFault, PolicyStore, Schema, SchemaTexts, Update, read_message,
+    Entity, MessageFault, PolicyStore, Schema, SchemaTexts, Update, read_updates,
     updates_have_one_store, valid_messages_are_read, write_state,
 };
 
@@ -24,23 +24,6 @@ pub fn message_refusal(fault: MessageFault) -> Refusal
         code: fault.code(),
         place: fault.place(),
         within: fault.within(),
-    }
-}
-
-/// Returns the updates of a message, or its first fault.
-fn updates_of(
-    alloc: Global,
-    schema: &Schema,
-    bytes: &[u8],
-) -> Result<Vec<Update<Policy, Entity>>, Refusal>
-    ensures read { IfOk result (λ us. IsMergeableMessage (schema_view schema.now) bytes.now us.items) }
-    ensures refused { IfErr result
-        (λ r. (r ≡ no_memory → ⊥) → IsMessageRefused (schema_view schema.now) bytes.now r) }
-{
-    let texts = SchemaTexts::under(schema);
-    match read_message(alloc, schema.label(), &texts, bytes) {
-        Ok(updates) => Ok(updates),
-        Err(fault) => Err(message_refusal(fault)),
     }
 }
 
@@ -110,7 +93,10 @@ pub fn join_message(
 {
     valid_messages_are_read::<Policy, Entity, SchemaTexts<'static>>();
     let mut store = store;
-    let updates = updates_of(alloc, schema, bytes)?;
+    let updates = match read_updates(alloc, schema, bytes) {
+        Ok(updates) => updates,
+        Err(fault) => return Err(message_refusal(fault)),
+    };
     let taken = take_all(&mut store, updates)?;
     Ok(Joined { store, taken })
 }

@@ -1,4 +1,5 @@
 pub mod Laws
+pub mod Messages
 pub mod Texts
 -- crates below, passed on to those above
 pub use Rattle.validator.specs.entities

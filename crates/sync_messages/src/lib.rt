@@ -3,6 +3,7 @@
 #![tactic(auto)]
 
 mod laws;
+mod messages;
 mod texts;
 
 pub use laws::{canonical_texts_are_read, stored_texts_have_one_reading};
@@ -11,6 +12,7 @@ pub use message_format::{
     names_read_back, read_message, read_summary, summaries_read_back, updates_have_one_store,
     valid_messages_are_read, write_delta, write_state, write_summary,
 };
+pub use messages::read_updates;
 pub use texts::SchemaTexts;
 pub use validator::{
     Entity, Schema, TypeFault, action_types_are_told, bytes_have_one_outcome, check,

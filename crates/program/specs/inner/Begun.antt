@@ -6,7 +6,7 @@ use Rattle.program_lines.specs.stamped_store.Store.{store_of, updates}
 use Rattle.state_exchanges.specs.message_format.declared.update.Update.{Update as SentUpdate}
 use Rattle.state_exchanges.specs.message_format.Updates.{plain_updates}
 use Rattle.site_loading.specs.site_steps.Seen.{Seen, schema_of, store_in, IsSameSite}
-use Rattle.http_service.specs.site_steps.Runs.{IsMessageOf}
+use Rattle.http_service.specs.site_steps.sync_messages.Messages.{IsMessageOf}
 
 -- all updates of the message are taken
 abbrev pub TakesState : Seen → List ℕ → Seen → Type 0

@@ -1,17 +1,11 @@
-use Rattle.std.proofs.Common.{rules}
+use Rattle.site_store.specs.schema.Views.{schema_view}
 use Rattle.site_steps.proofs.RunLemmas.{message_valid, message_refused}
 use Rattle.site_steps.proofs.answering.updates_of.Goals as goal
 
 pub returns-in-Ok-clause-valid : goal.returns-in-Ok-clause-valid
 returns-in-Ok-clause-valid c =
-    message_valid c.under-texts.result.schema.now c.args.schema.now c.label.result.now c.args.bytes.now
-    c.in-Ok.updates.items c.under-texts.ensures c.in-Ok.ensures.read
+    message_valid (schema_view c.args.schema.now) c.args.bytes.now c.in-Ok.updates.items c.in-Ok.ensures.read
 
-pub returns-in-Err : goal.returns-in-Err
-returns-in-Err c = record {
-  read = tt;
-  valid = tt;
-  refused = message_refused c.under-texts.result.schema.now c.args.schema.now c.label.result.now
-      _ c.args.bytes.now c.in-Err.fault c.under-texts.ensures c.label.ensures
-      (c.in-Err.ensures.refused (search rules));
-}
+pub returns-in-Err-clause-refused : goal.returns-in-Err-clause-refused
+returns-in-Err-clause-refused c =
+    rw c.from.ensures (message_refused (schema_view c.args.schema.now) c.args.bytes.now c.in-Err.fault c.in-Err.ensures.refused)

@@ -1,0 +1,11 @@
+mod Steps
+mod Only
+mod Leaves
+mod Fields
+mod ValuesRead
+mod Refusals
+mod Outcomes
+mod Forms
+mod EntitiesRead
+mod ContextsRead
+mod RequestsRead

@@ -1,0 +1,30 @@
+-- A message that is read under a schema, by a label and by texts of the schema.
+use Rattle.std.proofs.Common.{◌≡◌, ℕ, List, subst}
+use Rattle.message_format.specs.policy_grammar.declared.policy.Policy.{Policy}
+use Rattle.validator.specs.entities.schema.SchemaEntries.{SchemaEntries}
+use Rattle.validator.specs.entities.schema.Views.{schema_view}
+use Rattle.validator.specs.entities.entity_data.declared.entity.Entity.{Entity}
+use Rattle.message_format.specs.declared.fault.MessageFault.{MessageFault}
+use Rattle.message_format.specs.declared.fault.MessageFault.TheVariants as fault
+use Rattle.message_format.specs.declared.update.Update.{Update}
+use Rattle.message_format.specs.Updates.{IsMessage, IsMessageFault}
+use Rattle.plain.specs.Refused.{OrNoMemory}
+use Rattle.sync_messages.specs.Messages.{IsMessageOf, IsMessageFaultOf}
+use Rattle.sync_messages.specs.Texts.{ReadsPolicy, RefusesPolicy, ReadsEntity, RefusesEntity}
+
+pub message_of : (a b : SchemaEntries) (label bytes : List ℕ) (us : List (Update Policy Entity)) → a ≡ b → label ≡ (schema_view b).label
+    → IsMessage (λ id. ReadsPolicy (schema_view a)) (ReadsEntity (schema_view a)) label bytes us
+    → IsMessageOf (schema_view b) bytes us
+message_of a b label bytes us same named h =
+    subst (λ (l : List ℕ). IsMessage (λ id. ReadsPolicy (schema_view b)) (ReadsEntity (schema_view b)) l bytes us) named
+    (subst (λ (k : SchemaEntries). IsMessage (λ id. ReadsPolicy (schema_view k)) (ReadsEntity (schema_view k)) label bytes us) same h)
+
+pub fault_of : (a b : SchemaEntries) (label bytes : List ℕ) (f : MessageFault) → a ≡ b → label ≡ (schema_view b).label
+    → OrNoMemory fault.NoMemory (IsMessageFault (λ id. ReadsPolicy (schema_view a)) (ReadsEntity (schema_view a))
+    (λ id. RefusesPolicy (schema_view a)) (RefusesEntity (schema_view a)) label bytes) f
+    → OrNoMemory fault.NoMemory (IsMessageFaultOf (schema_view b) bytes) f
+fault_of a b label bytes f same named h = λ other.
+    subst (λ (l : List ℕ). IsMessageFault (λ id. ReadsPolicy (schema_view b)) (ReadsEntity (schema_view b))
+    (λ id. RefusesPolicy (schema_view b)) (RefusesEntity (schema_view b)) l bytes f) named
+    (subst (λ (k : SchemaEntries). IsMessageFault (λ id. ReadsPolicy (schema_view k)) (ReadsEntity (schema_view k))
+    (λ id. RefusesPolicy (schema_view k)) (RefusesEntity (schema_view k)) label bytes f) same (h other))
