@@ -1,4 +1,4 @@
-"""What the Python parts of the scripts beside this one share: runs of a program that are counted, and served sites.
+"""Shared by the Python parts of the scripts in this folder: counted runs of a program, and served sites.
 
 Standard library alone. Counting needs valgrind, TIMING GNU time.
 """
@@ -6,6 +6,7 @@ import os
 import re
 import socket
 import subprocess
+import sys
 import tempfile
 import time
 
@@ -15,18 +16,64 @@ COUNTING = ("valgrind", "--tool=callgrind", "--callgrind-out-file=/dev/null")
 TIMING = ("/usr/bin/time", "-f", "%M")
 
 
+TOP = os.path.dirname(os.path.dirname(os.path.abspath(__file__)))
+
+
+class Program(str):
+    """The path of a program."""
+
+    def printed(self, *words):
+        """What a run of it prints."""
+        return subprocess.run([self, *words], capture_output=True, text=True, check=False).stdout
+
+
+def named():
+    """The program that PROGRAM names, or none."""
+    return Program(os.path.realpath(os.environ["PROGRAM"])) if os.environ.get("PROGRAM") else None
+
+
+def build(*words):
+    """Proves and builds by tools/build.py."""
+    subprocess.run([sys.executable, f"{TOP}/tools/build.py", *words], check=True)
+
+
+def whole():
+    """The program `cedar_site`: as the gate left it, else proved and built."""
+    built = Program(f"{TOP}/crates/cedar_site/out/cedar_site")
+    if named() is None and not os.access(built, os.X_OK):
+        build("cedar_site")
+    return named() or built
+
+
+def part(name):
+    """A program of bench/programs, proved and built where it was not made from these sources."""
+    if named() is None:
+        build("--if-needed", f"bench/programs/{name}")
+    return named() or Program(f"{TOP}/bench/out/{name}")
+
+
+def counted(program, *words):
+    """The instructions of a run."""
+    return collected(Ended([*COUNTING, program, *words]).err)
+
+
+def memory(program, *words):
+    """The KiB of memory at most of a run."""
+    return resident(Ended([*TIMING, program, *words]).err)
+
+
 def collected(told):
-    """The instructions that a run told of."""
+    """Returns the instructions that a run reported."""
     return int(re.search(r"Collected *: *(\d+)", told)[1])
 
 
 def resident(told):
-    """The KiB of memory at most that a run told of."""
+    """Returns the greatest memory that a run reported, in KiB."""
     return int(told.split()[-1])
 
 
 def waited(child):
-    """The status of a child once it ended, and its seconds of processor time.
+    """Returns the status of an ended child, and its seconds of processor time.
 
     Other work on the machine changes these less than those of the clock.
     """
@@ -48,7 +95,7 @@ class Ended:
 
 
 def request(method, path, body=b""):
-    """The bytes of a request."""
+    """Returns the bytes of a request."""
     return f"{method} {path} HTTP/1.1\r\nContent-Length: {len(body)}\r\n\r\n".encode() + body
 
 
@@ -60,7 +107,7 @@ class Link:
         self.stream.setsockopt(socket.IPPROTO_TCP, socket.TCP_NODELAY, 1)
 
     def reply(self):
-        """The status and the body of the next reply. Fails where the connection ends before it."""
+        """Returns the status and the body of the next reply. Fails where the connection ends before it."""
         while True:
             at = self.buffer.find(b"\r\n\r\n")
             if at >= 0:
@@ -75,7 +122,7 @@ class Link:
             self.buffer += came
 
     def ask(self, *requests):
-        """The replies to requests that are sent together."""
+        """Returns the replies to requests that are sent together."""
         self.stream.sendall(b"".join(requests))
         return [self.reply() for _ in requests]
 
@@ -104,7 +151,7 @@ class Served:
         self.took = time.perf_counter() - began
 
     def peak(self):
-        """Its KiB of memory at most, so far."""
+        """Returns its greatest memory so far, in KiB."""
         with open(f"/proc/{self.child.pid}/status", encoding="utf-8") as file:
             return next(int(line.split()[1]) for line in file if line.startswith("VmHWM"))
 
@@ -119,7 +166,7 @@ class Served:
             self.child.wait()
 
     def told(self):
-        """What it wrote on standard error, once it ended."""
+        """Returns what it wrote on standard error, once it ended."""
         self.kill()
         self.err.seek(0)
         return self.err.read().decode(errors="replace")

@@ -1,18 +1,17 @@
 #!/usr/bin/env python3
-"""Proves and builds a program, cedar_site where none is named, and says how far it is.
+"""Proves and builds a program, by default cedar_site, and reports its progress.
 
     tools/build.py [--if-needed] [--jobs N] [PROGRAM]
     tools/build.py --is-built [PROGRAM]
 
-PROGRAM is a program of crates.txt; or bench/programs/NAME, a program that only measures, which stands in no list of
-crates, so that no gate proves it. Its code has the further ending `.txt` there, and its libraries.txt is the line that
-would stand for it in crates.txt.
+PROGRAM is a program of crates.txt, or bench/programs/NAME, a program that only measures and that no gate proves. The
+code of such a program has the additional suffix `.txt`, and its libraries.txt is its line for crates.txt.
 
-The crates that the program stands on, and no others, are copied into a folder of their own, without their must-fail
-edits, and `rt ci` proves each of them there from nothing: side by side, as many as there are processors, one job each,
-which takes the least processor time. The program is built by both compilers and its stored run is compared; then it
-stands in crates/PROGRAM/out, one that measures in bench/out. With --if-needed nothing is done where that program was
-made from these very sources; --is-built only tells, by its status, whether it was. Standard library alone.
+The script copies the crates below the program, without their must-fail edits, into a separate folder. There `rt ci`
+proves each from nothing, in parallel on all processors, one job each, which costs the least processor time. Both
+compilers build the program, and its stored run is compared. The result goes to crates/PROGRAM/out, or to bench/out for
+a program that measures. --if-needed does nothing if the program was built from these sources; --is-built reports only
+that, by its status. Standard library alone.
 """
 import hashlib
 import os
@@ -32,7 +31,7 @@ PARTS = ("src", "specs", "proofs", "data", "stdin", "stdout", "args", "status")
 
 
 class Program:
-    """A program that is built: its name, the folder of its files, and where it stands once it is built."""
+    """A program to build: its name, the folder of its files, and the place of the built program."""
 
     def __init__(self, word):
         """From a crate's name, or from the folder of a program that measures."""
@@ -43,18 +42,18 @@ class Program:
         self.built = f"{TOP}/bench/out/{self.name}" if self.measures else f"{TOP}/{self.folder}/out/{self.name}"
 
     def lists(self):
-        """The paths of the lists that its crates stand in."""
+        """Yields the paths of the lists of its crates."""
         yield f"{TOP}/crates.txt"
         own = f"{TOP}/{self.folder}/libraries.txt"
         if self.measures and os.path.isfile(own):
             yield own
 
     def folder_of(self, crate):
-        """Where the files of a crate stand."""
+        """Returns the folder of a crate."""
         return self.folder if crate == self.name else f"crates/{crate}"
 
     def laid(self, path):
-        """Where a file of the repository stands in the copy that is proved."""
+        """Returns the place of a file of the repository in the copy that is proved."""
         if not self.measures or not path.startswith(f"{self.folder}/"):
             return path
         inside = path.removeprefix(f"{self.folder}/")
@@ -62,7 +61,7 @@ class Program:
 
 
 def lines_of(program):
-    """The line of each crate, and the libraries that it names."""
+    """Returns the line of each crate, and the libraries that it names."""
     lines = {}
     for path in program.lists():
         with open(path, encoding="utf-8") as file:
@@ -74,7 +73,7 @@ def lines_of(program):
 
 
 def crates_below(program):
-    """The crates that a program stands on, and itself, lowest first, each with its line."""
+    """Returns the crates below a program, and itself, lowest first, each with its line."""
     lines, found = lines_of(program), {}
 
     def visit(crate):
@@ -88,7 +87,7 @@ def crates_below(program):
 
 
 def files_below(path):
-    """The path of a file, or of each file in a folder, in order."""
+    """Yields the path of a file, or of each file in a folder, in order."""
     if os.path.isfile(path):
         yield path
     for folder, folders, names in os.walk(path):
@@ -97,7 +96,7 @@ def files_below(path):
 
 
 def files_of(program, crates):
-    """Each file that the build reads, from the top of the repository, in order."""
+    """Yields each file that the build reads, from the top of the repository, in order."""
     for crate in sorted(crates):
         for part in PARTS:
             for path in files_below(f"{TOP}/{program.folder_of(crate)}/{part}"):
@@ -105,7 +104,7 @@ def files_of(program, crates):
 
 
 def sum_of(program, crates):
-    """A sum over what the program is made from: its crates' lines and files, and the toolchain."""
+    """Returns a checksum over the sources of the program: its crates' lines and files, and the toolchain."""
     found = hashlib.sha256(repr(crates).encode())
     toolchain = subprocess.run(["rt", "version"], capture_output=True, check=False).stdout
     found.update(toolchain)
@@ -131,7 +130,7 @@ def minutes(seconds):
 
 
 class Progress:
-    """Tells now and then which crates are proved and which are being proved."""
+    """Reports now and then which crates are proved and which are being proved."""
 
     def __init__(self, crates, room):
         self.crates, self.room, self.proved, self.began = crates, room, {}, {}
@@ -160,7 +159,7 @@ class Progress:
 
 
 def prove(crates, room, jobs):
-    """Runs the gate over the copy. Returns its status and what it said."""
+    """Runs the gate over the copy. Returns its status and its output."""
     progress, said = Progress(crates, room), []
     telling = threading.Thread(target=progress.run, args=(30 if sys.stderr.isatty() else 120,), daemon=True)
     telling.start()
@@ -176,7 +175,7 @@ def prove(crates, room, jobs):
 
 
 def is_built(program, wanted):
-    """Whether the program stands there, made from sources of this sum."""
+    """Returns whether the program exists, built from sources of this checksum."""
     if not (os.path.isfile(program.built) and os.path.isfile(f"{program.built}.from")):
         return False
     with open(f"{program.built}.from", encoding="utf-8") as file:
@@ -184,7 +183,7 @@ def is_built(program, wanted):
 
 
 def keep(program, made, wanted):
-    """Puts what was built in its place, with the sum of what it was made from."""
+    """Puts the built program in its place, with the checksum of its sources."""
     os.makedirs(os.path.dirname(program.built), exist_ok=True)
     shutil.copyfile(made, f"{program.built}.new")
     os.chmod(f"{program.built}.new", 0o755)
@@ -197,7 +196,7 @@ def build(program, crates, wanted, jobs):
     """Proves the crates and builds the program. Returns the status."""
     name = program.name
     print(
-        f"{name}: proving its {len(crates)} crates from nothing, then building it, once; {jobs} at a time",
+        f"{name}: proving its {len(crates)} crates from nothing, {jobs} at a time, then building it; this happens once",
         file=sys.stderr,
     )
     before = os.times()
@@ -227,7 +226,7 @@ def main(words):
     program = Program(word)
     crates = crates_below(program)
     if not crates:
-        print(f"{word}: no crate of crates.txt, and no program of {MEASURING}", file=sys.stderr)
+        print(f"{word}: expected a crate of crates.txt or a program of {MEASURING}, got neither", file=sys.stderr)
         return 2
     wanted = sum_of(program, crates)
     if "--is-built" in words:

@@ -1,15 +1,14 @@
 #!/usr/bin/env python3
-"""Counts the paths through the graph of crates, and fails where there are too many.
+"""Counts the paths through the graph of crates, and fails if there are too many.
 
     tools/crate_paths.py [--total N] [--most N]
 
-A path starts at a crate and follows the libraries that crates.txt names; a crate alone is one. The toolchain reads the sources of a library
-again on each path that leads to it (kit 13b, 16 ms a path; kit 13f walks the paths when it starts). So a crate names the highest crates that
-it needs, and these pass on the crates below them (docs/proving.md).
+A path starts at a crate and follows the libraries that crates.txt names; a crate alone is a path. Kit 13b reads the sources of a library again
+on each path to it, 16 ms a path; kit 13f walks the paths when it starts. So a crate names the highest crates that it needs, and these pass on
+the crates below them (docs/proving.md).
 
-Prints the total, the crates with the most paths, and the edges that cost the most of those that could go: the library is also reached
-through another one that the crate names. Fails if there are over 30,000 paths (--total), or over 12,000 from one crate (--most).
-Standard library alone.
+Prints the total, the crates with the most paths, and the most expensive edges that could go, since the library is also reached through another
+crate. Fails if there are over 30,000 paths (--total), or over 12,000 from one crate (--most). Standard library alone.
 """
 import argparse
 import os
@@ -73,9 +72,9 @@ def main():
     named = read_crates()
     start, end = counts(named)
     total, dearest = sum(start.values()), sorted(start, key=start.get, reverse=True)
-    print(f"{total} paths through the graph of crates, at most {limits.total}")
-    print(f"most from a crate, at most {limits.most}: {', '.join(f'{it} {start[it]}' for it in dearest[:6])}")
-    print(f"edges that could go, and what each spares: {', '.join(f'{name} -> {it} {paths}' for paths, name, it in spared(named, start, end)[:6])}")
+    print(f"{total} paths through the graph of crates, expected at most {limits.total}")
+    print(f"most from a crate, expected at most {limits.most}: {', '.join(f'{it} {start[it]}' for it in dearest[:6])}")
+    print(f"edges that could go, and the paths that each costs: {', '.join(f'{name} -> {it} {paths}' for paths, name, it in spared(named, start, end)[:6])}")
     return 1 if total > limits.total or start[dearest[0]] > limits.most else 0
 
 

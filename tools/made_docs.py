@@ -1,15 +1,17 @@
 #!/usr/bin/env python3
-"""Makes docs/definitions.md and docs/surface.md from the sources, so that they say what the sources say, and tells what these give out.
+"""Makes docs/definitions.md and docs/surface.md from the sources, and lists what the sources export.
 
     tools/made_docs.py [--check | --missing | --laws | --calls [CRATE ..] | --where NAME]
 
-docs/definitions.md: of each file of specs/ outside specs/inner the first clause of its head comment, its public source,
-those of its names that a public contract cites, and how many of its lines the contract of the whole program rests on,
-as tools/reading_list.py counts them. docs/surface.md: what tools/surface.py demands, with the first clause of each doc comment. With --check nothing is written: it prints what differs, and ends with status 1
-where something does. With --missing it prints what is given out without a doc comment, and which files of specs/ have
-no head comment; with --laws the laws, which are functions that do nothing; with --calls what crates give out: types and
-traits with their public methods, functions and constants, each with the first clause of its doc comment; with --where
-NAME the files of specs/ that define a name. Standard library alone.
+docs/definitions.md has, for each file of specs/ outside specs/inner, the first clause of its head comment, its public
+source, its names that a public contract cites, and the number of its lines on which the contract of the whole program
+rests (tools/reading_list.py). docs/surface.md has the names of tools/surface.py, with the first clause of each doc
+comment.
+
+--check writes nothing: it prints the differences, and its status is 1 if there are any. --missing prints exports without
+a doc comment and files of specs/ without a head comment. --laws prints the laws, which are functions that do nothing.
+--calls prints what crates export: types and traits with their public methods, functions and constants, each with the
+first clause of its doc comment. --where NAME prints the files of specs/ that define a name. Standard library alone.
 """
 import itertools
 import os
@@ -70,7 +72,7 @@ def text_of(path):
 
 
 def cut_at(text, ends, least):
-    """A text up to the first of some marks that has a blank or nothing behind it, outside quotes and brackets."""
+    """Returns a text up to the first of some marks that has a blank or nothing behind it, outside quotes and brackets."""
     depth, is_quoted = 0, False
     for at, letter in enumerate(text):
         is_quoted ^= letter in "`\""
@@ -81,14 +83,14 @@ def cut_at(text, ends, least):
 
 
 def clause(text, most=LONG):
-    """The first clause of a comment, or more where that is not long, without what a signature says."""
+    """Returns the first clause of a comment, or more where that is not long, without what a signature says."""
     whole = re.sub(r" \(Cedar reference guide[^()]*\)", "", cut_at(text, ".;", 8))
     text = whole if len(whole) <= most else cut_at(whole, ":", 16)
     return re.sub(r"\[`(?:crate::|Self::)?([^`]*)`\]", r"`\1`", re.sub(r",? or `NoMemory`$|,? (?:and )?(?:takes|without) (?:no )?memory$", "", text))
 
 
 def paragraph(comment):
-    """The first paragraph of comment lines, as one text."""
+    """Returns the first paragraph of comment lines, as one text."""
     lines = [it.strip() for it in comment]
     return " ".join(lines[: lines.index("")] if "" in lines else lines)
 
@@ -104,12 +106,12 @@ class Item:
 
 
 def signature(lines, at):
-    """What is written of an item from this line on, before its clauses and its body."""
+    """Returns the head of an item from this line on, before its clauses and its body."""
     return re.split(r"\n *(?:requires|ensures|where)\b|\{", "\n".join(lines[at : at + 12]), maxsplit=1)[0].partition(";")[0]
 
 
 def items_of(path):
-    """The public items of a file, and the public methods of its types, each with the type's name."""
+    """Returns the public items of a file, and the public methods of its types, each with the type's name."""
     items, methods, comment, inside = [], [], [], None
     lines = text_of(path).partition("#[cfg(test)]")[0].split("\n")
     for at, line in enumerate(lines):
@@ -164,7 +166,7 @@ def products():
 
 
 def wrapped(text, depth=0):
-    """The lines of an item of a list."""
+    """Returns the lines of an item of a list."""
     indent = "  " * depth
     return textwrap.wrap(text, WIDTH, initial_indent=indent, subsequent_indent=f"{indent}  ", break_long_words=False, break_on_hyphens=False)
 
@@ -174,14 +176,14 @@ def quoted(names):
 
 
 def layers():
-    """The layers of crates.txt, lowest first: the name of each, what it is for, and its crates."""
+    """Yields the layers of crates.txt, lowest first: the name of each, what it is for, and its crates."""
     for part in re.split(r"(?m)^# ---- ", text_of("crates.txt"))[1:]:
         name, _, what = part.partition("\n")[0].partition(": ")
         yield name, what, [it for it in re.findall(r"(?m)^(\w+):", part.partition("\n")[2]) if not TESTS.search(it)]
 
 
 def calls(names):
-    """The lines that tell what crates give out, but for laws: each item with the first clause of its doc comment."""
+    """Yields the lines of the exports of crates, except laws: each item with the first clause of its doc comment."""
     for crate in map(Crate, names or products()):
         yield f"{crate.name}: {clause(crate.says, 120)}"
         for item in crate.items:
@@ -191,13 +193,13 @@ def calls(names):
 
 
 def laws():
-    """The laws, each with the name of its crate."""
+    """Yields the laws, each with the name of its crate."""
     for crate in map(Crate, products()):
         yield from ((crate.name, it.name) for item in crate.items for it in [item, *item.parts] if it.kind == "law")
 
 
 def defined_at(walk, crate, module, name):
-    """The file of specs/ that defines a name, which a module may pass on, and its name there; or none."""
+    """Returns the file of specs/ that defines a name, which a module may pass on, and its name there; or none."""
     found = walk.module(crate, module)
     while found and name not in found.items and name in found.imports:
         crate, module, name = (it or name for it in found.imports[name])
@@ -206,7 +208,7 @@ def defined_at(walk, crate, module, name):
 
 
 def modules_of(crate, folder=r"inner|formers"):
-    """The files of a crate's specs/ outside these folders, each with its module's name."""
+    """Yields the files of a crate's specs/ outside these folders, each with its module's name."""
     for path in public_specs.modules_of(crate):
         name = os.path.relpath(path, f"{TOP}/crates/{crate}/specs")[:-5]
         if not re.match(folder, name):
@@ -227,7 +229,7 @@ def cited_names(walk):
 
 
 def source(head, told):
-    """The public source that a head comment names, in short; or that it tells of rules of this product alone."""
+    """Returns the public source that a head comment names, in short, or that it has only rules of this product."""
     found = re.search(r"Sources?: (.*)", head)
     text = cut_at(found[1], ".:", 8) if found else "; ".join(dict.fromkeys(STANDARD.findall(head)))
     if STANDARD.search(told) or not text and "of this product" in told:
@@ -238,7 +240,7 @@ def source(head, told):
 
 
 def head_of(path):
-    """The head comment of a file of specs/, as one text."""
+    """Returns the head comment of a file of specs/, as one text."""
     return " ".join(re.match(r"(?:--.*\n)*", text_of(os.path.relpath(path, TOP)))[0].replace("--", "").split())
 
 
@@ -258,7 +260,7 @@ def reached():
 
 
 def told_of(head):
-    """What is told of a file of specs/ by its head comment: its first clause, in short, and its source."""
+    """Returns the first clause of the head comment of a file of specs/, in short, and its source."""
     told = clause(head)
     named = source(head, told)
     if len(told) > LONG:
@@ -267,14 +269,14 @@ def told_of(head):
 
 
 def names_of(walk, crate, path, module, cited):
-    """The names of a file of specs/ that public contracts cite, in the order of the file: of relations and types, or else
+    """Returns the names of a file of specs/ that public contracts cite, in the order of the file: of relations and types, or else
     of functions."""
     items, names = walk.module(crate, module).items, cited.get(path, ())
     return quoted(sorted([it for it in names if it[:1].isupper()] or names, key=lambda it: (min(items[it][0]), items[it][1].find(it), it)))
 
 
 def where(name):
-    """The files of specs/ that define a name, each with what is told of it."""
+    """Yields the files of specs/ that define a name, each with its first clause and source."""
     walk = reading_list.Walk()
     for crate in products():
         for path, module in modules_of(crate, "formers"):
@@ -300,7 +302,7 @@ def definitions():
 
 
 def missing():
-    """What is given out without a doc comment, and the files of specs/ without a head comment."""
+    """Yields exports without a doc comment, and files of specs/ without a head comment."""
     for crate in map(Crate, products()):
         items = [(f"{crate.name}::{it.name}", it) for it in crate.items]
         items += [(f"{name}::{part.name}", part) for name, it in items for part in it.parts]
@@ -309,7 +311,7 @@ def missing():
 
 
 def purpose_of(layer):
-    """What a layer of crates.txt is for, as a sentence without its full stop."""
+    """Returns the purpose of a layer of crates.txt, as a sentence without its full stop."""
     what = next(what for name, what, _ in layers() if name == layer).partition(". ")[0]
     return what[:1].upper() + what[1:]
 
@@ -324,12 +326,12 @@ MADE = (("docs/definitions.md", definitions), ("docs/surface.md", surface_page))
 
 
 def stale():
-    """What is not as the sources say: of each document the first line that differs."""
+    """Yields the first line of each document that differs from the sources."""
     for path, make in MADE:
         kept, made = text_of(path).split("\n"), make().split("\n")
         for number, (old, new) in enumerate(itertools.zip_longest(kept, made), 1):
             if old != new:
-                yield f"{path}:{number}: {old!r} is not what tools/made_docs.py makes: {new!r}"
+                yield f"{path}:{number}: expected {new!r} (tools/made_docs.py), got {old!r}"
                 break
 
 
@@ -344,7 +346,7 @@ def main(words):
         print("\n".join(f"{crate}::{name}" for crate, name in laws()))
     elif "--check" in words:
         found = list(stale())
-        print("\n".join(found) or "made documents: as the sources say")
+        print("\n".join(found) or "made documents: all agree with the sources")
         return 1 if found else 0
     else:
         for path, make in MADE:

@@ -1,14 +1,12 @@
 #!/usr/bin/env python3
-"""Tells which modules of specs/ public contracts rest on, so that specs/inner/ holds the others and only these.
+"""Finds the modules of specs/ on which public contracts rest; specs/inner/ must hold exactly the others.
 
     tools/public_specs.py [--top FOLDER] [--names] [CRATE ..]
 
-A public contract is a clause of a function, of a method or of a trait, or a ghost member (`view`, `from_gives` ..), of what a crate's lib.rt gives out.
-From the names that these cite it walks as tools/reading_list.py does. It prints each module outside specs/inner/ that none reaches, and each inside
-that one reaches; its status is 1 where there is any. An `invariant` is a fact about private fields, and callers see the value alone: what it alone
-cites may stand outside, for who asks what a type keeps, or inside, where it speaks of private types. A module outside is as it should be where one of
-its names is reached: with --names it prints those of its names that none is, for a contributor to look at, and how many they are; these change no
-status. Standard library alone.
+A public contract is a clause of a function, method or trait, or a ghost member (`view`, `from_gives` ..), of what a crate's lib.rt exports. The script
+follows the names that these cite (tools/reading_list.py). It prints each module outside specs/inner/ that it does not reach, and each inside that it
+reaches; its status is 1 if there is any. An `invariant` is about private fields: a module that only invariants cite may be outside or inside. A module
+outside is right if one of its names is reached; --names prints its other names and their number, without an effect on the status. Standard library alone.
 """
 import os
 import re
@@ -21,7 +19,7 @@ from reading_list import Walk, imports_of  # noqa: E402
 
 
 def blocks(text, at):
-    """The text between the brace at a place and the one that closes it, and the place behind."""
+    """Returns the text between the brace at a position and the one that closes it, and the position after it."""
     depth, end = 0, at
     while end < len(text):
         if text[end] == "{":
@@ -39,7 +37,7 @@ def without_comments(text):
 
 
 def given_out(crate):
-    """The names that a crate's root gives out; None where it is a program."""
+    """Returns the names that a crate's root exports; None for a program."""
     path = f"{reading_list.TOP}/crates/{crate}/src/lib.rt"
     if not os.path.isfile(path):
         return None
@@ -61,7 +59,7 @@ def given_out(crate):
 
 
 def declared_in(text):
-    """The public items of a file."""
+    """Returns the public items of a file."""
     return set(re.findall(r"(?m)^pub (?:const )?(?:fn|struct|enum|trait|const|type) (\w+)", text))
 
 
@@ -71,13 +69,13 @@ ITEM = re.compile(
 
 
 def clauses(text):
-    """The clauses and ghost members in a piece of code: of each its text, and whether it is an invariant."""
+    """Yields the clauses and ghost members in a piece of code: of each its text, and whether it is an invariant."""
     for found in re.finditer(r"(?:\b(?:requires|ensures|measure)\b(?: \w+)? ?|\bghost (\w+)(?:: |\s*=\s*))(?=\{)", text):
         yield blocks(text, found.end())[0], found[1] == "invariant"
 
 
 def functions(text, only_public):
-    """Each function with what stands before its body."""
+    """Yields each function with its head."""
     for found in re.finditer(r"(?m)^\s*(pub(?:\(crate\))? )?(?:const )?fn (\w+)", text):
         if only_public and found[1] != "pub ":
             continue
@@ -93,7 +91,7 @@ def functions(text, only_public):
 
 
 def public_texts(crate, names):
-    """The clauses that are public, as `clauses` gives them, each with the file's imports."""
+    """Yields the clauses that are public, as `clauses` gives them, each with the file's imports."""
     top = f"{reading_list.TOP}/crates/{crate}/src"
     for folder, _, files in os.walk(top):
         for file in sorted(files):
@@ -168,17 +166,17 @@ def main(words):
             inner = "/specs/inner/" in short
             reached = sorted((walk if inner else whole).reached.get(path, {}))
             if inner and reached:
-                print(f"{short}: public contracts rest on {', '.join(reached)}")
+                print(f"{short}: expected outside specs/inner, since public contracts rest on {', '.join(reached)}")
                 status = 1
             elif not inner and not reached:
-                print(f"{short}: no public contract rests on it")
+                print(f"{short}: expected in specs/inner, since no public contract rests on it")
                 status = 1
             elif not inner and set(whole.modules[path].items) > set(reached):
                 left[short] = sorted(set(whole.modules[path].items) - set(reached))
                 if names:
                     print(f"    {short}: {len(left[short])} of {len(whole.modules[path].items)} names not reached: {', '.join(left[short])}")
     if names:
-        print(f"{sum(map(len, left.values()))} names in {len(left)} modules outside specs/inner/ are reached by no public contract")
+        print(f"{sum(map(len, left.values()))} names in {len(left)} modules outside specs/inner/ are cited by no public contract")
     return status
 
 

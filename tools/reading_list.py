@@ -1,15 +1,13 @@
 #!/usr/bin/env python3
-"""Lists the definitions that a contract rests on: which files of specs/ a reader has to believe, highest first, with their lines.
+"""Lists the definitions on which a contract rests: the files of specs/ that a reader must believe, highest first, with their lines.
 
     tools/reading_list.py [--names] [CRATE MODULE NAME ..]
 
-Without words it starts at the contract of the program's runs, `program::run`, and at what it is over: the clauses of the trait `Host`, and what
-`SystemHost` means by them. It walks names: from those that the contract cites to those that their definitions cite, over the `use` lines of specs/, and
-leaves out what no definition on the way names (lemmas, helpers of proofs). A file counts with the lines of those of its definitions that are reached, and
-of the comments above them. Types and traits that are declared in code count with their file. Of std and the ported libraries it follows nothing: it tells
-which of them are cited. It prints of each crate its files
-with their lines, and the files that declare types; docs/definitions.md is made with these numbers (tools/made_docs.py). With --names it prints a table,
-with the reached names of each file. Standard library alone.
+By default it starts at `program::run`, the clauses of the trait `Host`, and their meaning for `SystemHost`. It follows names, from those that the contract
+cites to those that their definitions cite, over the `use` lines of specs/. It omits names that no definition on the way cites (lemmas, helpers of proofs).
+A file counts with the lines of its reached definitions and of the comments above them; types and traits that are declared in code count with their file.
+For std and the ported libraries it only reports which are cited. It prints the files of each crate with their lines, and the files that declare types;
+docs/definitions.md has these numbers (tools/made_docs.py). --names prints a table with the reached names of each file. Standard library alone.
 """
 import functools
 import itertools
@@ -31,7 +29,7 @@ BY_TYPE = re.compile(r"^pub \S+ :(?:.*→)? (?:Decided|StringMeaning)\b[^→]*$"
 
 
 def opened(lines):
-    """The lines with what stands in a `module` or `mutual` block moved to the left, and those that open it left empty."""
+    """Returns the lines with the content of `module` and `mutual` blocks moved to the left, and their first lines empty."""
     found, inside, head = [], False, False
     for line in lines:
         if head or re.match(r"(pub )?module |(\w+ )*mutual$", line):
@@ -46,7 +44,7 @@ def opened(lines):
 
 @functools.lru_cache(maxsize=None)
 def home_of(crate, module):
-    """The crate that has a module of specs/, and its name there: a crate passes another one's specs/ on under that crate's name."""
+    """Returns the crate that has a module of specs/, and its name there: a crate passes another one's specs/ on under that crate's name."""
     first, _, rest = module.partition(".")
     return (first, rest) if rest and os.path.isdir(f"{TOP}/crates/{first}") else (crate, module)
 
@@ -112,7 +110,7 @@ class Module:
 
 
 def imports_of(text):
-    """What the `ghost use` lines of a file of code bring."""
+    """Returns what the `ghost use` lines of a file of code bring."""
     module = Module.__new__(Module)
     module.imports = {}
     for found in re.finditer(r"ghost (use [^;]+);", text):
@@ -122,7 +120,7 @@ def imports_of(text):
 
 @functools.lru_cache(maxsize=None)
 def path_of(crate, module):
-    """The file in which a module of specs/ stands: in a crate below, where the crate's Lib.antt passes it on."""
+    """Returns the file of a module of specs/: of a lower crate, if the crate's Lib.antt passes it on."""
     path = f"{TOP}/crates/{crate}/specs/{module.replace('.', '/')}.antt"
     library = f"{TOP}/crates/{crate}/specs/Lib.antt"
     if os.path.isfile(path) or not os.path.isfile(library):
@@ -147,7 +145,7 @@ class Walk:
         return self.modules[path]
 
     def declared(self, crate, module):
-        """The source file of a type that is declared in code."""
+        """Returns the source file of a type that is declared in code."""
         parts = module.split(".")[1:]
         for last in range(len(parts), 0, -1):
             for path in ("/".join(parts[:last]), "/".join(p for p in parts[: last - 1])):
@@ -158,7 +156,7 @@ class Walk:
         self.types.setdefault(f"{TOP}/crates/{crate}/src/lib.rt", set()).add(parts[-1])
 
     def visit_code(self, crate, file, name):
-        """What is declared in a file of code, with its clauses and ghost members."""
+        """Returns what is declared in a file of code, with its clauses and ghost members."""
         path = f"{TOP}/crates/{crate}/src/{file}.rt"
         self.types.setdefault(path, set()).add(name)
         with open(path, encoding="utf-8") as it:
@@ -166,7 +164,7 @@ class Walk:
         self.follow(text, imports_of(text))
 
     def follow(self, code, imports, here=None, but=None):
-        """What a piece of a definition or of a clause cites: what the imports bring, and in the module of a definition its others."""
+        """Returns what a piece of a definition or of a clause cites: what the imports bring, and in the module of a definition its others."""
         for word in sorted(set(WORD.findall(code)) | set(re.findall(r"◌[^\s]*◌", code)), key=lambda it: (code.find(it), it)):
             if here and word in here[2] and word != but:
                 self.visit(here[0], here[1], word)
@@ -215,7 +213,7 @@ def crates_in_order():
 
 
 def whole(walk):
-    """What the contract of the whole program rests on."""
+    """Returns what the contract of the whole program rests on."""
     for file, name in OVER:
         walk.visit_code(START, file, name)
     for module, name in CITED:
@@ -223,7 +221,7 @@ def whole(walk):
 
 
 def lowest_first(walk):
-    """The files, by crate and in a crate each behind those that it cites; what declares types goes before."""
+    """Returns the files, by crate and in a crate each behind those that it cites; what declares types goes before."""
     crates, behind, seen = crates_in_order(), [], set()
 
     def put(path):
@@ -239,7 +237,7 @@ def lowest_first(walk):
 
 
 def rows_of(walk):
-    """The files, highest first, each with its lines (none where it declares types) and the names that are reached."""
+    """Yields the files, highest first, each with its lines (none where it declares types) and the names that are reached."""
     for path in reversed(lowest_first(walk)):
         if path in walk.reached:
             yield os.path.relpath(path, TOP), len(set().union(*walk.reached[path].values())), sorted(walk.reached[path])
@@ -248,7 +246,7 @@ def rows_of(walk):
 
 
 def by_crate(rows):
-    """An item of a list for each crate: its files of specs/ with their lines, and those that declare types."""
+    """Yields an item of a list for each crate: its files of specs/ with their lines, and those that declare types."""
     for crate, group in itertools.groupby(rows, lambda row: row[0].split("/")[1]):
         group = [(path.split("/", 3)[3].rsplit(".", 1)[0], lines) for path, lines, _ in group]
         specs = ", ".join(f"{name} {lines}" for name, lines in group if lines)
@@ -258,7 +256,7 @@ def by_crate(rows):
 
 
 def listed(walk, names):
-    """What is printed: how much there is, and the files, highest first."""
+    """Returns the output: the totals, and the files, highest first."""
     rows = list(rows_of(walk))
     count = f"{len(walk.reached)} files of specs/, {sum(lines for _, lines, _ in rows)} lines of definitions; {len(rows) - len(walk.reached)} files that declare types."
     libraries = textwrap.wrap(f"Cited, and not listed: {', '.join(sorted(walk.libraries))}.", 100) if walk.libraries else []

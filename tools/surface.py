@@ -1,11 +1,11 @@
 #!/usr/bin/env python3
-"""Checks that the fifteen crates that others build on give out what they promise, each call and type under its own name.
+"""Checks that the fifteen crates for other programs export each promised call and type under its own name.
 
     tools/surface.py
 
-Each name of SURFACE has to be declared in the root of its crate, or passed on there by `pub use`, which the gate compiles; and so on down to the
-crate that declares it, with a doc comment. It prints what is missing, and ends with status 1 where something is. tools/made_docs.py makes
-docs/surface.md of the same list. Standard library alone.
+Each name of SURFACE must be declared in the root of its crate, or passed on there by `pub use`, which the gate compiles; and so on down to the
+declaring crate, with a doc comment. Prints what is missing; its status is 1 if anything is. tools/made_docs.py makes docs/surface.md of the same
+list. Standard library alone.
 """
 import os
 import re
@@ -26,7 +26,7 @@ SURFACE = {
     "validator": ["check", "Verdict", "TypeFault"],
     "authoriser": ["decide", "Answer", "Decision"],
     "scope_index": ["ScopeIndex"],
-    "stamped_store": ["Stamp", "Entry", "Join", "Stamped", "Short", "PolicyStore"],
+    "stamped_store": ["Stamp", "Entry", "Join", "Stamped", "Short", "StampedStore"],
     "sync_messages": [
         "write_state", "write_delta", "write_summary", "read_message", "read_summary", "Update", "Summary", "MessageFault",
     ],
@@ -41,13 +41,13 @@ SURFACE = {
 
 
 def roots():
-    """The root of each crate that is a library, as a text."""
+    """Returns the root of each crate that is a library, as a text."""
     folder = f"{made_docs.TOP}/crates"
     return {it: made_docs.text_of(f"crates/{it}/src/lib.rt") for it in os.listdir(folder) if os.path.isfile(f"{folder}/{it}/src/lib.rt")}
 
 
 def paths_of(root):
-    """Where a root takes each of its public names from: a map from the name to the path's words."""
+    """Returns where a root takes each of its public names from: a map from the name to the path's words."""
     found = {}
     for one in re.finditer(r"(?m)^pub use ((?:\w+::)+)(?:\{([^}]*)\}|(\w+));", root):
         for name in re.findall(r"\w+", one[2] or one[3]):
@@ -64,14 +64,14 @@ class Surface:
         self.files = {}
 
     def items(self, crate, module):
-        """The public items of a file, with the methods of its types."""
+        """Returns the public items of a file, with the methods of its types."""
         path = f"crates/{crate}/src/{module}.rt"
         if path not in self.files:
             self.files[path] = made_docs.items_of(path) if os.path.isfile(f"{made_docs.TOP}/{path}") else ([], [])
         return self.files[path]
 
     def declared(self, crate, name):
-        """The item that a crate gives out by this name, and the crate that declares it; or none."""
+        """Returns the item that a crate exports by this name, and the crate that declares it, or None."""
         words = self.paths[crate].get(name, ["lib", name])
         if words[0] not in self.roots or os.path.isfile(f"{made_docs.TOP}/crates/{crate}/src/{words[0]}.rt"):
             return self.item(crate, "/".join(words[:-1]), name)
@@ -82,7 +82,7 @@ class Surface:
         return item and (item, crate)
 
     def methods(self, crate, item):
-        """The public methods of a type, wherever its crate has them; of a trait all."""
+        """Returns the public methods of a type, wherever its crate has them; of a trait all."""
         if item.kind == "trait":
             return [it.name for it in item.parts]
         folder = f"{made_docs.TOP}/crates/{crate}/src"
@@ -94,7 +94,7 @@ class Surface:
 
 
 def rows():
-    """The names of SURFACE, each with its crate, its item, or none, and its methods."""
+    """Yields the names of SURFACE, each with its crate, its item, or none, and its methods."""
     surface = Surface()
     for crate, names in SURFACE.items():
         for name in names:
@@ -114,7 +114,7 @@ docs/codes.md.
 
 
 def page():
-    """The text of docs/surface.md."""
+    """Returns the text of docs/surface.md."""
     lines, last = [PAGE], None
     for crate, name, item, methods in rows():
         if crate != last:
@@ -128,14 +128,14 @@ def page():
 def missing():
     for crate, name, item, _ in rows():
         if item is None:
-            yield f"{crate} gives out no {name}"
+            yield f"expected {name} of {crate}, got no such export"
         elif not item.says:
-            yield f"{crate}::{name} has no doc comment"
+            yield f"expected a doc comment of {crate}::{name}, got none"
 
 
 def main():
     found = list(missing())
-    print("\n".join(found) or f"{sum(map(len, SURFACE.values()))} names of {len(SURFACE)} crates are given out")
+    print("\n".join(found) or f"{sum(map(len, SURFACE.values()))} names of {len(SURFACE)} crates are exported")
     return 1 if found else 0
 
 

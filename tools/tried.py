@@ -1,4 +1,4 @@
-"""What the scripts share that try a program row by row: how they begin and end, and what they print."""
+"""Shared by the scripts that try a program row by row: how they begin and end, and what they print."""
 import contextlib
 import os
 import signal
@@ -7,7 +7,7 @@ import tempfile
 
 
 def interrupt(*_):
-    """What ends this ends it as Ctrl-C does, so that the sites that it began end too."""
+    """Raises `KeyboardInterrupt`, as Ctrl-C does, so that the sites that were started end too."""
     raise KeyboardInterrupt
 
 

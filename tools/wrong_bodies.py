@@ -1,13 +1,13 @@
 #!/usr/bin/env python3
-"""Tries the wrong bodies that the gate does not try: crates/NAME/wrong-bodies/*.edit, of the form of must-fail edits.
+"""Tries the mutants that the gate does not try: crates/NAME/mutants/*.edit, in the form of must-fail edits.
 
-    tools/wrong_bodies.py NAME ..     lays them into a copy, as must-fail/, and runs `rt must-fail NAME ..` there
+    tools/wrong_bodies.py NAME ..     copies them to must-fail/ of a copy, and runs `rt must-fail NAME ..` there
     tools/wrong_bodies.py --all       the same for every crate that has any
-    tools/wrong_bodies.py --applies   proves nothing: each edit, of must-fail/ too, still stands once in its file
+    tools/wrong_bodies.py --applies   proves nothing: each edit, also of must-fail/, must occur once in its file
 
-The copy takes along the libraries that stand built in this checkout (crates/NAME/out/rlib), and rt builds anew what
-has changed since or was never built. Each call proves the named crates from nothing, once, and then tries their edits
-over that. Standard library alone.
+The copy includes the libraries that are built in this checkout (crates/NAME/out/rlib); rt builds what changed since or
+was never built. Each call proves the named crates once from nothing, and then tries their edits over that. Standard
+library alone.
 """
 import os
 import shutil
@@ -17,11 +17,11 @@ import tempfile
 
 TOP = os.path.dirname(os.path.dirname(os.path.abspath(__file__)))
 PARTS = ("src", "specs", "proofs")
-FOLDERS = ("must-fail", "wrong-bodies")
+FOLDERS = ("must-fail", "mutants")
 
 
 def edits_of(name, folder):
-    """The edits of a crate in one of its two folders, in order."""
+    """Returns the edits of a crate in one of its two folders, in order."""
     at = f"{TOP}/crates/{name}/{folder}"
     return [f"{at}/{it}" for it in sorted(os.listdir(at)) if it.endswith(".edit")] if os.path.isdir(at) else []
 
@@ -32,7 +32,7 @@ def text_of(path):
 
 
 def fault_of(edit, crate):
-    """Why an edit cannot be applied, or None: as rt reads it, line by line, each pair over what those before it left."""
+    """Returns why an edit cannot be applied, or None: as rt reads it, line by line, each pair over what those before it left."""
     path, old, pairs, texts = "", None, 0, {}
     for line in text_of(edit).split("\n"):
         if line.startswith("file: "):
@@ -41,20 +41,20 @@ def fault_of(edit, crate):
             old = line[len("old: "):]
         elif line.startswith("new:"):
             if not path.startswith(tuple(f"{it}/" for it in PARTS)) or not old:
-                return "a 'new:' line without 'file:' and 'old:'"
+                return "expected 'file:' and 'old:' before a 'new:' line, got none"
             if path not in texts:
                 if not os.path.isfile(f"{crate}/{path}"):
-                    return f"no file {path}"
+                    return f"expected a file {path}, got none"
                 texts[path] = text_of(f"{crate}/{path}")
             if texts[path].count(old) != 1:
-                return f"its text stands {texts[path].count(old)} times in {path}"
+                return f"expected its text once in {path}, got it {texts[path].count(old)} times"
             texts[path] = texts[path].replace(old, line[len("new:"):].removeprefix(" "))
             old, pairs = None, pairs + 1
-    return None if pairs else "no pair of 'old:' and 'new:'"
+    return None if pairs else "expected a pair of 'old:' and 'new:', got none"
 
 
 def applies():
-    """Says of each edit of the repository that cannot be applied why, and how many can."""
+    """Prints why an edit of the repository cannot be applied, and how many can."""
     found, lost = 0, 0
     for name in sorted(os.listdir(f"{TOP}/crates")):
         for folder in FOLDERS:
@@ -63,12 +63,12 @@ def applies():
                 found, lost = found + 1, lost + bool(why)
                 if why:
                     print(f"{name}/{folder}/{os.path.basename(edit)}: {why}")
-    print(f"{found - lost} of {found} edits stand once in their files")
+    print(f"{found - lost} of {found} edits occur once in their files")
     return 1 if lost else 0
 
 
 def lay_out(names, room):
-    """Copies all crates, with the wrong bodies of the named ones as their must-fail edits, and what is built of them."""
+    """Copies all crates, with the mutants of the named ones as their must-fail edits, and what is built of them."""
     for name in sorted(os.listdir(f"{TOP}/crates")):
         for part in PARTS:
             if os.path.isdir(f"{TOP}/crates/{name}/{part}"):
@@ -78,7 +78,7 @@ def lay_out(names, room):
             shutil.copytree(built, f"{room}/crates/{name}/out/rlib")
         if name in names:
             os.makedirs(f"{room}/crates/{name}/must-fail")
-            for edit in edits_of(name, "wrong-bodies"):
+            for edit in edits_of(name, "mutants"):
                 shutil.copy(edit, f"{room}/crates/{name}/must-fail")
     for name in ("crates.txt", "HANDLES"):
         shutil.copy(f"{TOP}/{name}", room)
@@ -86,8 +86,8 @@ def lay_out(names, room):
 
 
 def tried(names):
-    """Tries the wrong bodies of these crates. Returns the status of `rt must-fail`."""
-    with tempfile.TemporaryDirectory(prefix="wrong-bodies-") as room:
+    """Tries the mutants of these crates. Returns the status of `rt must-fail`."""
+    with tempfile.TemporaryDirectory(prefix="mutants-") as room:
         lay_out(names, room)
         return subprocess.run(["rt", "must-fail", *names], cwd=room, check=False).returncode
 
@@ -97,13 +97,13 @@ def main(words):
         return applies()
     names = words
     if words == ["--all"]:
-        names = [it for it in sorted(os.listdir(f"{TOP}/crates")) if edits_of(it, "wrong-bodies")]
+        names = [it for it in sorted(os.listdir(f"{TOP}/crates")) if edits_of(it, "mutants")]
     if not names or any(it.startswith("-") for it in names):
         print(__doc__)
         return 2
-    lost = [it for it in names if not edits_of(it, "wrong-bodies")]
+    lost = [it for it in names if not edits_of(it, "mutants")]
     if lost:
-        print(f"no wrong bodies: {', '.join(lost)}")
+        print(f"expected mutants of each crate, got none of {', '.join(lost)}")
         return 2
     return tried(names)
 

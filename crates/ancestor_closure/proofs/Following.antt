@@ -2,14 +2,14 @@
 use Rattle.std.proofs.Common.{◌≡◌, ◌∙◌, Bool, true, false, List, [], refl, sym, subst, inl, inr, Result, Ok, Err, OnOk, OnErr}
 use Rattle.std.specs.Prelude.{Contains, ◌⊎◌, ◌↔◌}
 use Rattle.values.specs.declared.entity_uid.EntityUid.{EntityUid}
-use Rattle.ancestor_search.specs.Hierarchy.{Parents, Above}
+use Rattle.ancestor_search.specs.Hierarchy.{Parents, IsAncestor}
 use Rattle.ancestor_search.specs.Decided.{is_same}
 use Rattle.ancestor_search.specs.Deciding.{same_uid, Contains-none}
 use Rattle.ancestor_search.proofs.Levels.{among}
 use Rattle.ancestor_closure.specs.Lists.{IsListOf, IsKeptOf, AgreeBut, IsKeptBut, AddsChild}
 use Rattle.ancestor_closure.specs.declared.changing.Change.{Change}
 use Rattle.ancestor_closure.specs.inner.OneChange.{TakesChild, firsts, written, IsInOwn, Enters, Leaves, IsPlanned}
-use Rattle.ancestor_closure.proofs.Paths.{IsListOf-kept, Above-turned, differ, same_above}
+use Rattle.ancestor_closure.proofs.Paths.{IsListOf-kept, IsAncestor-turned, differ, same_above}
 use Rattle.ancestor_closure.proofs.Written.{firsts-at, firsts-has, written-away, written-right}
 
 pub ok_as : {T E : Type 0} {A B : Type 0} (r : Result T E) → (A → B) → OnOk r A → OnOk r B
@@ -50,10 +50,10 @@ kept-with P Q anc ch cyc same k = record {
   on_cycles = λ a. (λ h. on a a ((k.on_cycles a).0 h), λ up. (k.on_cycles a).1 (back a a up));
 }
   where
-    on : (a b : EntityUid) → Above P a b → Above Q a b
+    on : (a b : EntityUid) → IsAncestor P a b → IsAncestor Q a b
     on = same_above P Q (λ b a. (same b a).0)
 
-    back : (a b : EntityUid) → Above Q a b → Above P a b
+    back : (a b : EntityUid) → IsAncestor Q a b → IsAncestor P a b
     back = same_above Q P (λ b a. (same b a).1)
 
 -- where the entity had no parents and gets none
@@ -99,7 +99,7 @@ module _ (uid : EntityUid) (P Q : Parents) (agree : AgreeBut uid P Q) (anc ch : 
       at : (b : Bool) → is_same uid q ≡ b → Contains (firsts change.lists.items) q ⊎ IsListOf Q q (anc q)
       at true same = inl (planned ((plan.entities q).1 (inl (same_uid uid q same))))
       at false apart = elim (among (anc q) uid) [
-        | inl t ↦ inl (planned ((plan.entities q).1 (inr (Above-turned P ch (λ x y. (kept.below x y).1) q uid (((kept.above q).0 uid).0 t)))))
+        | inl t ↦ inl (planned ((plan.entities q).1 (inr (IsAncestor-turned P ch (λ x y. (kept.below x y).1) q uid (((kept.above q).0 uid).0 t)))))
         | inr none ↦ inr (IsListOf-kept P Q uid agree q (anc q) (differ uid q apart) (λ above. none (((kept.above q).0 uid).1 above)) (kept.above q))
       ]
 
@@ -110,7 +110,7 @@ module _ (uid : EntityUid) (P Q : Parents) (agree : AgreeBut uid P Q) (anc ch : 
   pub whose : (q : EntityUid) → Contains (firsts change.lists.items) q → (uid ≡ q) ⊎ Contains (anc q) uid
   whose q h = elim ((plan.entities q).0 (subst (λ l. Contains l q) plan.lists_of h)) [
     | inl same ↦ inl same
-    | inr below ↦ inr (((kept.above q).0 uid).1 (Above-turned ch P (λ x y. (kept.below y x).0) uid q below))
+    | inr below ↦ inr (((kept.above q).0 uid).1 (IsAncestor-turned ch P (λ x y. (kept.below y x).0) uid q below))
   ]
 
   -- the parents before the change
@@ -167,10 +167,10 @@ module _ (uid : EntityUid) (P Q : Parents) (agree : AgreeBut uid P Q) (anc ch : 
           at false apart = other_child a b apart
 
       -- on a cycle is who is in its own list
-      own : (a : EntityUid) → Contains (anc2 a) a ↔ Above Q a a
+      own : (a : EntityUid) → Contains (anc2 a) a ↔ IsAncestor Q a a
       own a = (above_after a).0 a
 
-      inside : (a : EntityUid) → Contains change.entities.items a → Contains cyc2 a ↔ Above Q a a
+      inside : (a : EntityUid) → Contains change.entities.items a → Contains cyc2 a ↔ IsAncestor Q a a
       inside a there = (
         λ h. elim (among (anc2 a) a) [
           | inl on ↦ (own a).0 on
@@ -185,7 +185,7 @@ module _ (uid : EntityUid) (P Q : Parents) (agree : AgreeBut uid P Q) (anc ch : 
             ],
       )
 
-      outside : (a : EntityUid) → (Contains change.entities.items a → ⊥) → Contains cyc2 a ↔ Above Q a a
+      outside : (a : EntityUid) → (Contains change.entities.items a → ⊥) → Contains cyc2 a ↔ IsAncestor Q a a
       outside a not =
           let away : Contains (firsts change.lists.items) a → ⊥ = λ h. not (subst (λ l. Contains l a) plan.lists_of h) in
           let same : anc2 a ≡ anc a = wrote a ∙ written-away change.lists.items a (anc a) away in (
@@ -230,7 +230,7 @@ module _ (p Q : Parents) (uid : EntityUid) (anc ch : EntityUid → List EntityUi
     ],
   )
 
-  cycles_back : (a : EntityUid) → Contains cyc2 a ↔ Above p a a
+  cycles_back : (a : EntityUid) → Contains cyc2 a ↔ IsAncestor p a a
   cycles_back a = (
     λ h. elim (enters.from a (leaves.from a h)) [
       | inl old ↦ (kept.on_cycles a).0 old

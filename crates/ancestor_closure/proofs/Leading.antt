@@ -5,13 +5,13 @@ use Rattle.std.specs.Ordering.{is_eq}
 use Rattle.std.specs.Cmp.{eq_by_cmp_equiv}
 use Rattle.values.specs.declared.entity_uid.EntityUid.{EntityUid}
 use Rattle.values.specs.Names.{uid_cmp, uid_cmp-IsTotalOrder}
-use Rattle.ancestor_search.specs.Hierarchy.{Parents, Path, Above, with_parents}
+use Rattle.ancestor_search.specs.Hierarchy.{Parents, Path, IsAncestor, with_parents}
 use Rattle.ancestor_search.specs.Deciding.{same_uid}
 use Rattle.ancestor_closure.specs.Lists.{AgreeBut}
 
 -- x is the entity or has it above
 abbrev pub Leads : Parents → EntityUid → EntityUid → Type 0
-Leads p uid x = (x ≡ uid) ⊎ Above p uid x
+Leads p uid x = (x ≡ uid) ⊎ IsAncestor p uid x
 
 -- graphs that differ at uid alone have the same paths to uid
 carried : (P Q : Parents) (uid : EntityUid) → AgreeBut uid P Q → (s : EntityUid) (cs : List EntityUid) → Path P s cs uid → Leads Q uid s
@@ -38,11 +38,11 @@ module _ (p : Parents) (uid : EntityUid) (ps : List EntityUid) where
   agrees q e = sym (elsewhere q e)
 
   -- a cycle through the entity begins with one of its parents
-  pub cycle_leads : Above (with_parents p uid ps) uid uid → (x : EntityUid) × Contains ps x × Leads p uid x
+  pub cycle_leads : IsAncestor (with_parents p uid ps) uid uid → (x : EntityUid) × Contains ps x × Leads p uid x
   cycle_leads ([], h) = (uid, subst (λ l. Contains l uid) at_uid h, inl refl)
   cycle_leads ((c ∷ cs), h) = (c, subst (λ l. Contains l c) at_uid h.0, carried (with_parents p uid ps) p uid elsewhere c cs h.1)
 
-  pub leads_cycle : (x : EntityUid) → Contains ps x → Leads p uid x → Above (with_parents p uid ps) uid uid
+  pub leads_cycle : (x : EntityUid) → Contains ps x → Leads p uid x → IsAncestor (with_parents p uid ps) uid uid
   leads_cycle x there (inl same) = ([], subst (λ l. Contains l uid) (sym at_uid) (subst (λ z. Contains ps z) same there))
   leads_cycle x there (inr above) = elim (carried p (with_parents p uid ps) uid agrees x above.0 above.1) [
     | inl same ↦ ([], subst (λ l. Contains l uid) (sym at_uid) (subst (λ z. Contains ps z) same there))

@@ -8,7 +8,7 @@ use Rattle.std.specs.List.Sorted.{IsStrictlySortedBy}
 use Rattle.std.proofs.lemmas.List.Elements.{Contains-append_left, Contains-push, Contains-push_cases}
 use Rattle.values.specs.declared.entity_uid.EntityUid.{EntityUid}
 use Rattle.values.specs.Names.{uid_cmp, uid_cmp-IsAntisymmetric}
-use Rattle.ancestor_search.specs.Hierarchy.{Parents, Above, AreOnCycles, IsAscending, names}
+use Rattle.ancestor_search.specs.Hierarchy.{Parents, IsAncestor, AreOnCycles, IsAscending, names}
 use Rattle.ancestor_search.specs.Decided.{HaveAllParents, is_same}
 use Rattle.ancestor_search.specs.Deciding.{same_uid, same_self, Contains-here, Contains-there}
 use Rattle.ancestor_search.specs.Deciding.{Contains-cases, Contains-none}
@@ -104,7 +104,7 @@ lists_more p us anc anc' x list h is wrote b = at (is_same x b) refl (wrote b)
       )
     ]
 
-nothing_above : (p : Parents) (us : List EntityUid) → HaveAllParents p us → (b : EntityUid) → (Contains us b → ⊥) → (a : EntityUid) → Above p a b → Contains [] a
+nothing_above : (p : Parents) (us : List EntityUid) → HaveAllParents p us → (b : EntityUid) → (Contains us b → ⊥) → (a : EntityUid) → IsAncestor p a b → Contains [] a
 nothing_above p us all b not a ([], h) = absurd (not (all b a h))
 nothing_above p us all b not a ((c ∷ cs), h) = absurd (not (all b c h.0))
 

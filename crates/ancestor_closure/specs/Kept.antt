@@ -2,15 +2,15 @@
 use Rattle.values.specs.declared.entity_uid.EntityUid.{EntityUid}
 use Rattle.ancestor_search.specs.Hierarchy.{Parents}
 use Rattle.ancestor_closure.specs.Lists.{IsKeptOf, AgreeBut, ancestors_in, children_in}
-use Rattle.ancestor_closure.specs.declared.keeping.KeptAncestors.{KeptAncestors}
+use Rattle.ancestor_closure.specs.declared.keeping.AncestorCache.{AncestorCache}
 
 -- what is kept is of this hierarchy
-abbrev pub AreKept : Parents → KeptAncestors → Type 0
-AreKept parents kept =
+abbrev pub IsCacheOf : Parents → AncestorCache → Type 0
+IsCacheOf parents kept =
     IsKeptOf parents (ancestors_in kept.relatives) (children_in kept.relatives) kept.cyclic.keys
 
 -- what is kept is of the hierarchy as it was before the parents of one entity changed
-pub record AreKeptBut (uid : EntityUid) (after : Parents) (held : KeptAncestors) : Type 0 where
+pub record IsStaleAt (uid : EntityUid) (after : Parents) (held : AncestorCache) : Type 0 where
   pub before : Parents
-  pub kept : AreKept before held
+  pub kept : IsCacheOf before held
   pub others : AgreeBut uid before after

@@ -11,7 +11,7 @@ use crate::changing::{make_room, parents_by};
 use crate::children::add_to_all;
 use crate::lists::{list_within, shared_all};
 use crate::relatives::{Relatives, shared, write_list};
-use crate::room::Room;
+use crate::room::CacheBudget;
 use ancestor_search::ParentsOf;
 use plain::{NoMemory, Shared};
 use std::alloc::Global;
@@ -78,7 +78,7 @@ fn write_lists<G: ParentsOf>(
     graph: &G,
     relatives: &mut BTreeMap<EntityUid, Relatives>,
     uids: &[&EntityUid],
-    room: &mut Room,
+    room: &mut CacheBudget,
 ) -> Result<(), NoMemory>
     requires lists { (q : PlainUid) → ancestors_in relatives.old q ≡ [] }
     requires there { (q : PlainUid) → Contains (names uids.now) q → IsThere relatives.old q }
@@ -97,7 +97,7 @@ pub(crate) fn relatives_among<G: ParentsOf>(
     alloc: Global,
     graph: &G,
     uids: &[&EntityUid],
-    room: &mut Room,
+    room: &mut CacheBudget,
 ) -> Result<BTreeMap<EntityUid, Relatives>, NoMemory>
     ensures lists { IfOk result (λ m. AreListsOf (G.parents graph.now) (names uids.now) (ancestors_in m)) }
     ensures children { IfOk result (λ m. AreChildrenAmong (names uids.now) (G.parents graph.now) (children_in m)) }

@@ -17,7 +17,7 @@ use crate::children::{add_to_all, entity_and_below, take_from_all};
 use crate::cycles::{enter_all, leave_all};
 use crate::lists::{are_among, are_in, lists_of, shared_all, write_all};
 use crate::relatives::{Relatives, ancestors_at, is_child, release, release_all, reserve, shared};
-use crate::room::Room;
+use crate::room::CacheBudget;
 use ancestor_search::{ParentsOf, listed};
 use plain::{NoMemory, Shared};
 use std::alloc::Global;
@@ -154,7 +154,7 @@ fn planned<G: ParentsOf>(
     relatives: &BTreeMap<EntityUid, Relatives>,
     uid: &EntityUid,
     parents: &[&EntityUid],
-    room: &mut Room,
+    room: &mut CacheBudget,
 ) -> Result<Change, NoMemory>
     requires all { (x : PlainUid) → Contains (names parents.now) x ↔ Contains (G.parents graph.now uid.now) x }
     requires ascending { IsAscending (names parents.now) }
@@ -248,7 +248,7 @@ fn make<G: ParentsOf>(
     cyclic: &mut BTreeSet<Shared<EntityUid>>,
     uid: &EntityUid,
     parents: &[&EntityUid],
-    room: &mut Room,
+    room: &mut CacheBudget,
 ) -> Result<usize, NoMemory>
     requires all { (x : PlainUid) → Contains (names parents.now) x ↔ Contains (G.parents graph.now uid.now) x }
     requires ascending { IsAscending (names parents.now) }
@@ -284,7 +284,7 @@ fn make_with_room<G: ParentsOf>(
     cyclic: &mut BTreeSet<Shared<EntityUid>>,
     uid: &EntityUid,
     parents: &[&EntityUid],
-    room: &mut Room,
+    room: &mut CacheBudget,
 ) -> Result<usize, NoMemory>
     requires all { (x : PlainUid) → Contains (names parents.now) x ↔ Contains (G.parents graph.now uid.now) x }
     requires ascending { IsAscending (names parents.now) }
@@ -343,7 +343,7 @@ pub fn follow<G: ParentsOf>(
     relatives: &mut BTreeMap<EntityUid, Relatives>,
     cyclic: &mut BTreeSet<Shared<EntityUid>>,
     uid: &EntityUid,
-    room: &mut Room,
+    room: &mut CacheBudget,
 ) -> Result<usize, NoMemory>
     requires { IsKeptBut uid.now (G.parents graph.now)
         (ancestors_in relatives.old) (children_in relatives.old) cyclic.old.keys }

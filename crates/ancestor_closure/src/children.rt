@@ -2,7 +2,7 @@
 ghost use Rattle.std.specs.Prelude.{◌≡◌, ◌↔◌, ◌⊎◌, ◌^◌, ◌<◌, [], ◌∷◌, Contains, IfOk, OnOk};
 ghost use Rattle.std.specs.BTreeSet.{btree_set_len};
 ghost use Rattle.values.specs.declared.entity_uid.EntityUid.{EntityUid as PlainUid};
-ghost use Rattle.ancestor_search.specs.Hierarchy.{Above, IsAllAbove, IsAscending, names};
+ghost use Rattle.ancestor_search.specs.Hierarchy.{IsAncestor, IsAllAbove, IsAscending, names};
 ghost use Rattle.ancestor_search.specs.Search.{Adds};
 ghost use Rattle.ancestor_closure.specs.Lists.{children_in, SameLists, IsThere, StayThere, AddsChild};
 ghost use Rattle.ancestor_closure.specs.inner.OneChange.{TakesChild};
@@ -80,7 +80,7 @@ pub(crate) fn entity_and_below<'a>(
     uid: &'a EntityUid,
 ) -> Result<Vec<Shared<EntityUid>>, NoMemory>
     ensures { IfOk result (λ found. (q : PlainUid) →
-        Contains found.items q ↔ ((uid.now ≡ q) ⊎ Above (children_in relatives.now) q uid.now)) }
+        Contains found.items q ↔ ((uid.now ≡ q) ⊎ IsAncestor (children_in relatives.now) q uid.now)) }
 {
     let mut found = below(alloc, relatives, uid)?;
     found.insert(uid)?;

@@ -2,14 +2,15 @@
 ghost use Rattle.std.specs.Prelude.{◌≡◌, ◌↔◌, [], IsTrue, IsOk, IfOk, OnOk, OnErr, IsSome, MatchOption};
 ghost use Rattle.std.specs.BTreeMap.{get};
 ghost use Rattle.values.specs.Names.{uid_cmp};
-ghost use Rattle.ancestor_search.specs.Hierarchy.{Above, AreOnCycles, IsAscending, names, no_parents, with_parents};
+ghost use Rattle.ancestor_search.specs.Hierarchy.{IsAncestor, AreOnCycles, IsAscending, names};
+ghost use Rattle.ancestor_search.specs.Hierarchy.{no_parents, with_parents};
 ghost use Rattle.ancestor_search.specs.LeastCycle.{HasNoCycle, IsLeastCycle};
 ghost use Rattle.ancestor_search.specs.Search.{parents_of};
-ghost use Rattle.ancestor_closure.specs.Kept.{AreKept};
+ghost use Rattle.ancestor_closure.specs.Kept.{IsCacheOf};
 ghost use Rattle.ancestor_closure.specs.ClosedMeaning.{closed_parents, closed_above, closed_is_decided};
 
-use crate::keeping::KeptAncestors;
-use crate::room::Room;
+use crate::keeping::AncestorCache;
+use crate::room::CacheBudget;
 use ancestor_search::{Ancestry, Changed, Hierarchy, ParentsOf};
 use plain::NoMemory;
 use std::alloc::Global;
@@ -21,12 +22,12 @@ use values::EntityUid;
 ///
 /// It is meant for changes one by one: each change writes anew the lists of all below its entity, so that to fill it
 /// from the top downwards costs one search for each entity, and from the bottom upwards one for each descendant of
-/// each. A whole graph is closed at once by [`KeptAncestors::of_graph`].
+/// each. A whole graph is closed at once by [`AncestorCache::of_graph`].
 #[derive(Drop)]
 pub struct Closed {
     alloc: Global,
     edges: BTreeMap<EntityUid, Vec<EntityUid>>,
-    kept: KeptAncestors,
+    kept: AncestorCache,
 }
 
 impl Model for Closed {
@@ -34,13 +35,13 @@ impl Model for Closed {
     ghost use Rattle.values.specs.declared.entity_uid.EntityUid.{EntityUid};
     ghost use Rattle.ancestor_search.specs.Search.{parents_of};
     ghost use Rattle.ancestor_closure.specs.ClosedMeaning.{closed_entries};
-    ghost use Rattle.ancestor_closure.specs.Kept.{AreKept};
+    ghost use Rattle.ancestor_closure.specs.Kept.{IsCacheOf};
 
     ghost Value = { List (EntityUid × List EntityUid) };
 
     ghost view = { λ c. closed_entries c.edges.entries };
 
-    ghost invariant = { λ c. AreKept (parents_of c.edges) c.kept };
+    ghost invariant = { λ c. IsCacheOf (parents_of c.edges) c.kept };
 }
 
 // Makes room for the parents of an entity.
@@ -95,20 +96,20 @@ fn write_edges(
 // Has what is kept follow a change that the edges do not have yet.
 fn follow_change(
     edges: &BTreeMap<EntityUid, Vec<EntityUid>>,
-    kept: &mut KeptAncestors,
+    kept: &mut AncestorCache,
     uid: &EntityUid,
     parents: &[EntityUid],
 ) -> Result<(), NoMemory>
-    requires { AreKept (parents_of edges.now) kept.old }
-    ensures ok { OnOk result (AreKept (with_parents (parents_of edges.now) uid.now parents.now) kept.new) }
-    ensures err { OnErr result (AreKept (parents_of edges.now) kept.new) }
+    requires { IsCacheOf (parents_of edges.now) kept.old }
+    ensures ok { OnOk result (IsCacheOf (with_parents (parents_of edges.now) uid.now parents.now) kept.new) }
+    ensures err { OnErr result (IsCacheOf (parents_of edges.now) kept.new) }
 {
     let changed = Changed {
         graph: edges,
         uid,
         parents,
     };
-    let mut room = Room::new(usize::MAX);
+    let mut room = CacheBudget::new(usize::MAX);
     kept.follow(&changed, uid, &mut room)
 }
 
@@ -116,12 +117,12 @@ fn follow_change(
 fn set(
     alloc: Global,
     edges: &mut BTreeMap<EntityUid, Vec<EntityUid>>,
-    kept: &mut KeptAncestors,
+    kept: &mut AncestorCache,
     uid: &EntityUid,
     parents: Vec<EntityUid>,
 ) -> Result<(), NoMemory>
-    requires { AreKept (parents_of edges.old) kept.old }
-    ensures kept { AreKept (parents_of edges.new) kept.new }
+    requires { IsCacheOf (parents_of edges.old) kept.old }
+    ensures kept { IsCacheOf (parents_of edges.new) kept.new }
     ensures ok { OnOk result (parents_of edges.new ≡ with_parents (parents_of edges.old) uid.now parents.items) }
     ensures err { OnErr result (parents_of edges.new ≡ parents_of edges.old) }
 {
@@ -142,11 +143,11 @@ fn set(
 // Takes an entity away.
 fn unset(
     edges: &mut BTreeMap<EntityUid, Vec<EntityUid>>,
-    kept: &mut KeptAncestors,
+    kept: &mut AncestorCache,
     uid: &EntityUid,
 ) -> Result<(), NoMemory>
-    requires { AreKept (parents_of edges.old) kept.old }
-    ensures kept { AreKept (parents_of edges.new) kept.new }
+    requires { IsCacheOf (parents_of edges.old) kept.old }
+    ensures kept { IsCacheOf (parents_of edges.new) kept.new }
     ensures ok { OnOk result (parents_of edges.new ≡ with_parents (parents_of edges.old) uid.now []) }
     ensures err { OnErr result (parents_of edges.new ≡ parents_of edges.old) }
 {
@@ -163,7 +164,7 @@ impl Closed {
         Closed {
             alloc,
             edges: BTreeMap::new(alloc),
-            kept: KeptAncestors::new(alloc),
+            kept: AncestorCache::new(alloc),
         }
     }
 
@@ -184,7 +185,7 @@ impl Ancestry for Closed {
 
     fn is_ancestor(&self, a: &EntityUid, b: &EntityUid) -> Result<bool, NoMemory>
         ensures always { IsOk result }
-        ensures exact { IfOk result (λ yes. IsTrue yes ↔ Above (closed_parents self.now) a.now b.now) }
+        ensures exact { IfOk result (λ yes. IsTrue yes ↔ IsAncestor (closed_parents self.now) a.now b.now) }
     {
         Ok(self.kept.has_ancestor(a, b))
     }
@@ -222,7 +223,7 @@ impl Hierarchy for Closed {
     fn would_cycle(&self, uid: &EntityUid, parents: &[EntityUid]) -> Result<bool, NoMemory>
         ensures always { IsOk result }
         ensures exact { let changed = with_parents (closed_parents self.now) uid.now parents.now in
-            IfOk result (λ yes. IsTrue yes ↔ Above changed uid.now uid.now) }
+            IfOk result (λ yes. IsTrue yes ↔ IsAncestor changed uid.now uid.now) }
     {
         Ok(self.kept.would_cycle(uid, parents))
     }

@@ -1,18 +1,18 @@
 //! Ancestors kept at hand for whoever keeps the edges.
 ghost use Rattle.std.specs.Prelude.{◌≡◌, ◌↔◌, ◌⊎◌, IsTrue, IsOk, IfOk, OnOk, OnErr, MatchOption};
-ghost use Rattle.ancestor_search.specs.Hierarchy.{Parents, Above, IsAllAbove, IsAscending, AreOnCycles, names};
+ghost use Rattle.ancestor_search.specs.Hierarchy.{Parents, IsAncestor, IsAllAbove, IsAscending, AreOnCycles, names};
 ghost use Rattle.ancestor_search.specs.Hierarchy.{no_parents, with_parents};
 ghost use Rattle.ancestor_search.specs.LeastCycle.{HasNoCycle, IsLeastCycle};
 ghost use Rattle.values.specs.declared.entity_uid.EntityUid.{EntityUid as PlainUid};
 ghost use Rattle.ancestor_closure.specs.Lists.{IsListOf, ancestors_in};
-ghost use Rattle.ancestor_closure.specs.Kept.{AreKept, AreKeptBut};
+ghost use Rattle.ancestor_closure.specs.Kept.{IsCacheOf, IsStaleAt};
 
 use crate::anew::{relatives_among, set_of};
 use crate::changing::follow;
 use crate::cycles::{are_none, members};
 use crate::lists::{is_in, lent};
 use crate::relatives::{Relatives, ancestors_at};
-use crate::room::Room;
+use crate::room::CacheBudget;
 use ancestor_search::{Graph, ParentsOf, least_cycle_among, on_cycles};
 use plain::{NoMemory, Shared};
 use std::alloc::Global;
@@ -22,10 +22,10 @@ use values::EntityUid;
 /// The ancestors of each entity of a hierarchy, its children, and who is on a cycle.
 ///
 /// The edges are the owner's: they are lent where a change is followed. What is kept is right for a hierarchy where
-/// `AreKept` says so, and each answer is then of that hierarchy. A kept ancestor takes 8 bytes, or up to 16 while its
+/// `IsCacheOf` says so, and each answer is then of that hierarchy. A kept ancestor takes 8 bytes, or up to 16 while its
 /// list has room to grow; its uid stands twice, however many lists it is in.
 #[derive(Drop)]
-pub struct KeptAncestors {
+pub struct AncestorCache {
     alloc: Global,
     relatives: BTreeMap<EntityUid, Relatives>,
     cyclic: BTreeSet<Shared<EntityUid>>,
@@ -35,7 +35,7 @@ pub struct KeptAncestors {
 // Whether a parent is the entity, or has it as an ancestor.
 fn leads_to(relatives: &BTreeMap<EntityUid, Relatives>, uid: &EntityUid, parent: &EntityUid) -> bool
     ensures { (before : Parents) → ((b : PlainUid) → IsListOf before b (ancestors_in relatives.now b)) →
-        (IsTrue result ↔ ((parent.now ≡ uid.now) ⊎ Above before uid.now parent.now)) }
+        (IsTrue result ↔ ((parent.now ≡ uid.now) ⊎ IsAncestor before uid.now parent.now)) }
 {
     if parent == uid {
         return true;
@@ -50,7 +50,7 @@ fn leads_back(
     parents: &[EntityUid],
 ) -> bool
     ensures { (before : Parents) → ((b : PlainUid) → IsListOf before b (ancestors_in relatives.now b)) →
-        (IsTrue result ↔ Above (with_parents before uid.now parents.now) uid.now uid.now) }
+        (IsTrue result ↔ IsAncestor (with_parents before uid.now parents.now) uid.now uid.now) }
 {
     for parent in parents {
         if leads_to(relatives, uid, parent) {
@@ -60,12 +60,12 @@ fn leads_back(
     false
 }
 
-impl KeptAncestors {
+impl AncestorCache {
     /// Of a hierarchy with no entity.
     pub fn new(alloc: Global) -> Self
-        ensures { AreKept no_parents result }
+        ensures { IsCacheOf no_parents result }
     {
-        KeptAncestors {
+        AncestorCache {
             alloc,
             relatives: BTreeMap::new(alloc),
             cyclic: BTreeSet::new(alloc),
@@ -74,14 +74,18 @@ impl KeptAncestors {
     }
 
     /// Of a whole graph, made anew: one search for each stored entity. Errors: `NoMemory`, also where there is no room.
-    pub fn of_graph<G: Graph>(alloc: Global, graph: &G, room: &mut Room) -> Result<Self, NoMemory>
-        ensures { IfOk result (λ kept. AreKept (G.parents graph.now) kept) }
+    pub fn of_graph<G: Graph>(
+        alloc: Global,
+        graph: &G,
+        room: &mut CacheBudget,
+    ) -> Result<Self, NoMemory>
+        ensures { IfOk result (λ kept. IsCacheOf (G.parents graph.now) kept) }
     {
         let uids = graph.stored_uids(alloc)?;
         let relatives = relatives_among(alloc, graph, &uids, room)?;
         let found = on_cycles(alloc, graph)?;
         let cyclic = set_of(alloc, &relatives, &found)?;
-        Ok(KeptAncestors {
+        Ok(AncestorCache {
             alloc,
             relatives,
             cyclic,
@@ -96,11 +100,11 @@ impl KeptAncestors {
         &mut self,
         graph: &G,
         uid: &EntityUid,
-        room: &mut Room,
+        room: &mut CacheBudget,
     ) -> Result<(), NoMemory>
-        requires { AreKeptBut uid.now (G.parents graph.now) self.old }
-        ensures ok { OnOk result (AreKept (G.parents graph.now) self.new) }
-        ensures err { OnErr result ((before : Parents) → AreKept before self.old → AreKept before self.new) }
+        requires { IsStaleAt uid.now (G.parents graph.now) self.old }
+        ensures ok { OnOk result (IsCacheOf (G.parents graph.now) self.new) }
+        ensures err { OnErr result ((before : Parents) → IsCacheOf before self.old → IsCacheOf before self.new) }
     {
         self.touched = follow(
             self.alloc,
@@ -115,7 +119,7 @@ impl KeptAncestors {
 
     /// Returns whether `a` is above `b`; two look-ups, and no memory.
     pub fn has_ancestor(&self, a: &EntityUid, b: &EntityUid) -> bool
-        ensures { (parents : Parents) → AreKept parents self.now → (IsTrue result ↔ Above parents a.now b.now) }
+        ensures { (parents : Parents) → IsCacheOf parents self.now → (IsTrue result ↔ IsAncestor parents a.now b.now) }
     {
         is_in(ancestors_at(&self.relatives, b), a)
     }
@@ -123,9 +127,9 @@ impl KeptAncestors {
     /// All entities above one, stored or not, ascending.
     pub fn ancestors(&self, uid: &EntityUid) -> Result<Vec<&EntityUid>, NoMemory>
         ensures all { IfOk result (λ found.
-            (parents : Parents) → AreKept parents self.now → IsAllAbove parents uid.now (names found.items)) }
+            (parents : Parents) → IsCacheOf parents self.now → IsAllAbove parents uid.now (names found.items)) }
         ensures ascending { IfOk result (λ found.
-            (parents : Parents) → AreKept parents self.now → IsAscending (names found.items)) }
+            (parents : Parents) → IsCacheOf parents self.now → IsAscending (names found.items)) }
     {
         lent(self.alloc, ancestors_at(&self.relatives, uid))
     }
@@ -133,9 +137,9 @@ impl KeptAncestors {
     /// All entities on cycles, ascending: known, and not looked for. Where there are none, it takes no memory.
     pub fn cyclic(&self) -> Result<Vec<&EntityUid>, NoMemory>
         ensures all { IfOk result (λ found.
-            (parents : Parents) → AreKept parents self.now → AreOnCycles parents (names found.items)) }
+            (parents : Parents) → IsCacheOf parents self.now → AreOnCycles parents (names found.items)) }
         ensures ascending { IfOk result (λ found. IsAscending (names found.items)) }
-        ensures at_once { (parents : Parents) → AreKept parents self.now → HasNoCycle parents → IsOk result }
+        ensures at_once { (parents : Parents) → IsCacheOf parents self.now → HasNoCycle parents → IsOk result }
     {
         if are_none(&self.cyclic) {
             return Ok(Vec::new(self.alloc));
@@ -149,7 +153,7 @@ impl KeptAncestors {
         &'a self,
         graph: &'a G,
     ) -> Result<Option<Vec<&'a EntityUid>>, NoMemory>
-        requires { AreKept (G.parents graph.now) self.now }
+        requires { IsCacheOf (G.parents graph.now) self.now }
         ensures exact { let parents = G.parents graph.now in
             IfOk result (λ o. MatchOption o (HasNoCycle parents) (λ found. IsLeastCycle parents (names found.items))) }
         ensures at_once { HasNoCycle (G.parents graph.now) → IsOk result }
@@ -163,8 +167,8 @@ impl KeptAncestors {
 
     /// Returns whether the entity would be above itself if it had these parents: two look-ups for each, and no memory.
     pub fn would_cycle(&self, uid: &EntityUid, parents: &[EntityUid]) -> bool
-        ensures { (before : Parents) → AreKept before self.now →
-            (IsTrue result ↔ Above (with_parents before uid.now parents.now) uid.now uid.now) }
+        ensures { (before : Parents) → IsCacheOf before self.now →
+            (IsTrue result ↔ IsAncestor (with_parents before uid.now parents.now) uid.now uid.now) }
     {
         leads_back(&self.relatives, uid, parents)
     }

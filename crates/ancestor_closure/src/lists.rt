@@ -8,7 +8,7 @@ ghost use Rattle.ancestor_closure.specs.Lists.{IsListOf, ancestors_in, SameChild
 ghost use Rattle.ancestor_closure.specs.inner.OneChange.{firsts, written};
 
 use crate::relatives::{Relatives, ancestors_at, shared, write_list};
-use crate::room::Room;
+use crate::room::CacheBudget;
 use ancestor_search::{ParentsOf, ancestors_of, is_among};
 use plain::{NoMemory, Shared};
 use std::alloc::Global;
@@ -105,7 +105,7 @@ pub fn list_within<G: ParentsOf>(
     graph: &G,
     relatives: &BTreeMap<EntityUid, Relatives>,
     uid: &EntityUid,
-    room: &mut Room,
+    room: &mut CacheBudget,
 ) -> Result<Vec<Shared<EntityUid>>, NoMemory>
     ensures { IfOk result (λ all. IsListOf (G.parents graph.now) uid.now all.items) }
 {
@@ -120,7 +120,7 @@ fn with_list<G: ParentsOf>(
     graph: &G,
     relatives: &BTreeMap<EntityUid, Relatives>,
     uid: &Shared<EntityUid>,
-    room: &mut Room,
+    room: &mut CacheBudget,
 ) -> Result<(Shared<EntityUid>, Vec<Shared<EntityUid>>), NoMemory>
     ensures { IfOk result (λ e. (e.0 ≡ uid.now) × IsListOf (G.parents graph.now) uid.now e.1.items) }
 {
@@ -135,7 +135,7 @@ pub(crate) fn lists_of<G: ParentsOf>(
     graph: &G,
     relatives: &BTreeMap<EntityUid, Relatives>,
     entities: &[Shared<EntityUid>],
-    room: &mut Room,
+    room: &mut CacheBudget,
 ) -> Result<Vec<(Shared<EntityUid>, Vec<Shared<EntityUid>>)>, NoMemory>
     ensures of { IfOk result (λ lists. firsts lists.items ≡ entities.now) }
     ensures right { IfOk result (λ lists. (q : PlainUid) (list : PlainVec PlainUid PlainGlobal) →

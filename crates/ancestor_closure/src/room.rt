@@ -7,17 +7,17 @@ use plain::NoMemory;
 /// It is a measure: no contract speaks of it, and no answer depends on it. What it refuses is as a refusal of memory.
 /// Whoever keeps lists and is refused a change of them has to let them go, since what was counted up to then stays.
 #[derive(Clone, Copy)]
-pub struct Room {
+pub struct CacheBudget {
     most: usize,
     kept: usize,
     written: usize,
     is_short: bool,
 }
 
-impl Room {
+impl CacheBudget {
     /// Returns the room for so many, where none is kept yet.
-    pub fn new(most: usize) -> Room {
-        Room {
+    pub fn new(most: usize) -> CacheBudget {
+        CacheBudget {
             most,
             kept: 0,
             written: 0,

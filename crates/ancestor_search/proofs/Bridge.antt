@@ -13,7 +13,7 @@ use Rattle.std.proofs.lemmas.Bool.{cases_lt}
 use Rattle.std.proofs.lemmas.List.Elements.{Contains-append_left, Contains-push, Contains-push_cases}
 use Rattle.values.specs.declared.entity_uid.EntityUid.{EntityUid}
 use Rattle.values.specs.Names.{uid_cmp, uid_cmp-IsTotalOrder, uid_cmp-IsAntisymmetric}
-use Rattle.ancestor_search.specs.Hierarchy.{Parents, Path, Above, IsAscending, names, AreOnCycles}
+use Rattle.ancestor_search.specs.Hierarchy.{Parents, Path, IsAncestor, IsAscending, names, AreOnCycles}
 use Rattle.ancestor_search.specs.Decided.{HaveAllParents}
 use Rattle.ancestor_search.specs.inner.Walking.{Way, LeadsTo, edges_of, MarksCycles}
 use Rattle.ancestor_search.specs.inner.Numbering.{IsNumber, NumbersAmong, AreNumbered, MarkedBefore}
@@ -115,7 +115,7 @@ module _ (p : Parents) (us : List EntityUid) (es : List (Vec ℕ Global)) (a : A
       let (cs, rest) = way all ds k j d y (lt, e) js h.1 in
       (k ∷ cs, ((a i x is.0 is k).1 (d, h.0, (lt, e)), rest))
 
-  pub on_cycle_iff : HaveAllParents p us → (i : ℕ) (x : EntityUid) → IsNumber us i x → LeadsTo (edges_of es) i i ↔ Above p x x
+  pub on_cycle_iff : HaveAllParents p us → (i : ℕ) (x : EntityUid) → IsNumber us i x → LeadsTo (edges_of es) i i ↔ IsAncestor p x x
   on_cycle_iff all i x is = (
     λ h. let (ds, y, num, found) = path h.0 i i x is h.1 in
         let same : y ≡ x = sym num.1 ∙ ap (λ z. z) (get_same us i y x num.0) ∙ is.1 in

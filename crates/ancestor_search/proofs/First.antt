@@ -9,7 +9,7 @@ use Rattle.std.specs.Cmp.{tied_itself}
 use Rattle.std.proofs.lemmas.List.Elements.{All-from_recursion, All-contains}
 use Rattle.values.specs.Names.{uid_cmp, uid_cmp-IsTotalOrder}
 use Rattle.values.specs.declared.entity_uid.EntityUid.{EntityUid}
-use Rattle.ancestor_search.specs.Hierarchy.{Parents, Above, IsAscending, names}
+use Rattle.ancestor_search.specs.Hierarchy.{Parents, IsAncestor, IsAscending, names}
 use Rattle.ancestor_search.specs.inner.Backwards.{IsWalkBack}
 use Rattle.ancestor_search.specs.LeastCycle.{IsLeastCycle, IsLeastCycleFrom}
 use Rattle.ancestor_search.specs.Deciding.{Contains-here, Contains-cases}
@@ -32,7 +32,7 @@ first_least (y ∷ ys) s e sorted x h =
       | inr t ↦ ap is_gt (All-contains (λ z. uid_cmp y.now z ≡ Less) (names ys) x (All-from_recursion (λ z. uid_cmp y.now z ≡ Less) (names ys) sorted.0) t)
     ])
 
-pub cycle_from_walk : (p : Parents) (s : EntityUid) (zs : List EntityUid) → IsWalkBack p s zs → ((x : EntityUid) → Above p x x → is_gt (uid_cmp s x) ≡ false) → IsLeastCycle p zs
+pub cycle_from_walk : (p : Parents) (s : EntityUid) (zs : List EntityUid) → IsWalkBack p s zs → ((x : EntityUid) → IsAncestor p x x → is_gt (uid_cmp s x) ≡ false) → IsLeastCycle p zs
 cycle_from_walk p s [] w first = w
 cycle_from_walk p s (y ∷ ys) w first = subst (λ z. IsLeastCycleFrom p z ys) (sym w.0) (record {
   closed = w.1.path;

@@ -6,7 +6,7 @@ use Rattle.std.specs.Cmp.{tied_itself}
 use Rattle.std.proofs.lemmas.Bool.{cases_lt}
 use Rattle.values.specs.Names.{uid_cmp, uid_cmp-IsTotalOrder}
 use Rattle.values.specs.declared.entity_uid.EntityUid.{EntityUid}
-use Rattle.ancestor_search.specs.Hierarchy.{Parents, Path, Above}
+use Rattle.ancestor_search.specs.Hierarchy.{Parents, Path, IsAncestor}
 use Rattle.ancestor_search.specs.inner.Backwards.{AreDistances, AreKnownUpTo, ReachesBack, AreChildren, Reaches, is_one_of, is_child_of}
 use Rattle.ancestor_search.specs.Deciding.{Contains-there, Contains-cases, Contains-none}
 use Rattle.ancestor_search.specs.Deciding.{same_uid, same_self, any_at, any_from}
@@ -84,7 +84,7 @@ module _ (p : Parents) (end : EntityUid) (dist : EntityUid → Option ℕ) where
   closed none x [] h = elim (known_or_not (dist x)) [ inl k ↦ rw k.1 refl | inr e ↦ absurd (none x (e, (end, h, inl refl))) ]
   closed none x (c ∷ cs) h = let there = closed none c cs h.1 in elim (known_or_not (dist x)) [ inl k ↦ rw k.1 refl | inr e ↦ absurd (none x (e, (c, h.0, inr there))) ]
 
-  pub not_on_cycle : (next : List EntityUid) → ((x : EntityUid) → Contains next x ↔ IsNext p end dist x) → next ≡ [] → dist end ≡ None → Above p end end → ⊥
+  pub not_on_cycle : (next : List EntityUid) → ((x : EntityUid) → Contains next x ↔ IsNext p end dist x) → next ≡ [] → dist end ≡ None → IsAncestor p end end → ⊥
   not_on_cycle next is empty e above =
       let there = closed (λ x h. Contains-none x (subst (λ xs. Contains xs x) empty ((is x).1 h))) end above.0 above.1 in
       some_not_none (dist end) there e

@@ -5,7 +5,7 @@ use Rattle.std.specs.BTreeSet.{insert_key}
 use Rattle.std.proofs.lemmas.List.Elements.{Contains-append_left, Contains-push, Contains-push_cases}
 use Rattle.values.specs.declared.entity_uid.EntityUid.{EntityUid}
 use Rattle.values.specs.Names.{uid_cmp, uid_cmp-IsAntisymmetric}
-use Rattle.ancestor_search.specs.Hierarchy.{Parents, Path, Above, IsAllAbove}
+use Rattle.ancestor_search.specs.Hierarchy.{Parents, Path, IsAncestor, IsAllAbove}
 use Rattle.ancestor_search.specs.Search.{Adds}
 use Rattle.ancestor_search.proofs.Members.{insert_key-kept, insert_key-from, insert_key-here}
 use Rattle.ancestor_search.specs.Deciding.{Contains-none}
@@ -49,12 +49,12 @@ pub Path-more : (parents : Parents) (b : EntityUid) (cs : List EntityUid) (u x :
 Path-more parents b [] u x h e = (h, e)
 Path-more parents b (c ∷ cs) u x h e = (h.0, Path-more parents c cs u x h.1 e)
 
-pub Above-more : (parents : Parents) (b u x : EntityUid) → Above parents u b → Contains (parents u) x → Above parents x b
-Above-more parents b u x h e = (h.0 ++ u ∷ [], Path-more parents b h.0 u x h.1 e)
+pub IsAncestor-more : (parents : Parents) (b u x : EntityUid) → IsAncestor parents u b → Contains (parents u) x → IsAncestor parents x b
+IsAncestor-more parents b u x h e = (h.0 ++ u ∷ [], Path-more parents b h.0 u x h.1 e)
 
 -- where the search stands: what is seen lies above b, and all parents of what is seen and not in the work are seen
 pub record Searching (parents : Parents) (b : EntityUid) (seen work : List EntityUid) : Type 0 where
-  pub sound : (x : EntityUid) → Contains seen x → Above parents x b
+  pub sound : (x : EntityUid) → Contains seen x → IsAncestor parents x b
   pub begun : (x : EntityUid) → Contains (parents b) x → Contains seen x
   pub closed : (x : EntityUid) → Contains seen x → Contains work x ⊎ ((y : EntityUid) → Contains (parents x) y → Contains seen y)
   pub work_seen : (x : EntityUid) → Contains work x → Contains seen x
@@ -74,7 +74,7 @@ module _ (parents : Parents) (b : EntityUid) where
   Searching-step seen work rest seen' work' u s e a small =
       let here : Contains work u = rw e (Contains-push rest u) in
       record {
-        sound = λ x h. elim (a.from x h) [ inl t ↦ s.sound x t | inr t ↦ Above-more parents b u x (s.sound u (s.work_seen u here)) t ];
+        sound = λ x h. elim (a.from x h) [ inl t ↦ s.sound x t | inr t ↦ IsAncestor-more parents b u x (s.sound u (s.work_seen u here)) t ];
         begun = λ x h. a.kept x (s.begun x h);
         closed = λ x h. elim (a.fresh x h) [
           | inl t ↦ elim (s.closed x t) [
@@ -109,5 +109,5 @@ module _ (parents : Parents) (b : EntityUid) where
       complete (c ∷ cs) h = reached seen closed c (s.begun c h.0) cs a h.1
 
   -- what a path found so far leads to by one more edge
-  pub Searching-hit : (seen work rest : List EntityUid) (u a : EntityUid) → Searching parents b seen work → work ≡ rest ++ u ∷ [] → Contains (parents u) a → Above parents a b
-  Searching-hit seen work rest u a s e edge = Above-more parents b u a (s.sound u (s.work_seen u (rw e (Contains-push rest u)))) edge
+  pub Searching-hit : (seen work rest : List EntityUid) (u a : EntityUid) → Searching parents b seen work → work ≡ rest ++ u ∷ [] → Contains (parents u) a → IsAncestor parents a b
+  Searching-hit seen work rest u a s e edge = IsAncestor-more parents b u a (s.sound u (s.work_seen u (rw e (Contains-push rest u)))) edge

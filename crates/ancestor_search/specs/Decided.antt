@@ -4,11 +4,11 @@ use Rattle.std.specs.List.{list_any}
 use Rattle.std.specs.Ordering.{is_eq}
 use Rattle.values.specs.declared.entity_uid.EntityUid.{EntityUid}
 use Rattle.values.specs.Names.{uid_cmp}
-use Rattle.ancestor_search.specs.Hierarchy.{Parents, Above}
+use Rattle.ancestor_search.specs.Hierarchy.{Parents, IsAncestor}
 
 -- a test decides who is above whom
 abbrev pub Decides : Parents → (EntityUid → EntityUid → Bool) → Type 0
-Decides parents above = (a b : EntityUid) → IsTrue (above a b) ↔ Above parents a b
+Decides parents above = (a b : EntityUid) → IsTrue (above a b) ↔ IsAncestor parents a b
 
 -- all entities that have a parent are among these
 abbrev pub HaveAllParents : Parents → List EntityUid → Type 0

@@ -11,7 +11,7 @@ use Rattle.std.proofs.lemmas.Map.Views.{tells_apart, btree_map_contains_key_iff}
 pub use Rattle.plain.proofs.Members.{Contains-here, Contains-there, Contains-cases, Contains-none}
 use Rattle.values.specs.declared.entity_uid.EntityUid.{EntityUid}
 use Rattle.values.specs.Names.{uid_cmp, uid_cmp-IsTotalOrder, uid_cmp-IsAntisymmetric}
-use Rattle.ancestor_search.specs.Hierarchy.{Parents, Path, Above}
+use Rattle.ancestor_search.specs.Hierarchy.{Parents, Path, IsAncestor}
 use Rattle.ancestor_search.specs.Search.{parents_of, items_or_none}
 use Rattle.ancestor_search.specs.Decided.{Decides, HaveAllParents, is_same, reaches, PathsAreDecided}
 
@@ -73,15 +73,15 @@ any_at test (y ∷ ys) h = elim (or_cases (test y) _ h) [
 module _ (parents : Parents) where
   -- paths follow one another
   joined : (b : EntityUid) (cs : List EntityUid) (u a : EntityUid) →
-      Path parents b cs u → Above parents a u → Above parents a b
+      Path parents b cs u → IsAncestor parents a u → IsAncestor parents a b
   joined b [] u a h above = (u ∷ above.0, (h, above.1))
   joined b (c ∷ cs) u a h above = let rest = joined c cs u a h.1 above in (c ∷ rest.0, (h.0, rest.1))
 
-  pub Above-joined : (b u a : EntityUid) → Above parents u b → Above parents a u → Above parents a b
-  Above-joined b u a h above = joined b h.0 u a h.1 above
+  pub IsAncestor-joined : (b u a : EntityUid) → IsAncestor parents u b → IsAncestor parents a u → IsAncestor parents a b
+  IsAncestor-joined b u a h above = joined b h.0 u a h.1 above
 
   -- what the test finds is a path
-  found : (us : List EntityUid) (a b : EntityUid) → IsTrue (reaches parents us a b) → Above parents a b
+  found : (us : List EntityUid) (a b : EntityUid) → IsTrue (reaches parents us a b) → IsAncestor parents a b
   unfolding reaches
   found [] a b h = cc h
   found (u ∷ us) a b h = elim (or_cases (reaches parents us a b) _ h) [
@@ -89,13 +89,13 @@ module _ (parents : Parents) where
     | inr t ↦
         let parts = and_parts _ _ t in
         let (p, edge, goes) = any_at _ (parents u) parts.1 in
-        let on : Above parents a u = elim (or_cases (is_same p a) _ goes) [
+        let on : IsAncestor parents a u = elim (or_cases (is_same p a) _ goes) [
           | inl same ↦ ([], subst (λ z. Contains (parents u) z) (same_uid p a same) edge)
           | inr more ↦ let above = found us a p more in (p ∷ above.0, (edge, above.1))
         ] in
         elim (or_cases (is_same u b) _ parts.0) [
-          | inl same ↦ subst (λ z. Above parents a z) (same_uid u b same) on
-          | inr before ↦ Above-joined b u a (found us u b before) on
+          | inl same ↦ subst (λ z. IsAncestor parents a z) (same_uid u b same) on
+          | inr before ↦ IsAncestor-joined b u a (found us u b before) on
         ]
   ]
 

@@ -1,7 +1,7 @@
 //! What can be asked of a hierarchy of entities, and how it is changed.
 ghost use Rattle.std.specs.Prelude.{◌≡◌, ◌↔◌, [], Bool, IsTrue, IfOk, OnOk, OnErr, MatchOption};
 ghost use Rattle.values.specs.declared.entity_uid.EntityUid.{EntityUid};
-ghost use Rattle.ancestor_search.specs.Hierarchy.{Parents, Above, IsAllAbove, IsAscending, AreOnCycles, names};
+ghost use Rattle.ancestor_search.specs.Hierarchy.{Parents, IsAncestor, IsAllAbove, IsAscending, AreOnCycles, names};
 ghost use Rattle.ancestor_search.specs.Hierarchy.{with_parents};
 ghost use Rattle.ancestor_search.specs.Decided.{Decides};
 ghost use Rattle.ancestor_search.specs.LeastCycle.{HasNoCycle, IsLeastCycle};
@@ -20,7 +20,7 @@ pub trait Ancestry {
 
     /// Returns whether `a` is above `b`. An entity is above itself exactly where it is on a cycle.
     fn is_ancestor(&self, a: &EntityUid, b: &EntityUid) -> Result<bool, NoMemory>
-        ensures { IfOk result (λ yes. IsTrue yes ↔ Above (parents self.now) a.now b.now) };
+        ensures { IfOk result (λ yes. IsTrue yes ↔ IsAncestor (parents self.now) a.now b.now) };
 
     /// All entities above one, stored or not, ascending.
     fn ancestors(&self, uid: &EntityUid) -> Result<Vec<&EntityUid>, NoMemory>
@@ -58,5 +58,5 @@ pub trait Hierarchy: Ancestry {
     /// Returns whether the entity would be above itself if it had these parents.
     fn would_cycle(&self, uid: &EntityUid, parents: &[EntityUid]) -> Result<bool, NoMemory>
         ensures { let changed = with_parents (Self.parents self.now) uid.now parents.now in
-            IfOk result (λ yes. IsTrue yes ↔ Above changed uid.now uid.now) };
+            IfOk result (λ yes. IsTrue yes ↔ IsAncestor changed uid.now uid.now) };
 }

@@ -16,5 +16,5 @@ pub use hierarchy::{Ancestry, Hierarchy};
 pub use lists::{is_among, listed};
 pub use named_cycle::{least_cycle, least_cycle_among};
 pub use numbers::on_cycles;
-pub use search::{ancestors_of, is_above, would_cycle};
+pub use search::{ancestors_of, is_ancestor, would_cycle};
 pub use searched::Searched;

@@ -10,7 +10,7 @@ ghost use Rattle.std.specs.Option.{option_copied};
 ghost use Rattle.std.specs.Ordering.{is_eq, is_lt};
 ghost use Rattle.values.specs.declared.entity_uid.EntityUid.{EntityUid as PlainUid};
 ghost use Rattle.values.specs.Names.{uid_cmp};
-ghost use Rattle.ancestor_search.specs.Hierarchy.{names, Above, AreOnCycles, IsAscending};
+ghost use Rattle.ancestor_search.specs.Hierarchy.{names, IsAncestor, AreOnCycles, IsAscending};
 ghost use Rattle.ancestor_search.specs.LeastCycle.{HasNoCycle, IsLeastCycle};
 ghost use Rattle.ancestor_search.specs.inner.Backwards.{children_of, AreChildrenAmong, AreChildren, AddsChild};
 ghost use Rattle.ancestor_search.specs.inner.Backwards.{dist_of, AreDistances, AreKnownUpTo, ReachesBack, Reaches};
@@ -161,7 +161,7 @@ fn distances<'a, G: Graph>(
     graph: &'a G,
     end: &'a EntityUid,
 ) -> Result<Option<Distances<'a>>, NoMemory>
-    ensures { IfOk result (λ o. MatchOption o (Above (G.parents graph.now) end.now end.now → ⊥)
+    ensures { IfOk result (λ o. MatchOption o (IsAncestor (G.parents graph.now) end.now end.now → ⊥)
         (λ known. ReachesBack (G.parents graph.now) end.now (dist_of known))) }
 {
     let children = children_in(alloc, graph)?;

@@ -1,7 +1,7 @@
 //! The search for what lies above an entity, in any graph.
 ghost use Rattle.std.specs.Prelude.{◌^◌, ◌<◌, Contains, IsTrue, ◌↔◌, IfOk, OnOk};
 ghost use Rattle.std.specs.BTreeSet.{btree_set_len};
-ghost use Rattle.ancestor_search.specs.Hierarchy.{Above, IsAllAbove, IsAscending, names, with_parents};
+ghost use Rattle.ancestor_search.specs.Hierarchy.{IsAncestor, IsAllAbove, IsAscending, names, with_parents};
 ghost use Rattle.ancestor_search.specs.Search.{Adds};
 
 use crate::graph::{Changed, ParentsOf};
@@ -56,13 +56,13 @@ fn above<'a, G: ParentsOf>(
 
 /// Returns whether `a` lies above `b`. The search ends at the first path found.
 /// `NoMemory` where an allocation was refused.
-pub fn is_above<'a, G: ParentsOf>(
+pub fn is_ancestor<'a, G: ParentsOf>(
     alloc: Global,
     graph: &'a G,
     a: &'a EntityUid,
     b: &EntityUid,
 ) -> Result<bool, NoMemory>
-    ensures { IfOk result (λ yes. IsTrue yes ↔ Above (G.parents graph.now) a.now b.now) }
+    ensures { IfOk result (λ yes. IsTrue yes ↔ IsAncestor (G.parents graph.now) a.now b.now) }
 {
     let parents = graph.parents_of(b);
     if has(parents, a) {
@@ -102,12 +102,12 @@ pub fn would_cycle<G: ParentsOf>(
     parents: &[EntityUid],
 ) -> Result<bool, NoMemory>
     ensures { let changed = with_parents (G.parents graph.now) uid.now parents.now in
-        IfOk result (λ yes. IsTrue yes ↔ Above changed uid.now uid.now) }
+        IfOk result (λ yes. IsTrue yes ↔ IsAncestor changed uid.now uid.now) }
 {
     let changed = Changed {
         graph,
         uid,
         parents,
     };
-    is_above(alloc, &changed, uid, uid)
+    is_ancestor(alloc, &changed, uid, uid)
 }

@@ -10,7 +10,7 @@ use crate::graph::{Edges, Graph, ParentsOf};
 use crate::hierarchy::{Ancestry, Hierarchy};
 use crate::named_cycle::least_cycle;
 use crate::numbers::on_cycles;
-use crate::search::{ancestors_of, is_above, would_cycle};
+use crate::search::{ancestors_of, is_ancestor, would_cycle};
 use plain::NoMemory;
 use std::alloc::Global;
 use std::collections::BTreeMap;
@@ -61,7 +61,7 @@ impl Ancestry for Searched {
     ghost above_is = { searched_is_decided };
 
     fn is_ancestor(&self, a: &EntityUid, b: &EntityUid) -> Result<bool, NoMemory> {
-        is_above(self.alloc, self, a, b)
+        is_ancestor(self.alloc, self, a, b)
     }
 
     fn ancestors(&self, uid: &EntityUid) -> Result<Vec<&EntityUid>, NoMemory> {

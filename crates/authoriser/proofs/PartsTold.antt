@@ -225,11 +225,11 @@ module _ (made : SetsHoldTheirMembers) (W : World) (q : Request) where
         (rule.and_false resource_part policy.condition (told.resource.1 n)))
 
 -- ---- where a test decides who is above whom, it is decided whether a scope is true
-abbrev Known : Type 0 → Type 0
-Known P = P ⊎ (¬ P)
+abbrev IsSettled : Type 0 → Type 0
+IsSettled P = P ⊎ (¬ P)
 
 module _ (made : SetsHoldTheirMembers) (W : World) (above : EntityUid → EntityUid → Bool) (D : Decides W.parents above) where
-  in_known : (a b : EntityUid) → Known (IsIn W.parents a b)
+  in_known : (a b : EntityUid) → IsSettled (IsIn W.parents a b)
   in_known a b = elim (uid_known a b) [
     | inl same ↦ inl (inl same)
     | inr other ↦ elim (cases_Bool (above b a)) [
@@ -238,7 +238,7 @@ module _ (made : SetsHoldTheirMembers) (W : World) (above : EntityUid → Entity
     ]
   ]
 
-  some_known : (a : EntityUid) (us : List EntityUid) → Known ((u : EntityUid) × Contains us u × IsIn W.parents a u)
+  some_known : (a : EntityUid) (us : List EntityUid) → IsSettled ((u : EntityUid) × Contains us u × IsIn W.parents a u)
   some_known a [] = inr (λ h. Contains-none h.0 h.1)
   some_known a (u ∷ us) = elim (in_known a u) [
     | inl holding ↦ inl (u, Contains-here u us, holding)
@@ -251,7 +251,7 @@ module _ (made : SetsHoldTheirMembers) (W : World) (above : EntityUid → Entity
     ]
   ]
 
-  entity_known : (scope : EntityScope) (uid : EntityUid) → Known (IsEntityScopeTrue (IsIn W.parents uid) scope uid)
+  entity_known : (scope : EntityScope) (uid : EntityUid) → IsSettled (IsEntityScopeTrue (IsIn W.parents uid) scope uid)
   entity_known part.Any uid = inl tt
   entity_known (part.Equal of) uid = uid_known uid of
   entity_known (part.In of) uid = in_known uid of
@@ -261,7 +261,7 @@ module _ (made : SetsHoldTheirMembers) (W : World) (above : EntityUid → Entity
     | inr other ↦ inr (λ both. other both.0)
   ]
 
-  action_known : (scope : ActionScope) (uid : EntityUid) → Known (IsActionScopeTrue (IsIn W.parents uid) scope uid)
+  action_known : (scope : ActionScope) (uid : EntityUid) → IsSettled (IsActionScopeTrue (IsIn W.parents uid) scope uid)
   action_known action.Any uid = inl tt
   action_known (action.Equal of) uid = uid_known uid of
   action_known (action.In of) uid = in_known uid of

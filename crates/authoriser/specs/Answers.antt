@@ -7,7 +7,7 @@ use Rattle.std.specs.List.{flat_map}
 use Rattle.values.specs.declared.entity_uid.EntityUid.{EntityUid}
 use Rattle.values.specs.declared.request.Request.{Request}
 use Rattle.values.specs.Values.{boolean}
-use Rattle.evaluator.specs.ancestor_search.Hierarchy.{Parents, Above}
+use Rattle.evaluator.specs.ancestor_search.Hierarchy.{Parents, IsAncestor}
 use Rattle.evaluator.specs.ancestor_search.LeastCycle.{IsLeastCycle}
 use Rattle.scope_index.specs.policy_grammar.declared.policy.Policy.{Policy}
 use Rattle.scope_index.specs.policy_grammar.declared.policy.Effect.{Effect}
@@ -105,7 +105,7 @@ pub record IsCycleDenial (parents : Parents) (a : Answer) : Type 0 where
 
 -- no entity is on a cycle: the answer by what the policies come to
 pub record IsPolicyAnswer (W : World) (q : Request) (ps : List NamedPolicy) (a : Answer) : Type 0 where
-  pub acyclic : (uid : EntityUid) → Above W.parents uid uid → ⊥
+  pub acyclic : (uid : EntityUid) → IsAncestor W.parents uid uid → ⊥
   pub judged : List PolicyOutcome
   pub outcomes : ArePolicyOutcomes W q ps judged
   pub answer : a ≡ answer_by judged

@@ -6,7 +6,7 @@ use Rattle.std.specs.List.Sorted.{IsStrictlySortedBy}
 use Rattle.values.specs.declared.entity_uid.EntityUid.{EntityUid}
 use Rattle.values.specs.declared.request.Request.{Request}
 use Rattle.values.specs.Uids.{text_cmp}
-use Rattle.evaluator.specs.ancestor_search.Hierarchy.{Above}
+use Rattle.evaluator.specs.ancestor_search.Hierarchy.{IsAncestor}
 use Rattle.evaluator.specs.ancestor_search.Decided.{Decides, HaveAllParents}
 use Rattle.scope_index.specs.policy_grammar.declared.policy.Effect.{Effect}
 use Rattle.scope_index.specs.policy_grammar.declared.policy.Effect.TheVariants.{Permit, Forbid}
@@ -69,7 +69,7 @@ pub data AreErrorsOf (W : World) (q : Request) : List NamedPolicy → List Errin
 
 -- no entity is on a cycle
 abbrev pub IsAcyclic : World → Type 0
-IsAcyclic W = (uid : EntityUid) → ¬ Above W.parents uid uid
+IsAcyclic W = (uid : EntityUid) → ¬ IsAncestor W.parents uid uid
 
 -- a satisfied forbid decides; and where no entity is on a cycle, the satisfied forbids are the reason
 abbrev pub ForbidDecides : Type 0

@@ -5,11 +5,11 @@ ghost use Rattle.evaluator.specs.Operators.{world_of};
 ghost use Rattle.authoriser.specs.Answers.{fault_of, PolicyEvaluatesTo};
 ghost use Rattle.authoriser.specs.inner.Views.{ConditionEvaluatesTo};
 
-use crate::known::Known;
+use crate::known::PreparedRequest;
 use crate::laws::scopes_do_not_err;
 use crate::outcome::{Outcome, PolicyError};
 use crate::scopes::is_scope_true;
-use evaluator::{EvalFault, Lookup, Question, evaluate_asked_test};
+use evaluator::{EvalEnv, EvalFault, Lookup, evaluate_condition};
 use grammar_core::Expr;
 use plain::NoMemory;
 use scope_index::Policy;
@@ -30,7 +30,7 @@ fn error_by(fault: EvalFault) -> Result<PolicyError, NoMemory>
 }
 
 /// Returns what a condition comes to.
-fn outcome_of_condition<L: Question>(
+fn outcome_of_condition<L: EvalEnv>(
     alloc: Global,
     condition: &Expr,
     store: &L,
@@ -38,7 +38,7 @@ fn outcome_of_condition<L: Question>(
     ensures { let W = world_of (L.stored store.now) (L.parents store.now) in
         IfOk result (ConditionEvaluatesTo W (L.asked store.now) condition.now) }
 {
-    match evaluate_asked_test(alloc, condition, store) {
+    match evaluate_condition(alloc, condition, store) {
         Ok(true) => Ok(Outcome::Satisfied),
         Ok(false) => Ok(Outcome::NotSatisfied),
         Err(fault) => Ok(Outcome::Errs(error_by(fault)?)),
@@ -50,7 +50,7 @@ fn outcome_of_condition<L: Question>(
 pub(crate) fn outcome_of<L: Lookup>(
     alloc: Global,
     policy: &Policy,
-    known: &Known<'_, L>,
+    known: &PreparedRequest<'_, L>,
 ) -> Result<Outcome, NoMemory>
     ensures { IfOk result
         (PolicyEvaluatesTo (world_of (L.stored known.now.0) (L.parents known.now.0)) known.now.1 policy.now) }

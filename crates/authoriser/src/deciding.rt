@@ -9,7 +9,7 @@ ghost use Rattle.authoriser.specs.Views.{named};
 
 use crate::answer::{Answer, Decision};
 use crate::conditions::outcome_of;
-use crate::known::Known;
+use crate::known::PreparedRequest;
 use crate::tally::Tally;
 use evaluator::{Ancestry, Lookup};
 use plain::{Items, NoMemory};
@@ -34,7 +34,7 @@ fn copy_uids(alloc: Global, uids: &[&EntityUid]) -> Result<Items<EntityUid>, NoM
 fn answer_by_policies<L: Lookup>(
     alloc: Global,
     policies: &[(&str, &Policy)],
-    known: &mut Known<'_, L>,
+    known: &mut PreparedRequest<'_, L>,
 ) -> Result<Answer, NoMemory>
     requires { HasNoCycle (L.parents known.old.0) }
     ensures { IfOk result (λ a. IsAnswer (world_of (L.stored known.old.0) (L.parents known.old.0)) known.old.1
@@ -66,7 +66,7 @@ fn denial_by_cycle(alloc: Global, cycle: &[&EntityUid]) -> Result<Answer, NoMemo
 /// Returns the denial that names the least cycle; None where no entity is on a cycle.
 fn denial_if_cyclic<L: Lookup>(
     alloc: Global,
-    known: &Known<'_, L>,
+    known: &PreparedRequest<'_, L>,
 ) -> Result<Option<Answer>, NoMemory>
     ensures { let parents = L.parents known.now.0 in
         IfOk result (λ o. MatchOption o (HasNoCycle parents) (IsCycleDenial parents)) }
@@ -84,7 +84,7 @@ fn denial_if_cyclic<L: Lookup>(
 pub fn decide_known<L: Lookup>(
     alloc: Global,
     policies: &[(&str, &Policy)],
-    known: &mut Known<'_, L>,
+    known: &mut PreparedRequest<'_, L>,
 ) -> Result<Answer, NoMemory>
     ensures { IfOk result (λ a. IsAnswer (world_of (L.stored known.old.0) (L.parents known.old.0)) known.old.1
         (named policies.now) a) }
@@ -114,6 +114,6 @@ pub fn decide<L: Lookup>(
     ensures { IfOk result (λ a. IsAnswer (world_of (L.stored store.now) (L.parents store.now)) request.now
         (named policies.now) a) }
 {
-    let mut known = Known::of(alloc, store, request, OTHERS_MAX)?;
+    let mut known = PreparedRequest::of(alloc, store, request, OTHERS_MAX)?;
     decide_known(alloc, policies, &mut known)
 }

@@ -2,9 +2,9 @@
 ghost use Rattle.std.specs.Prelude.{◌≡◌, IfOk};
 ghost use Rattle.authoriser.specs.inner.Views.{HasRequestAncestors};
 
-use crate::others::Others;
+use crate::others::AncestorMemo;
 use crate::request_entities::{RequestEntities, request_entities_of};
-use evaluator::{Ancestry, Lookup, Question, is_among};
+use evaluator::{Ancestry, EvalEnv, Lookup, is_among};
 use grammar_core::Variable;
 use plain::NoMemory;
 use std::alloc::Global;
@@ -15,15 +15,15 @@ use values::{EntityUid, Record, Request};
 /// neither searched nor looked up again, and what is asked of a variable not even found by a name. Of some others it is
 /// kept from policy to policy who is above them. Contracts see the stored entities and the request.
 #[derive(Drop)]
-pub struct Known<'a, L: Lookup> {
+pub struct PreparedRequest<'a, L: Lookup> {
     alloc: Global,
     store: &'a L,
     request: &'a Request,
     entities: RequestEntities<'a>,
-    others: Others<'a>,
+    others: AncestorMemo<'a>,
 }
 
-impl<'a, L: Lookup> Model for Known<'a, L> {
+impl<'a, L: Lookup> Model for PreparedRequest<'a, L> {
     ghost use Rattle.values.specs.declared.request.Request.{Request};
     ghost use Rattle.std.specs.Coded.{codes};
     ghost use Rattle.values.specs.ValueCode.{value_code};
@@ -40,7 +40,7 @@ impl<'a, L: Lookup> Model for Known<'a, L> {
         IsKnown (world_of (L.stored k.store.now) (L.parents k.store.now)) k.request.now k.entities k.others };
 }
 
-impl<'a, L: Lookup> Known<'a, L> {
+impl<'a, L: Lookup> PreparedRequest<'a, L> {
     /// Looks up the request's three entities: the ancestors and the attributes of each, once. Of so many others at most
     /// it is kept who is above them, once a condition asked for it: worth while where that is searched. Errors:
     /// `NoMemory` alone.
@@ -53,12 +53,12 @@ impl<'a, L: Lookup> Known<'a, L> {
         ensures { IfOk result (λ k. k ≡ (store.now, request.now)) }
     {
         let entities = request_entities_of(alloc, store, request)?;
-        Ok(Known {
+        Ok(PreparedRequest {
             alloc,
             store,
             request,
             entities,
-            others: Others::new(alloc, most_others),
+            others: AncestorMemo::new(alloc, most_others),
         })
     }
 
@@ -84,7 +84,7 @@ fn copied<'a>(alloc: Global, uids: &[&'a EntityUid]) -> Result<Vec<&'a EntityUid
     uids.iter().copied().collect(alloc)
 }
 
-impl<L: Lookup> Ancestry for Known<'_, L> {
+impl<L: Lookup> Ancestry for PreparedRequest<'_, L> {
     ghost parents = { λ s. L.parents s.0 };
 
     ghost above = { λ s. L.above s.0 };
@@ -120,7 +120,7 @@ impl<L: Lookup> Ancestry for Known<'_, L> {
     }
 }
 
-impl<L: Lookup> Lookup for Known<'_, L> {
+impl<L: Lookup> Lookup for PreparedRequest<'_, L> {
     ghost stored = { λ s. L.stored s.0 };
 
     fn attrs_of(&self, uid: &EntityUid) -> Option<&Record> {
@@ -131,7 +131,7 @@ impl<L: Lookup> Lookup for Known<'_, L> {
     }
 }
 
-impl<L: Lookup> Question for Known<'_, L> {
+impl<L: Lookup> EvalEnv for PreparedRequest<'_, L> {
     ghost asked = { λ s. s.1 };
 
     fn request(&self) -> &Request {

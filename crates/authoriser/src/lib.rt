@@ -20,7 +20,7 @@ mod tally;
 pub use answer::{Answer, Decision, ErringPolicy};
 pub use deciding::{decide, decide_known};
 pub use evaluator::{Lookup, expressions_have_one_outcome, paths_are_decided};
-pub use known::Known;
+pub use known::PreparedRequest;
 pub use laws::{answers_are_lawful, scopes_do_not_err};
 pub use outcome::{Outcome, PolicyError};
 pub use scope_index::{Policy, file_names_differ, texts_have_one_reading};

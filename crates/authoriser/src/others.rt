@@ -18,7 +18,7 @@ pub(crate) struct Other<'a> {
 
 /// Entities that are kept, each with those above it.
 #[derive(Drop)]
-pub(crate) struct Others<'a> {
+pub(crate) struct AncestorMemo<'a> {
     pub(crate) kept: Vec<Other<'a>>,
     /// How many are kept at most.
     most: usize,
@@ -33,12 +33,12 @@ fn look_up<'a, S: Lookup>(store: &'a S, uid: EntityUid) -> Result<Other<'a>, NoM
     Ok(Other { uid, ancestors })
 }
 
-impl<'a> Others<'a> {
+impl<'a> AncestorMemo<'a> {
     /// Of none. At most so many are kept.
-    pub(crate) fn new(alloc: Global, most: usize) -> Others<'a>
+    pub(crate) fn new(alloc: Global, most: usize) -> AncestorMemo<'a>
         ensures { result.kept.items ≡ [] }
     {
-        Others {
+        AncestorMemo {
             kept: Vec::new(alloc),
             most,
             next: Cell::new(None),

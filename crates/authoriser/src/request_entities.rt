@@ -28,7 +28,7 @@ pub(crate) struct RequestEntities<'a> {
     pub(crate) resource: KnownEntity<'a>,
 }
 
-/// Returns an entity with what is looked up for it. Above one that is not stored there is nothing, so that nothing is
+/// Returns an entity with what is looked up for it. One that is not stored has no ancestors, so that nothing is
 /// searched for it.
 fn look_up<'a, L: Lookup>(
     alloc: Global,

@@ -5,11 +5,12 @@ use Rattle.std.proofs.Common.{◌&&◌, if◌then◌else◌}
 use Rattle.std.specs.List.{AllByRecursion}
 use Rattle.std.specs.List.Sorted.{IsStrictlySortedBy, IsPartitionedBy, IsPartitionPoint}
 use Rattle.std.specs.Ordering.{ordering_index, ordering_then, is_eq, is_lt}
-use Rattle.std.specs.Cmp.{IsTotalOrder, alike_right}
+use Rattle.std.specs.Cmp.{IsTotalOrder}
 use Rattle.std.specs.declared.cmp.Ordering.{Ordering}
 use Rattle.std.specs.declared.cmp.Ordering.TheVariants.{Less, Equal, Greater}
 use Rattle.std.proofs.lemmas.Cmp.{then_total, on_total}
 use Rattle.std.proofs.lemmas.Map.Text.{is_eq-slice_cmp}
+use Rattle.values.proofs.Halves.{lt_only, not_above, top_only, rises, less_then}
 use Rattle.values.specs.declared.entity_uid.EntityUid.{EntityUid}
 use Rattle.values.specs.Names.{uid_cmp, text_cmp, uid_cmp-IsTotalOrder, text_cmp-IsTotalOrder, uid_cmp-IsAntisymmetric}
 use Rattle.schema_types.specs.Cedar.{Cedar}
@@ -25,37 +26,6 @@ places_total : IsTotalOrder place_cmp
 places_total =
     then_total (on_total (λ p. p.action) uid_cmp-IsTotalOrder)
     (then_total (on_total (λ p. p.principal) text_cmp-IsTotalOrder) (on_total (λ p. p.resource) text_cmp-IsTotalOrder))
-
-lt_only : (o : Ordering) → is_lt o ≡ true → o ≡ Less
-lt_only Less h = refl
-lt_only Equal h = absurd (cc)
-lt_only Greater h = absurd (cc)
-
-not_above : (o : Ordering) → ordering_index o ≤ 0 → is_lt o ≡ true
-not_above Less h = refl
-not_above Equal h = let no : ⊥ = omega (arith, h) in absurd no
-not_above Greater h = let no : ⊥ = omega (arith, h) in absurd no
-
-top_only : (o : Ordering) → 2 ≤ ordering_index o → o ≡ Greater
-top_only Less h = let no : ⊥ = omega (arith, h) in absurd no
-top_only Equal h = let no : ⊥ = omega (arith, h) in absurd no
-top_only Greater h = refl
-
-at_most : (o : Ordering) → ordering_index o ≤ 2
-at_most Less = omega arith
-at_most Equal = omega arith
-at_most Greater = omega arith
-
--- what a greater one compares as is no less
-rises : {K : Type 0} {R : K → K → Ordering} → IsTotalOrder R → (a b x : K) → R a b ≡ Less → (r : Ordering) → R b x ≡ r → ordering_index (R a x) ≤ ordering_index r
-rises {R = R} total a b x lt Less e = rw (total.trans a b x lt e) (omega arith)
-rises {R = R} total a b x lt Equal e = rw (sym (alike_right total b x a e) ∙ lt) (omega arith)
-rises {R = R} total a b x lt Greater e = at_most (R a x)
-
-less_then : (r s : Ordering) → ordering_then r s ≡ Less → (r ≡ Less) ⊎ (r ≡ Equal)
-less_then Less s h = inl refl
-less_then Equal s h = inr refl
-less_then Greater s h = absurd (cc)
 
 places_rise : (x : Place) → Rises (λ p. place_cmp p x)
 places_rise x p q lt = rises places_total p q x lt (place_cmp q x) refl

@@ -10,7 +10,6 @@ pub mod Utf8Strings
 pub mod Utf8Tokens
 pub mod Utf8Texts
 pub mod AsciiTexts
-pub mod CompactUtf8
 pub mod Steps
 pub mod PlainParts
 pub mod PlainValues

@@ -13,7 +13,7 @@ use Rattle.entities.specs.Canonical.{canonical_json, canonical_text}
 use Rattle.entities.specs.Laws.{CanonicalIsRead, CanonicalNests, CanonicalIsOne}
 use Rattle.entities.specs.CanonicalLaws.{JsonTextsAreUtf8, IsReadFrom, CanonicalTextsAreJson, CanonicalTextsReadBack}
 use Rattle.entities.specs.CanonicalLaws.{CanonicalTextsAreOne}
-use Rattle.entities.proofs.CompactUtf8.{compact_utf8}
+use Rattle.json_words.proofs.CompactUtf8.{compact_utf8}
 use Rattle.entities.proofs.PlainEntities.{canonical_plain}
 
 -- the laws of the crates below, and that texts are UTF-8

@@ -3,8 +3,8 @@
 use Rattle.std.proofs.Common.{◌≡◌, List, [], ◌∷◌, Option, Some, None, refl, sym, subst}
 use Rattle.std.specs.Prelude.{Contains, IsSome, MatchOption}
 use Rattle.values.specs.declared.entity_uid.EntityUid.{EntityUid}
-use Rattle.evaluator.specs.ancestor_search.Hierarchy.{Parents, Path, Above, IsOnCycle, AreOnCycles}
-use Rattle.evaluator.specs.ancestor_search.Deciding.{Contains-none, Above-joined}
+use Rattle.evaluator.specs.ancestor_search.Hierarchy.{Parents, Path, IsAncestor, IsOnCycle, AreOnCycles}
+use Rattle.evaluator.specs.ancestor_search.Deciding.{Contains-none, IsAncestor-joined}
 use Rattle.evaluator.specs.ancestor_search.LeastCycle.{IsClosedWalk, HasNoCycle, IsLeastCycle}
 use Rattle.entity_data.specs.declared.data.EntityData.{EntityData}
 use Rattle.entity_data.specs.Apart.{AreApart, edges_of, stated_parents}
@@ -82,11 +82,11 @@ module _ (actions : Actions) (apart : AreApart actions) (entities : EntityMap) w
   edge_of_cycle b c on h = of_no_action (actions b) (entities b) c (off_cycles b on) h
 
   -- each edge of a walk that comes back leads from no action
-  on_walk : (b : EntityUid) (cs : List EntityUid) (a : EntityUid) → Above P b a → Path P b cs a → Path E b cs a
-  on_walk b [] a round h = edge_of_cycle b a (Above-joined P b a b ([], h) round) h
+  on_walk : (b : EntityUid) (cs : List EntityUid) (a : EntityUid) → IsAncestor P b a → Path P b cs a → Path E b cs a
+  on_walk b [] a round h = edge_of_cycle b a (IsAncestor-joined P b a b ([], h) round) h
   on_walk b (c ∷ cs) a round h = (
-    edge_of_cycle b c (Above-joined P b a b (c ∷ cs, h) round) h.0,
-    on_walk c cs a (Above-joined P a b c round ([], h.0)) h.1,
+    edge_of_cycle b c (IsAncestor-joined P b a b (c ∷ cs, h) round) h.0,
+    on_walk c cs a (IsAncestor-joined P a b c round ([], h.0)) h.1,
   )
 
   outof : (c : EntityUid) (cs : List EntityUid) → IsClosedWalk P (c ∷ cs) → IsClosedWalk E (c ∷ cs)

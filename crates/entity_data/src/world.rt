@@ -9,7 +9,7 @@ use crate::alone::Alone;
 use crate::source::EntitySource;
 use crate::uids::with_actions;
 use evaluator::{
-    Ancestry, Graph, Lookup, ParentsOf, ancestors_of, is_above, least_cycle, on_cycles,
+    Ancestry, Graph, Lookup, ParentsOf, ancestors_of, is_ancestor, least_cycle, on_cycles,
 };
 use plain::NoMemory;
 use std::alloc::Global;
@@ -90,7 +90,7 @@ impl<S: EntitySource, A: ActionSource + Drop> Ancestry for World<'_, S, A> {
         all_decided (A.declared w.1) (A.uids w.1) (A.listed w.1) (S.kept w.0) (S.uids w.0) (S.listed w.0) };
 
     fn is_ancestor(&self, a: &EntityUid, b: &EntityUid) -> Result<bool, NoMemory> {
-        is_above(self.alloc, self, a, b)
+        is_ancestor(self.alloc, self, a, b)
     }
 
     fn ancestors(&self, uid: &EntityUid) -> Result<Vec<&EntityUid>, NoMemory> {

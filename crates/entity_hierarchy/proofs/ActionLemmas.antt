@@ -4,9 +4,9 @@ use Rattle.std.specs.Prelude.{Contains, IsSome, ◌⊎◌, ◌↔◌, option_map
 use Rattle.std.specs.Ordering.{is_eq}
 use Rattle.values.specs.declared.entity_uid.EntityUid.{EntityUid}
 use Rattle.values.specs.Names.{uid_cmp}
-use Rattle.authoriser.specs.ancestor_search.Hierarchy.{Parents, Path, Above, IsOnCycle, no_parents, with_parents}
+use Rattle.authoriser.specs.ancestor_search.Hierarchy.{Parents, Path, IsAncestor, IsOnCycle, no_parents, with_parents}
 use Rattle.authoriser.specs.ancestor_search.Deciding.{Contains-here, Contains-there, Contains-none, same_uid}
-use Rattle.authoriser.specs.ancestor_search.Deciding.{Above-joined}
+use Rattle.authoriser.specs.ancestor_search.Deciding.{IsAncestor-joined}
 use Rattle.entities.specs.schema_names.Qualifying.{FoundAction, FoundSchema}
 use Rattle.entities.specs.schema.Schemas.{StatedSchema, Answers, IsAction, action_parents}
 use Rattle.entities.specs.schema.Schemas.{with_actions as with_action_parents}
@@ -74,7 +74,7 @@ module _ (s : FoundSchema) (v : StatedSchema) (answers : Answers s v) (entities 
   climbs b (c ∷ cs) a h = (stays b c h.0, climbs c cs a h.1)
 
   jump_at : (b c : EntityUid) (o : Option (List EntityUid)) → v.ancestors b ≡ o → Contains (kept_parents (action_or o (entities b))) c
-      → (o ≡ None → Contains (kept_parents (entities b)) c → Contains (P b) c) → Above P c b
+      → (o ≡ None → Contains (kept_parents (entities b)) c → Contains (P b) c) → IsAncestor P c b
   jump_at b c None e h same = ([], same refl h)
   jump_at b c (Some us) e h same = let above = ((answers.ancestors b us e).2 c).0 h in (above.0, climbs b above.0 c above.1)
 
@@ -83,12 +83,12 @@ module _ (s : FoundSchema) (v : StatedSchema) (answers : Answers s v) (entities 
   kept_at b c None e h = h
   kept_at b c (Some us) e h = absurd (cc)
 
-  jump : (b c : EntityUid) → Contains (Q b) c → Above P c b
+  jump : (b c : EntityUid) → Contains (Q b) c → IsAncestor P c b
   jump b c h = jump_at b c (v.ancestors b) refl h (kept_at b c (v.ancestors b))
 
-  jumps : (b : EntityUid) (cs : List EntityUid) (a : EntityUid) → Path Q b cs a → Above P a b
+  jumps : (b : EntityUid) (cs : List EntityUid) (a : EntityUid) → Path Q b cs a → IsAncestor P a b
   jumps b [] a h = jump b a h
-  jumps b (c ∷ cs) a h = Above-joined P b c a (jump b c h.0) (jumps c cs a h.1)
+  jumps b (c ∷ cs) a h = IsAncestor-joined P b c a (jump b c h.0) (jumps c cs a h.1)
 
   pub lead_alike : LeadAlike P Q
   lead_alike a b = ((λ above. (above.0, path b above.0 a above.1)), (λ above. jumps b above.0 a above.1))
@@ -128,10 +128,10 @@ module _ (s : FoundSchema) (v : StatedSchema) (answers : Answers s v) (entities 
     kept_edge b c on h =
         kept_at b c (v.ancestors b) (no_action b on) (subst (λ (o : Option (List EntityUid)). Contains (kept_parents (action_or o (entities b))) c) (no_action b on) h)
 
-    on_walk : (b : EntityUid) (cs : List EntityUid) (a : EntityUid) → Above Q b a → Path Q b cs a → Path P b cs a
-    on_walk b [] a round h = kept_edge b a (Above-joined Q b a b ([], h) round) h
+    on_walk : (b : EntityUid) (cs : List EntityUid) (a : EntityUid) → IsAncestor Q b a → Path Q b cs a → Path P b cs a
+    on_walk b [] a round h = kept_edge b a (IsAncestor-joined Q b a b ([], h) round) h
     on_walk b (c ∷ cs) a round h =
-        (kept_edge b c (Above-joined Q b a b (c ∷ cs, h) round) h.0, on_walk c cs a (Above-joined Q a b c round ([], h.0)) h.1)
+        (kept_edge b c (IsAncestor-joined Q b a b (c ∷ cs, h) round) h.0, on_walk c cs a (IsAncestor-joined Q a b c round ([], h.0)) h.1)
 
     pub same_cycles : HaveSameCycles P Q
     same_cycles [] = ((λ h. h), (λ h. h))

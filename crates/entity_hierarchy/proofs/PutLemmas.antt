@@ -5,11 +5,11 @@ use Rattle.std.specs.Prelude.{Contains, ◌⊎◌, ◌↔◌, if◌then◌else�
 use Rattle.std.specs.Ordering.{is_eq}
 use Rattle.values.specs.declared.entity_uid.EntityUid.{EntityUid}
 use Rattle.values.specs.Names.{uid_cmp}
-use Rattle.authoriser.specs.ancestor_search.Hierarchy.{Parents, Path, Above, IsOnCycle, with_parents}
-use Rattle.authoriser.specs.ancestor_search.Deciding.{same_uid, Above-joined}
+use Rattle.authoriser.specs.ancestor_search.Hierarchy.{Parents, Path, IsAncestor, IsOnCycle, with_parents}
+use Rattle.authoriser.specs.ancestor_search.Deciding.{same_uid, IsAncestor-joined}
 
 module _ (P Q : Parents) (edge : (b c : EntityUid) → Contains (P b) c → Contains (Q b) c)
-    (jump : (b c : EntityUid) → Contains (Q b) c → Above P c b) (u : EntityUid) (ps : List EntityUid) where
+    (jump : (b c : EntityUid) → Contains (Q b) c → IsAncestor P c b) (u : EntityUid) (ps : List EntityUid) where
   abbrev P' : Parents
   P' = with_parents P u ps
 
@@ -32,34 +32,34 @@ module _ (P Q : Parents) (edge : (b c : EntityUid) → Contains (P b) c → Cont
   other_edge b c apart h = subst (λ (own : Bool). Contains (if own then ps else P b) c) (sym apart) h
 
   -- one edge, and what comes behind it
-  behind : (b c a : EntityUid) → Contains (P' b) c → (is_eq (uid_cmp u c) ≡ false → Above P' u c ⊎ Above P' a c)
-      → (own : Bool) → is_eq (uid_cmp u c) ≡ own → Above P' u b ⊎ Above P' a b
+  behind : (b c a : EntityUid) → Contains (P' b) c → (is_eq (uid_cmp u c) ≡ false → IsAncestor P' u c ⊎ IsAncestor P' a c)
+      → (own : Bool) → is_eq (uid_cmp u c) ≡ own → IsAncestor P' u b ⊎ IsAncestor P' a b
   behind b c a first rest true own = inl ([], subst (λ (d : EntityUid). Contains (P' b) d) (sym (same_uid u c own)) first)
   behind b c a first rest false apart = elim (rest apart) [
-    | inl met ↦ inl (Above-joined P' b c u ([], first) met)
-    | inr stayed ↦ inr (Above-joined P' b c a ([], first) stayed)
+    | inl met ↦ inl (IsAncestor-joined P' b c u ([], first) met)
+    | inr stayed ↦ inr (IsAncestor-joined P' b c a ([], first) stayed)
   ]
 
   -- a path that begins at another entity stays, or u is met on it
   stays_or_meets : (b : EntityUid) (cs : List EntityUid) (a : EntityUid) → is_eq (uid_cmp u b) ≡ false → Path P b cs a
-      → Above P' u b ⊎ Above P' a b
+      → IsAncestor P' u b ⊎ IsAncestor P' a b
   stays_or_meets b [] a apart h = inr ([], other_edge b a apart h)
   stays_or_meets b (c ∷ cs) a apart h =
       behind b c a (other_edge b c apart h.0) (λ further. stays_or_meets c cs a further h.1) (is_eq (uid_cmp u c)) refl
 
   -- so an edge of the other leads on to u where there is a way on
-  leads_on : (b c : EntityUid) → (Above P' c b → Above P' u b) → (own : Bool) → is_eq (uid_cmp u b) ≡ own
-      → Contains (if own then ps else Q b) c → Above P' u b
+  leads_on : (b c : EntityUid) → (IsAncestor P' c b → IsAncestor P' u b) → (own : Bool) → is_eq (uid_cmp u b) ≡ own
+      → Contains (if own then ps else Q b) c → IsAncestor P' u b
   leads_on b c on true own h = on ([], subst (λ (t : Bool). Contains (if t then ps else P b) c) (sym own) h)
   leads_on b c on false apart h =
       let found = jump b c h in
       elim (stays_or_meets b found.0 c apart found.1) [ inl met ↦ met | inr stayed ↦ on stayed ]
 
-  to_u : (b : EntityUid) (cs : List EntityUid) → Path Q' b cs u → Above P' u b
+  to_u : (b : EntityUid) (cs : List EntityUid) → Path Q' b cs u → IsAncestor P' u b
   to_u b [] h = leads_on b u (λ above. above) (is_eq (uid_cmp u b)) refl h
   to_u b (c ∷ cs) h =
       let rest = to_u c cs h.1 in
-      leads_on b c (λ above. Above-joined P' b c u above rest) (is_eq (uid_cmp u b)) refl h.0
+      leads_on b c (λ above. IsAncestor-joined P' b c u above rest) (is_eq (uid_cmp u b)) refl h.0
 
   pub cycles_alike : IsOnCycle P' u ↔ IsOnCycle Q' u
   cycles_alike = ((λ on. (on.0, path u on.0 u on.1)), (λ on. to_u u on.0 on.1))

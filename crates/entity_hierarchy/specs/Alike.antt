@@ -2,7 +2,7 @@
 use Rattle.std.specs.Prelude.{◌↔◌, List}
 use Rattle.values.specs.declared.entity_uid.EntityUid.{EntityUid}
 use Rattle.values.specs.declared.request.Request.{Request}
-use Rattle.authoriser.specs.ancestor_search.Hierarchy.{Parents, Above}
+use Rattle.authoriser.specs.ancestor_search.Hierarchy.{Parents, IsAncestor}
 use Rattle.authoriser.specs.ancestor_search.LeastCycle.{IsClosedWalk}
 use Rattle.authoriser.specs.grammar_core.declared.expr.Expr.{Expr}
 use Rattle.authoriser.specs.evaluator.Outcomes.{EvaluationResult}
@@ -13,7 +13,7 @@ use Rattle.authoriser.specs.Answers.{NamedPolicy, IsAnswer}
 
 -- the same entities are above one another, and so the same are on cycles
 abbrev pub LeadAlike : Parents → Parents → Type 0
-LeadAlike parents others = (a b : EntityUid) → Above parents a b ↔ Above others a b
+LeadAlike parents others = (a b : EntityUid) → IsAncestor parents a b ↔ IsAncestor others a b
 
 -- the same walks are closed: the cycles are the same, edge by edge
 abbrev pub HaveSameCycles : Parents → Parents → Type 0

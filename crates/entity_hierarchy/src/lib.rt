@@ -9,7 +9,7 @@ mod world;
 
 pub use actions::SchemaActions;
 pub use authoriser::{
-    Answer, Known, Lookup, Policy, answers_are_lawful, decide, decide_known,
+    Answer, Lookup, Policy, PreparedRequest, answers_are_lawful, decide, decide_known,
     expressions_have_one_outcome, file_names_differ, paths_are_decided, scopes_do_not_err,
     texts_have_one_reading,
 };

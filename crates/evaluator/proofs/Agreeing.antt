@@ -22,7 +22,7 @@ use Rattle.evaluator.specs.declared.fault.EvalFault.TheVariants.{TypeError}
 use Rattle.evaluator.specs.Outcomes.{EvaluationResult, boolean_in}
 use Rattle.evaluator.specs.Operators.{World}
 use Rattle.evaluator.specs.Evaluation as rule
-use Rattle.evaluator.specs.Evaluation.{literal_value, variable_value, HasOperands, put_each, EvaluatesTo, TestFails, EachEvaluatesTo, AnswersWhatIsGiven, AnswersAllThatIsGiven}
+use Rattle.evaluator.specs.Evaluation.{literal_value, variable_value, HasOperands, put_each, EvaluatesTo, TestFails, EachEvaluatesTo, IsSoundEvaluation, IsCompleteEvaluation}
 use Rattle.evaluator.specs.Laws.{HasOneOutcome}
 use Rattle.evaluator.specs.inner.Meanings.{GivesOnly, MeaningsAreGiven}
 use Rattle.evaluator.specs.inner.Computing.{DecidedWorld, decided_world, and_then, demanded, truth, as_test, apply_unary, apply_binary, field_of, has_field, apply_unary_call, apply_binary_call, each, each_field, meaning, meaning_step, named_meaning, Answers}
@@ -327,11 +327,11 @@ meanings_are_given L W above D q x = record { given = given L W above D q x; onl
 -- ---- so an answer is what is given
 
 module _ (W : World) (q : Request) (x : Expr) (m : EvaluationResult) (gives : GivesOnly W q x m) where
-  pub answers_what_is_given : (r : EvaluationResult) → Answers r m → AnswersWhatIsGiven W q x r
+  pub answers_what_is_given : (r : EvaluationResult) → Answers r m → IsSoundEvaluation W q x r
   answers_what_is_given (Ok v) h = subst (EvaluatesTo W q x) h gives.given
   answers_what_is_given (Err e) h = λ n. subst (EvaluatesTo W q x) (h n) gives.given
 
-  pub answers_all_that_is_given : (r : EvaluationResult) → Answers r m → AnswersAllThatIsGiven W q x r
+  pub answers_all_that_is_given : (r : EvaluationResult) → Answers r m → IsCompleteEvaluation W q x r
   answers_all_that_is_given (Ok v) h s g n = sym h ∙ sym (gives.only s g)
   answers_all_that_is_given (Err e) h s g n = sym (h (λ same. n (ap (λ f. Err f) same))) ∙ sym (gives.only s g)
 

@@ -117,13 +117,13 @@ mutual
 -- ---- what code that evaluates returns
 
 -- what is returned is what the expression gives, but where memory was refused
-abbrev pub AnswersWhatIsGiven : World → Request → Expr → EvaluationResult → Type 0
-AnswersWhatIsGiven W q x answer = MatchResult answer (λ v. EvaluatesTo W q x (Ok v))
+abbrev pub IsSoundEvaluation : World → Request → Expr → EvaluationResult → Type 0
+IsSoundEvaluation W q x answer = MatchResult answer (λ v. EvaluatesTo W q x (Ok v))
     (λ e. e ≢ NoMemory → EvaluatesTo W q x (Err e))
 
 -- whatever the expression gives is returned, but where memory was refused
-abbrev pub AnswersAllThatIsGiven : World → Request → Expr → EvaluationResult → Type 0
-AnswersAllThatIsGiven W q x answer = (r : EvaluationResult) → EvaluatesTo W q x r → answer ≢ Err NoMemory → answer ≡ r
+abbrev pub IsCompleteEvaluation : World → Request → Expr → EvaluationResult → Type 0
+IsCompleteEvaluation W q x answer = (r : EvaluationResult) → EvaluatesTo W q x r → answer ≢ Err NoMemory → answer ≡ r
 
 -- the boolean that the expression gives is returned, or why it gives none
 abbrev pub AnswersTest : World → Request → Expr → Result Bool EvalFault → Type 0

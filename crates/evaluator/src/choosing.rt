@@ -5,7 +5,7 @@ ghost use Rattle.evaluator.specs.inner.Computing.{decided_world, Answers, meanin
 use crate::borrowed_or_owned::BorrowedOrOwned;
 use crate::evaluating::outcome_of;
 use crate::fault::EvalFault;
-use crate::question::Question;
+use crate::question::EvalEnv;
 use crate::steps::truth_of;
 use crate::testing::test_of;
 use evaluator_steps::decided_by_first;
@@ -16,7 +16,7 @@ use std::alloc::Global;
 /// Returns what one branch gives, by the test.
 #[cycle(evaluate)]
 #[inline(never)]
-pub(crate) fn choice_of<'a, L: Question>(
+pub(crate) fn choice_of<'a, L: EvalEnv>(
     alloc: Global,
     test: &'a Shared<Expr>,
     consequent: &'a Shared<Expr>,
@@ -36,7 +36,7 @@ pub(crate) fn choice_of<'a, L: Question>(
 /// Returns what one branch gives as a test, by the test.
 #[cycle(evaluate)]
 #[inline(never)]
-pub(crate) fn choice_test<'a, L: Question>(
+pub(crate) fn choice_test<'a, L: EvalEnv>(
     alloc: Global,
     test: &'a Shared<Expr>,
     consequent: &'a Shared<Expr>,
@@ -56,7 +56,7 @@ pub(crate) fn choice_test<'a, L: Question>(
 /// Returns what `&&` gives, as a test.
 #[cycle(evaluate)]
 #[inline(never)]
-pub(crate) fn both_test<'a, L: Question>(
+pub(crate) fn both_test<'a, L: EvalEnv>(
     alloc: Global,
     left: &'a Shared<Expr>,
     right: &'a Shared<Expr>,
@@ -75,7 +75,7 @@ pub(crate) fn both_test<'a, L: Question>(
 /// Returns what `||` gives, as a test.
 #[cycle(evaluate)]
 #[inline(never)]
-pub(crate) fn either_test<'a, L: Question>(
+pub(crate) fn either_test<'a, L: EvalEnv>(
     alloc: Global,
     left: &'a Shared<Expr>,
     right: &'a Shared<Expr>,
@@ -95,7 +95,7 @@ pub(crate) fn either_test<'a, L: Question>(
 /// Returns what `&&` gives.
 #[cycle(evaluate)]
 #[inline(never)]
-pub(crate) fn both_of<'a, L: Question>(
+pub(crate) fn both_of<'a, L: EvalEnv>(
     alloc: Global,
     left: &'a Shared<Expr>,
     right: &'a Shared<Expr>,
@@ -110,7 +110,7 @@ pub(crate) fn both_of<'a, L: Question>(
 /// Returns what `||` gives.
 #[cycle(evaluate)]
 #[inline(never)]
-pub(crate) fn either_of<'a, L: Question>(
+pub(crate) fn either_of<'a, L: EvalEnv>(
     alloc: Global,
     left: &'a Shared<Expr>,
     right: &'a Shared<Expr>,

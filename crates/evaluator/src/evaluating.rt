@@ -3,7 +3,7 @@ ghost use Rattle.std.specs.Prelude.{◌≡◌, ◌≢◌, [], map, MatchResult, 
 ghost use Rattle.values.specs.Values.{set, record_of, values_of, fields_of};
 ghost use Rattle.values.specs.Sets.{set_list};
 ghost use Rattle.evaluator.specs.Operators.{world_of};
-ghost use Rattle.evaluator.specs.Evaluation.{AnswersWhatIsGiven, AnswersAllThatIsGiven, AnswersTest};
+ghost use Rattle.evaluator.specs.Evaluation.{IsSoundEvaluation, IsCompleteEvaluation, AnswersTest};
 ghost use Rattle.evaluator.specs.inner.Computing.{decided_world, Answers, AnswersNext, meaning, named_meaning, each};
 ghost use Rattle.evaluator.specs.inner.Computing.{each_field, and_then, apply_unary, apply_binary};
 ghost use Rattle.evaluator.specs.inner.Computing.{apply_unary_call, apply_binary_call, field_of, has_field};
@@ -15,7 +15,7 @@ use crate::fields::{lent, variable_field};
 use crate::laws::meanings_are_given;
 use crate::leaves::{literal_of, variable_of};
 use crate::lookup::Lookup;
-use crate::question::{Asking, Question};
+use crate::question::{EvalEnv, RequestEnv};
 use crate::steps::{
     add_field, add_value, called_on, called_on_two, field_in, has_in, on_operand, on_operands,
     owned, record_with, set_with,
@@ -27,25 +27,25 @@ use std::alloc::Global;
 use values::{Record, Request, Value};
 
 /// Returns what an expression gives under a request, over the stored entities: its value, or the first error. It
-/// copies what stands somewhere, which [`evaluate_asked`] lends; otherwise as that.
+/// copies what stands somewhere, which [`evaluate_in`] lends; otherwise as that.
 pub fn evaluate<'a, L: Lookup>(
     alloc: Global,
     expr: &'a Expr,
     request: &'a Request,
     store: &'a L,
 ) -> Result<BorrowedOrOwned<'a>, EvalFault>
-    ensures given { AnswersWhatIsGiven (world_of (L.stored store.now) (L.parents store.now)) request.now expr.now
+    ensures given { IsSoundEvaluation (world_of (L.stored store.now) (L.parents store.now)) request.now expr.now
         result }
-    ensures all { AnswersAllThatIsGiven (world_of (L.stored store.now) (L.parents store.now)) request.now expr.now
+    ensures all { IsCompleteEvaluation (world_of (L.stored store.now) (L.parents store.now)) request.now expr.now
         result }
 {
     meanings_are_given();
-    let asking = Asking { request, store };
+    let asking = RequestEnv { request, store };
     owned(alloc, outcome_of(alloc, expr, &asking))
 }
 
 /// Returns whether an expression gives true, as a condition does, under a request, over the stored entities. Otherwise
-/// as [`evaluate_asked_test`].
+/// as [`evaluate_condition`].
 pub fn evaluate_test<L: Lookup>(
     alloc: Global,
     expr: &Expr,
@@ -54,7 +54,7 @@ pub fn evaluate_test<L: Lookup>(
 ) -> Result<bool, EvalFault>
     ensures { AnswersTest (world_of (L.stored store.now) (L.parents store.now)) request.now expr.now result }
 {
-    evaluate_asked_test(alloc, expr, &Asking { request, store })
+    evaluate_condition(alloc, expr, &RequestEnv { request, store })
 }
 
 /// Returns what an expression gives under the request that is asked, over the stored entities: its value, or the first
@@ -67,14 +67,14 @@ pub fn evaluate_test<L: Lookup>(
 /// It recurses: its stack grows with the height of the expression, by less than two kilobytes a level.
 ///
 /// Source: Cedar reference guide, "Operators and functions".
-pub fn evaluate_asked<'a, L: Question>(
+pub fn evaluate_in<'a, L: EvalEnv>(
     alloc: Global,
     expr: &'a Expr,
     store: &'a L,
 ) -> Result<BorrowedOrOwned<'a>, EvalFault>
-    ensures given { AnswersWhatIsGiven (world_of (L.stored store.now) (L.parents store.now)) (L.asked store.now)
+    ensures given { IsSoundEvaluation (world_of (L.stored store.now) (L.parents store.now)) (L.asked store.now)
         expr.now result }
-    ensures all { AnswersAllThatIsGiven (world_of (L.stored store.now) (L.parents store.now)) (L.asked store.now)
+    ensures all { IsCompleteEvaluation (world_of (L.stored store.now) (L.parents store.now)) (L.asked store.now)
         expr.now result }
 {
     meanings_are_given();
@@ -82,8 +82,8 @@ pub fn evaluate_asked<'a, L: Question>(
 }
 
 /// Returns whether an expression gives true, as a condition does; it gives a boolean, or the answer is why not. Of a
-/// value of another kind that is `TypeError`. Otherwise as [`evaluate_asked`].
-pub fn evaluate_asked_test<L: Question>(
+/// value of another kind that is `TypeError`. Otherwise as [`evaluate_in`].
+pub fn evaluate_condition<L: EvalEnv>(
     alloc: Global,
     expr: &Expr,
     store: &L,
@@ -98,7 +98,7 @@ pub fn evaluate_asked_test<L: Question>(
 // other arms hold: a function begins by clearing all that it has room for. What is made of an operand's outcome is a
 // function outside the recursion (steps.rt), which reads the outcome where it stands.
 #[cycle(evaluate)]
-pub(crate) fn outcome_of<'a, L: Question>(
+pub(crate) fn outcome_of<'a, L: EvalEnv>(
     alloc: Global,
     expr: &'a Expr,
     store: &'a L,
@@ -130,7 +130,7 @@ pub(crate) fn outcome_of<'a, L: Question>(
 /// Returns what an operator gives on two expressions' values.
 #[cycle(evaluate)]
 #[inline(never)]
-pub(crate) fn two_operands<'a, L: Question>(
+pub(crate) fn two_operands<'a, L: EvalEnv>(
     alloc: Global,
     operator: Binary,
     left: &'a Shared<Expr>,
@@ -148,7 +148,7 @@ pub(crate) fn two_operands<'a, L: Question>(
 /// Returns what a call gives on two expressions' values.
 #[cycle(evaluate)]
 #[inline(never)]
-fn two_called<'a, L: Question>(
+fn two_called<'a, L: EvalEnv>(
     alloc: Global,
     called: BinaryCall,
     left: &'a Shared<Expr>,
@@ -166,7 +166,7 @@ fn two_called<'a, L: Question>(
 /// Returns what an operator gives on an expression's value.
 #[cycle(evaluate)]
 #[inline(never)]
-fn one_operand<'a, L: Question>(
+fn one_operand<'a, L: EvalEnv>(
     alloc: Global,
     operator: &Unary,
     operand: &'a Shared<Expr>,
@@ -183,7 +183,7 @@ fn one_operand<'a, L: Question>(
 /// Returns what an operator gives on what was given and an expression's value; where nothing was given, only why.
 #[cycle(evaluate)]
 #[inline(never)]
-fn second_operand<'a, L: Question>(
+fn second_operand<'a, L: EvalEnv>(
     alloc: Global,
     right: &'a Shared<Expr>,
     operator: Binary,
@@ -206,7 +206,7 @@ fn second_operand<'a, L: Question>(
 /// Returns what a call gives on an expression's value.
 #[cycle(evaluate)]
 #[inline(never)]
-fn one_called<'a, L: Question>(
+fn one_called<'a, L: EvalEnv>(
     alloc: Global,
     called: UnaryCall,
     operand: &'a Shared<Expr>,
@@ -223,7 +223,7 @@ fn one_called<'a, L: Question>(
 /// Returns what a call gives on what was given and an expression's value; where nothing was given, only why.
 #[cycle(evaluate)]
 #[inline(never)]
-fn second_called<'a, L: Question>(
+fn second_called<'a, L: EvalEnv>(
     alloc: Global,
     right: &'a Shared<Expr>,
     called: BinaryCall,
@@ -246,7 +246,7 @@ fn second_called<'a, L: Question>(
 /// Returns a field or an attribute of an expression's value.
 #[cycle(evaluate)]
 #[inline(never)]
-pub(crate) fn field_of<'a, L: Question>(
+pub(crate) fn field_of<'a, L: EvalEnv>(
     alloc: Global,
     owner: &'a Shared<Expr>,
     name: &Text,
@@ -268,7 +268,7 @@ pub(crate) fn field_of<'a, L: Question>(
 /// Returns whether an expression's value has a field or an attribute.
 #[cycle(evaluate)]
 #[inline(never)]
-fn has_of<'a, L: Question>(
+fn has_of<'a, L: EvalEnv>(
     alloc: Global,
     owner: &'a Shared<Expr>,
     name: &Text,
@@ -285,7 +285,7 @@ fn has_of<'a, L: Question>(
 /// Returns the set of what expressions give.
 #[cycle(evaluate)]
 #[inline(never)]
-fn set_of<'a, L: Question>(
+fn set_of<'a, L: EvalEnv>(
     alloc: Global,
     members: &'a Items<Expr>,
     store: &'a L,
@@ -300,7 +300,7 @@ fn set_of<'a, L: Question>(
 /// Returns the record of what the expressions under names give.
 #[cycle(evaluate)]
 #[inline(never)]
-fn record_of<'a, L: Question>(
+fn record_of<'a, L: EvalEnv>(
     alloc: Global,
     fields: &'a Items<Named<Expr>>,
     store: &'a L,
@@ -316,7 +316,7 @@ fn record_of<'a, L: Question>(
 /// Returns what expressions give, in order.
 #[cycle(evaluate)]
 #[inline(never)]
-fn evaluate_each<'a, L: Question>(
+fn evaluate_each<'a, L: EvalEnv>(
     alloc: Global,
     exprs: &'a Items<Expr>,
     store: &'a L,
@@ -336,7 +336,7 @@ fn evaluate_each<'a, L: Question>(
 /// Returns the fields that the expressions under names give, in the order in which they are written.
 #[cycle(evaluate)]
 #[inline(never)]
-fn evaluate_fields<'a, L: Question>(
+fn evaluate_fields<'a, L: EvalEnv>(
     alloc: Global,
     fields: &'a Items<Named<Expr>>,
     store: &'a L,

@@ -9,7 +9,7 @@ use crate::borrowed_or_owned::{BorrowedOrOwned, Ownership};
 use crate::fault::EvalFault;
 use crate::lookup::Lookup;
 use crate::numbers::number_or_none;
-use crate::question::Question;
+use crate::question::EvalEnv;
 use evaluator_steps::attribute_in;
 use grammar_core::Variable;
 use std::alloc::Global;
@@ -73,7 +73,7 @@ fn attribute<'a, L: Lookup>(
 /// Returns the value of a field or an attribute of what a variable stands for: most conditions ask for these, so no
 /// value is made of the variable.
 #[tactic(auto, using(crate::proofs::Variables::field_under))]
-pub(crate) fn variable_field<'a, L: Question>(
+pub(crate) fn variable_field<'a, L: EvalEnv>(
     store: &'a L,
     variable: Variable,
     name: &str,
@@ -86,7 +86,7 @@ pub(crate) fn variable_field<'a, L: Question>(
 }
 
 /// Returns the number that a field or an attribute of what a variable stands for is, or None where it is no number.
-pub(crate) fn variable_number<L: Question>(
+pub(crate) fn variable_number<L: EvalEnv>(
     store: &L,
     variable: Variable,
     name: &str,
@@ -112,7 +112,7 @@ fn has_attribute(fields: Option<&Record>, name: &str) -> bool
 
 /// Returns whether what a variable stands for has a field or an attribute.
 #[tactic(auto, using(crate::proofs::Variables::has_under))]
-pub(crate) fn variable_has<L: Question>(store: &L, variable: Variable, name: &str) -> bool
+pub(crate) fn variable_has<L: EvalEnv>(store: &L, variable: Variable, name: &str) -> bool
     ensures { has_field (decided_world (L.stored store.now) (L.above store.now)) name.now
         (variable_value variable (L.asked store.now)) ≡ truth result }
 {

@@ -5,7 +5,7 @@ ghost use Rattle.evaluator.specs.Evaluation.{literal_value, variable_value};
 
 use crate::borrowed_or_owned::{BorrowedOrOwned, Ownership};
 use crate::fault::EvalFault;
-use crate::question::Question;
+use crate::question::EvalEnv;
 use grammar_core::{Literal, Variable};
 use values::{Request, ValueRef};
 
@@ -45,7 +45,7 @@ fn variable_ref(variable: Variable, request: &Request) -> ValueRef<'_>
 
 /// Returns the part of the request that a variable stands for.
 #[inline(never)]
-pub(crate) fn variable_of<L: Question>(
+pub(crate) fn variable_of<L: EvalEnv>(
     variable: Variable,
     store: &L,
 ) -> Result<BorrowedOrOwned<'_>, EvalFault>

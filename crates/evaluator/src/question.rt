@@ -11,7 +11,7 @@ use values::{EntityUid, Record, Request};
 
 /// A request, with the stored entities that it is decided over. Whoever looked the request's entities up already gives
 /// their attributes by the variable that stands for each, so that no entity has to be found by its name.
-pub trait Question: Lookup {
+pub trait EvalEnv: Lookup {
     /// The request.
     ghost asked: { Self → Request };
 
@@ -27,12 +27,12 @@ pub trait Question: Lookup {
 
 /// A request beside the stored entities, of which nothing was looked up yet.
 #[derive(Drop)]
-pub struct Asking<'a, L: Lookup> {
+pub struct RequestEnv<'a, L: Lookup> {
     pub request: &'a Request,
     pub store: &'a L,
 }
 
-impl<L: Lookup> Ancestry for Asking<'_, L> {
+impl<L: Lookup> Ancestry for RequestEnv<'_, L> {
     ghost parents = { λ s. L.parents s.store.now };
 
     ghost above = { λ s. L.above s.store.now };
@@ -56,7 +56,7 @@ impl<L: Lookup> Ancestry for Asking<'_, L> {
     }
 }
 
-impl<L: Lookup> Lookup for Asking<'_, L> {
+impl<L: Lookup> Lookup for RequestEnv<'_, L> {
     ghost stored = { λ s. L.stored s.store.now };
 
     fn attrs_of(&self, uid: &EntityUid) -> Option<&Record> {
@@ -64,7 +64,7 @@ impl<L: Lookup> Lookup for Asking<'_, L> {
     }
 }
 
-impl<L: Lookup> Question for Asking<'_, L> {
+impl<L: Lookup> EvalEnv for RequestEnv<'_, L> {
     ghost asked = { λ s. s.request.now };
 
     fn request(&self) -> &Request {

@@ -8,7 +8,7 @@ use crate::evaluating::{field_of, outcome_of, two_operands};
 use crate::fault::EvalFault;
 use crate::fields::{variable_has, variable_number};
 use crate::numbers::{Numbers, is_less, is_less_or_equal, literal_number, number_in};
-use crate::question::Question;
+use crate::question::EvalEnv;
 use crate::steps::{has_told, opposite, tested};
 use grammar_core::{Binary, Expr, Unary};
 use plain::{Shared, Text};
@@ -17,7 +17,7 @@ use std::alloc::Global;
 /// Returns what an expression gives as a test.
 #[cycle(evaluate)]
 #[inline(never)]
-pub(crate) fn test_of<'a, L: Question>(
+pub(crate) fn test_of<'a, L: EvalEnv>(
     alloc: Global,
     test: &'a Expr,
     store: &'a L,
@@ -44,7 +44,7 @@ pub(crate) fn test_of<'a, L: Question>(
 /// Returns what an operator gives on two expressions' values, as a test.
 #[cycle(evaluate)]
 #[inline(never)]
-fn binary_test<'a, L: Question>(
+fn binary_test<'a, L: EvalEnv>(
     alloc: Global,
     operator: Binary,
     left: &'a Shared<Expr>,
@@ -68,7 +68,7 @@ fn binary_test<'a, L: Question>(
 /// Returns whether an expression's value has a field or an attribute.
 #[cycle(evaluate)]
 #[inline(never)]
-fn has_test<'a, L: Question>(
+fn has_test<'a, L: EvalEnv>(
     alloc: Global,
     owner: &'a Shared<Expr>,
     name: &Text,
@@ -90,7 +90,7 @@ fn has_test<'a, L: Question>(
 /// Returns the numbers that two expressions give.
 #[cycle(evaluate)]
 #[inline(never)]
-fn two_numbers<'a, L: Question>(
+fn two_numbers<'a, L: EvalEnv>(
     alloc: Global,
     left: &'a Shared<Expr>,
     right: &'a Shared<Expr>,
@@ -107,7 +107,7 @@ fn two_numbers<'a, L: Question>(
 /// Returns the number that an expression gives, or None where it gives what is no number.
 #[cycle(evaluate)]
 #[inline(never)]
-fn number_of<'a, L: Question>(
+fn number_of<'a, L: EvalEnv>(
     alloc: Global,
     expr: &'a Shared<Expr>,
     store: &'a L,
@@ -128,7 +128,7 @@ fn number_of<'a, L: Question>(
 /// Returns the number that a field or an attribute of an expression's value is, or None where it is no number.
 #[cycle(evaluate)]
 #[inline(never)]
-fn field_number<'a, L: Question>(
+fn field_number<'a, L: EvalEnv>(
     alloc: Global,
     owner: &'a Shared<Expr>,
     name: &Text,

@@ -1,7 +1,7 @@
 -- An expression as a whole list of tokens.
 use Rattle.std.proofs.Common.{ℕ, zero, suc, ◌-◌, ◌≤◌, ◌<◌, List, [], Result, refl, arith}
 use Rattle.grammar_trees.specs.grammar_tokens.declared.token.Token.{Token}
-use Rattle.grammar_trees.specs.grammar_tokens.declared.fault.Halt.{Halt}
+use Rattle.grammar_trees.specs.grammar_tokens.declared.fault.StopCause.{StopCause}
 use Rattle.grammar_trees.specs.declared.tree.ExprTree.{ExprTree}
 use Rattle.grammar_expressions.specs.Expressions as g
 use Rattle.grammar_expressions.specs.Expressions.{nesting_limit, any_expr}
@@ -35,7 +35,7 @@ pub next_level : OpensNextLevel g.expr nesting_limit
 next_level = depths.next_level g.expr r.expr after_expr rule alive 63
 
 -- the front of a list, at any number of levels
-pub expression_front : (levels : ℕ) (ts rest : List Token) (x : Result ExprTree Halt) → ParsesTo (r.expr levels ts) x rest → 0 < levels
+pub expression_front : (levels : ℕ) (ts rest : List Token) (x : Result ExprTree StopCause) → ParsesTo (r.expr levels ts) x rest → 0 < levels
     → ReadsFrontWithin (g.expr levels) any_expr ts x rest
 expression_front zero ts rest x gives some = absurd (omega (arith, some))
 expression_front (suc n) ts rest x gives some = depths.front_read g.expr r.expr after_expr rule alive n (firm_expr (suc n) refl) ts rest x gives

@@ -3,7 +3,7 @@ use Rattle.std.proofs.Common.{◌≡◌, ℕ, suc, List, Result, Ok, Err, refl, 
 use Rattle.std.specs.Prelude.{IfOk}
 use Rattle.grammar_trees.specs.grammar_tokens.declared.token.Token.{Token}
 use Rattle.grammar_trees.specs.declared.tree.ExprTree.{ExprTree}
-use Rattle.grammar_trees.specs.grammar_tokens.declared.fault.Halt.{Halt}
+use Rattle.grammar_trees.specs.grammar_tokens.declared.fault.StopCause.{StopCause}
 use Rattle.grammar_trees.specs.grammar_tokens.Lang.{Lang}
 use Rattle.grammar_trees.specs.grammar_tokens.Reading.{Parser, Read}
 use Rattle.grammar_trees.specs.grammar_tokens.ParsesTo.{ParsesTo}
@@ -29,14 +29,14 @@ inner n = record {
 }
 
 derives : (L : Lang ExprTree) (p : Parser ExprTree) → ((ts : List Token) (x : ExprTree) (rest : List Token) → p ts ≡ Read x rest → ReadsFront L ts x rest)
-    → (ts rest : List Token) (read : Result ExprTree Halt) → ParsesTo (p ts) read rest → IfOk read (λ x. DerivesFront L ts x rest)
+    → (ts rest : List Token) (read : Result ExprTree StopCause) → ParsesTo (p ts) read rest → IfOk read (λ x. DerivesFront L ts x rest)
 derives L p sound ts rest (Ok x) h = let found = sound ts x rest h in record { front = found.front; whole = found.whole; derived = found.derived }
 derives L p sound ts rest (Err e) h = tt
 
-pub sum_derives : (n : ℕ) (ts rest : List Token) (read : Result ExprTree Halt) → ParsesTo (r.sum (is_positive n) (r.expr n) ts) read rest
+pub sum_derives : (n : ℕ) (ts rest : List Token) (read : Result ExprTree StopCause) → ParsesTo (r.sum (is_positive n) (r.expr n) ts) read rest
     → IfOk read (λ x. DerivesFront (g.sum (is_positive n) (g.expr n)) ts x rest)
 sum_derives n = derives _ _ (sum_rule _ _ _ _ _ _ _ (inner n)).sound
 
-pub tail_derives : (n : ℕ) (x : ExprTree) (ts rest : List Token) (read : Result ExprTree Halt) → ParsesTo (r.related (is_positive n) (r.expr n) x ts) read rest
+pub tail_derives : (n : ℕ) (x : ExprTree) (ts rest : List Token) (read : Result ExprTree StopCause) → ParsesTo (r.related (is_positive n) (r.expr n) x ts) read rest
     → IfOk read (λ e. DerivesFront (g.tailed (is_positive n) (g.expr n) x) ts e rest)
 tail_derives n x = derives _ _ (related_rule _ _ _ _ _ _ _ (inner n) x).sound

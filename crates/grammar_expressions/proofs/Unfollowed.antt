@@ -6,8 +6,8 @@ use Rattle.grammar_trees.specs.grammar_tokens.Kinds.{Kinds}
 use Rattle.grammar_trees.specs.grammar_tokens.Reads.{sees}
 use Rattle.grammar_trees.specs.grammar_tokens.Reading.{Parser, Read, and_then, pure, chosen, loop_from}
 use Rattle.grammar_trees.specs.grammar_tokens.ParsesTo.{ParsesTo}
-use Rattle.grammar_trees.specs.grammar_tokens.declared.fault.Halt.{Halt}
-use Rattle.grammar_trees.specs.grammar_tokens.declared.fault.Halt.TheVariants as halt
+use Rattle.grammar_trees.specs.grammar_tokens.declared.fault.StopCause.{StopCause}
+use Rattle.grammar_trees.specs.grammar_tokens.declared.fault.StopCause.TheVariants as halt
 use Rattle.grammar_expressions.specs.Expressions.{joined}
 use Rattle.grammar_expressions.specs.inner.Chains.{chained, chained_on}
 
@@ -22,7 +22,7 @@ none_from ks p zero ts h = refl
 none_from ks p (suc n) ts h = skipped (sees ks ts) _ _ ts h
 
 module _ {A : Type 0} (operand : Parser ExprTree) (ks : Kinds) (piece : Parser A) (make : ExprTree → List A → ExprTree) (ts rest : List Token) where
-  pub unfollowed : (r : Result ExprTree Halt) → ParsesTo (operand ts) r rest → sees ks rest ≡ false → ParsesTo (chained operand ks piece make ts) r rest
+  pub unfollowed : (r : Result ExprTree StopCause) → ParsesTo (operand ts) r rest → sees ks rest ≡ false → ParsesTo (chained operand ks piece make ts) r rest
   unfollowed (Ok x) e h =
       ap (λ o. and_then o (chained_on ks piece make)) e ∙ ap (λ o. and_then o (λ more. pure (joined make x more))) (none_from ks piece _ rest h)
   unfollowed (Err halt.NoMemory) e h = tt

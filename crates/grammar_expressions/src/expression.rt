@@ -7,10 +7,10 @@ ghost use Rattle.grammar_expressions.specs.Expressions.{is_positive};
 ghost use Rattle.grammar_trees.specs.grammar_tokens.ParsesTo.{ParsesTo};
 ghost use Rattle.grammar_expressions.specs.inner.Nests.{Nests};
 ghost use Rattle.grammar_trees.specs.grammar_tokens.Reads.{ReadsFrontWithin};
-ghost use Rattle.grammar_trees.specs.grammar_tokens.declared.fault.Halt.TheVariants as halt;
+ghost use Rattle.grammar_trees.specs.grammar_tokens.declared.fault.StopCause.TheVariants as halt;
 
 use crate::primary::Reader;
-use grammar_trees::{Cursor, ExprTree, Halt, TokenKind};
+use grammar_trees::{Cursor, ExprTree, StopCause, TokenKind};
 use plain::{Boxed, beside};
 use std::alloc::Global;
 
@@ -18,10 +18,10 @@ use std::alloc::Global;
 /// parentheses, brackets, braces or call arguments, and for each part of an `if`.
 pub const NESTING_LIMIT: usize = 64;
 
-impl<F: Fn(Global, &mut Cursor<'_>, usize) -> Result<ExprTree, Halt>> Reader<F> {
+impl<F: Fn(Global, &mut Cursor<'_>, usize) -> Result<ExprTree, StopCause>> Reader<F> {
     /// "else" Expr
     #[tactic(auto, unfolding(crate::specs::ExpressionReading::alternative))]
-    fn alternative(&self, tokens: &mut Cursor<'_>) -> Result<Boxed<ExprTree>, Halt>
+    fn alternative(&self, tokens: &mut Cursor<'_>) -> Result<Boxed<ExprTree>, StopCause>
         requires { Nests self.now.levels (F.pre self.now.expr) (F.post self.now.expr) }
         ensures { ParsesTo (spec.alternative (is_positive self.now.levels)
             (spec.expr self.now.levels) tokens.old.rest.now)
@@ -33,7 +33,7 @@ impl<F: Fn(Global, &mut Cursor<'_>, usize) -> Result<ExprTree, Halt>> Reader<F> 
 
     /// "then" Expr
     #[tactic(auto, unfolding(crate::specs::ExpressionReading::consequent))]
-    fn consequent(&self, tokens: &mut Cursor<'_>) -> Result<Boxed<ExprTree>, Halt>
+    fn consequent(&self, tokens: &mut Cursor<'_>) -> Result<Boxed<ExprTree>, StopCause>
         requires { Nests self.now.levels (F.pre self.now.expr) (F.post self.now.expr) }
         ensures { ParsesTo (spec.consequent (is_positive self.now.levels)
             (spec.expr self.now.levels) tokens.old.rest.now)
@@ -49,7 +49,7 @@ impl<F: Fn(Global, &mut Cursor<'_>, usize) -> Result<ExprTree, Halt>> Reader<F> 
         tokens: &mut Cursor<'_>,
         test: Boxed<ExprTree>,
         consequent: Boxed<ExprTree>,
-    ) -> Result<ExprTree, Halt>
+    ) -> Result<ExprTree, StopCause>
         requires { Nests self.now.levels (F.pre self.now.expr) (F.post self.now.expr) }
         ensures { ParsesTo (spec.decided (is_positive self.now.levels) (spec.expr self.now.levels)
             test consequent tokens.old.rest.now)
@@ -67,7 +67,7 @@ impl<F: Fn(Global, &mut Cursor<'_>, usize) -> Result<ExprTree, Halt>> Reader<F> 
         &self,
         tokens: &mut Cursor<'_>,
         test: Boxed<ExprTree>,
-    ) -> Result<ExprTree, Halt>
+    ) -> Result<ExprTree, StopCause>
         requires { Nests self.now.levels (F.pre self.now.expr) (F.post self.now.expr) }
         ensures { ParsesTo (spec.conditional_tail (is_positive self.now.levels)
             (spec.expr self.now.levels) test tokens.old.rest.now)
@@ -79,7 +79,7 @@ impl<F: Fn(Global, &mut Cursor<'_>, usize) -> Result<ExprTree, Halt>> Reader<F> 
 
     /// "if" Expr "then" Expr "else" Expr
     #[tactic(auto, unfolding(crate::specs::ExpressionReading::conditional))]
-    fn conditional(&self, tokens: &mut Cursor<'_>) -> Result<ExprTree, Halt>
+    fn conditional(&self, tokens: &mut Cursor<'_>) -> Result<ExprTree, StopCause>
         requires { Nests self.now.levels (F.pre self.now.expr) (F.post self.now.expr) }
         ensures { ParsesTo (spec.conditional (is_positive self.now.levels)
             (spec.expr self.now.levels) tokens.old.rest.now)
@@ -92,7 +92,7 @@ impl<F: Fn(Global, &mut Cursor<'_>, usize) -> Result<ExprTree, Halt>> Reader<F> 
 
     /// "if" Expr "then" Expr "else" Expr | Or
     #[tactic(auto, unfolding(crate::specs::ExpressionReading::level))]
-    fn level(&self, tokens: &mut Cursor<'_>) -> Result<ExprTree, Halt>
+    fn level(&self, tokens: &mut Cursor<'_>) -> Result<ExprTree, StopCause>
         requires { Nests self.now.levels (F.pre self.now.expr) (F.post self.now.expr) }
         ensures { ParsesTo (spec.level (is_positive self.now.levels) (spec.expr self.now.levels) tokens.old.rest.now)
             result tokens.new.rest.now }
@@ -101,7 +101,7 @@ impl<F: Fn(Global, &mut Cursor<'_>, usize) -> Result<ExprTree, Halt>> Reader<F> 
             return self.disjunction(tokens);
         }
         if self.levels == 0 {
-            return Err(Halt::TooDeep);
+            return Err(StopCause::TooDeep);
         }
         self.conditional(tokens)
     }
@@ -110,14 +110,14 @@ impl<F: Fn(Global, &mut Cursor<'_>, usize) -> Result<ExprTree, Halt>> Reader<F> 
 /// Returns an expression with so many levels of nesting at most, its own being one, from the front of the tokens and as
 /// many of them as it takes. The tokens that are left afterwards begin behind it, or with the one at which reading
 /// halts: that is too deep where more levels would go on with it.
-pub fn expr(alloc: Global, tokens: &mut Cursor<'_>, levels: usize) -> Result<ExprTree, Halt>
+pub fn expr(alloc: Global, tokens: &mut Cursor<'_>, levels: usize) -> Result<ExprTree, StopCause>
     ensures reads { 0 < levels → ReadsFrontWithin (grammar.expr levels) grammar.any_expr
         tokens.old.rest.now result tokens.new.rest.now }
     ensures shut { levels ≡ 0 → (result ≡ Err halt.TooDeep) × (tokens.new.rest.now ≡ tokens.old.rest.now) }
     ensures steps { ParsesTo (spec.expr levels tokens.old.rest.now) result tokens.new.rest.now }
 {
     if levels == 0 {
-        return Err(Halt::TooDeep);
+        return Err(StopCause::TooDeep);
     }
     Reader {
         alloc,

@@ -7,7 +7,7 @@ ghost use Rattle.grammar_trees.specs.declared.tree.ExprTree as trees;
 ghost use Rattle.grammar_expressions.specs.Expressions.{joined};
 ghost use Rattle.grammar_expressions.specs.inner.Chains.{chained, chained_on};
 
-use grammar_trees::{Cursor, ExprTree, Halt, KindSet, read_many};
+use grammar_trees::{Cursor, ExprTree, KindSet, StopCause, read_many};
 use plain::{Boxed, Items, beside};
 use std::alloc::{AllocError, Global};
 
@@ -25,11 +25,11 @@ pub(crate) trait Level {
 
     ghost joins: { trees.ExprTree → List Self.Piece → trees.ExprTree };
 
-    fn operand(&self, tokens: &mut Cursor<'_>) -> Result<ExprTree, Halt>
+    fn operand(&self, tokens: &mut Cursor<'_>) -> Result<ExprTree, StopCause>
         requires { can_read self.now }
         ensures { ParsesTo (operands self.now tokens.old.rest.now) result tokens.new.rest.now };
 
-    fn piece(&self, tokens: &mut Cursor<'_>) -> Result<Self::Piece, Halt>
+    fn piece(&self, tokens: &mut Cursor<'_>) -> Result<Self::Piece, StopCause>
         requires { can_read self.now }
         ensures { ParsesTo (pieces self.now tokens.old.rest.now) result tokens.new.rest.now };
 
@@ -44,7 +44,7 @@ fn pieces<L: Level, S: KindSet>(
     tokens: &mut Cursor<'_>,
     level: &L,
     set: S,
-) -> Result<Items<L::Piece>, Halt>
+) -> Result<Items<L::Piece>, StopCause>
     requires { L.can_read level.now }
     ensures { ParsesTo (many (S.included set) (L.pieces level.now) tokens.old.rest.now) result tokens.new.rest.now }
 {
@@ -72,7 +72,7 @@ fn chain_on<L: Level, S: KindSet>(
     level: &L,
     set: S,
     first: ExprTree,
-) -> Result<ExprTree, Halt>
+) -> Result<ExprTree, StopCause>
     requires { L.can_read level.now }
     ensures { ParsesTo (chained_on (S.included set) (L.pieces level.now) L.joins first tokens.old.rest.now)
         result tokens.new.rest.now }
@@ -88,7 +88,7 @@ pub(crate) fn chain<L: Level, S: KindSet>(
     tokens: &mut Cursor<'_>,
     level: &L,
     set: S,
-) -> Result<ExprTree, Halt>
+) -> Result<ExprTree, StopCause>
     requires { L.can_read level.now }
     ensures { ParsesTo (chained (L.operands level.now) (S.included set) (L.pieces level.now) L.joins
         tokens.old.rest.now)

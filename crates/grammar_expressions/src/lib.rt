@@ -15,8 +15,8 @@ mod token_sets;
 
 pub use expression::{NESTING_LIMIT, expr};
 pub use grammar_trees::{
-    Cursor, ExprTree, Halt, KindSet, LexFault, NameSet, PathTree, SyntaxFault, Token, TokenKind,
-    UidTree, lexing_is_unique, path, read_many, read_more, read_to_end, tokens, uid,
+    Cursor, ExprTree, KindSet, LexFault, NameSet, PathTree, StopCause, SyntaxFault, Token,
+    TokenKind, UidTree, lexing_is_unique, path, read_many, read_more, read_to_end, tokens, uid,
 };
 pub use laws::expression_is_unique;
 pub use symbols::{Symbol, take_symbol};

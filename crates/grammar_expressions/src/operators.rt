@@ -14,7 +14,7 @@ use crate::primary::{Reader, indexed};
 use crate::symbols::take_symbol;
 use crate::token_sets::TokenSet;
 use grammar_trees::{
-    Access, Cursor, ExprTree, Halt, KeyTree, NameSet, Related, Sign, Term, Token, TokenKind,
+    Access, Cursor, ExprTree, KeyTree, NameSet, Related, Sign, StopCause, Term, Token, TokenKind,
     relation,
 };
 use plain::{Boxed, Items};
@@ -59,9 +59,9 @@ fn access(name: Token, found: Option<Items<ExprTree>>) -> Access<Items<ExprTree>
     }
 }
 
-impl<F: Fn(Global, &mut Cursor<'_>, usize) -> Result<ExprTree, Halt>> Reader<F> {
+impl<F: Fn(Global, &mut Cursor<'_>, usize) -> Result<ExprTree, StopCause>> Reader<F> {
     #[tactic(auto, unfolding(crate::specs::ExpressionReading::call_arguments))]
-    fn call_arguments(&self, tokens: &mut Cursor<'_>) -> Result<Option<Items<ExprTree>>, Halt>
+    fn call_arguments(&self, tokens: &mut Cursor<'_>) -> Result<Option<Items<ExprTree>>, StopCause>
         requires { Nests self.now.levels (F.pre self.now.expr) (F.post self.now.expr) }
         ensures { ParsesTo (spec.call_arguments (is_positive self.now.levels)
             (spec.expr self.now.levels) tokens.old.rest.now)
@@ -73,7 +73,7 @@ impl<F: Fn(Global, &mut Cursor<'_>, usize) -> Result<ExprTree, Halt>> Reader<F> 
 
     /// [ "(" Arguments ")" ]
     #[tactic(auto, unfolding(crate::specs::ExpressionReading::maybe_called))]
-    fn maybe_called(&self, tokens: &mut Cursor<'_>) -> Result<Option<Items<ExprTree>>, Halt>
+    fn maybe_called(&self, tokens: &mut Cursor<'_>) -> Result<Option<Items<ExprTree>>, StopCause>
         requires { Nests self.now.levels (F.pre self.now.expr) (F.post self.now.expr) }
         ensures { ParsesTo (spec.maybe_called (is_positive self.now.levels) (spec.expr self.now.levels)
             tokens.old.rest.now)
@@ -83,14 +83,14 @@ impl<F: Fn(Global, &mut Cursor<'_>, usize) -> Result<ExprTree, Halt>> Reader<F> 
             return Ok(None);
         }
         if self.levels == 0 {
-            return Err(Halt::TooDeep);
+            return Err(StopCause::TooDeep);
         }
         self.call_arguments(tokens)
     }
 
     /// "." Ident [ "(" Arguments ")" ]
     #[tactic(auto, unfolding(crate::specs::ExpressionReading::dotted))]
-    fn dotted(&self, tokens: &mut Cursor<'_>) -> Result<Access<Items<ExprTree>>, Halt>
+    fn dotted(&self, tokens: &mut Cursor<'_>) -> Result<Access<Items<ExprTree>>, StopCause>
         requires { Nests self.now.levels (F.pre self.now.expr) (F.post self.now.expr) }
         ensures { ParsesTo (spec.dotted (is_positive self.now.levels) (spec.expr self.now.levels) tokens.old.rest.now)
             result tokens.new.rest.now }
@@ -103,7 +103,7 @@ impl<F: Fn(Global, &mut Cursor<'_>, usize) -> Result<ExprTree, Halt>> Reader<F> 
 
     /// Primary { "." Ident [ "(" Arguments ")" ] | "[" String "]" }
     #[tactic(auto, unfolding(crate::specs::ExpressionReading::member, crate::specs::ExpressionReading::accesses))]
-    fn member(&self, tokens: &mut Cursor<'_>) -> Result<ExprTree, Halt>
+    fn member(&self, tokens: &mut Cursor<'_>) -> Result<ExprTree, StopCause>
         requires { Nests self.now.levels (F.pre self.now.expr) (F.post self.now.expr) }
         ensures { ParsesTo (spec.member (is_positive self.now.levels) (spec.expr self.now.levels) tokens.old.rest.now)
             result tokens.new.rest.now }
@@ -112,7 +112,7 @@ impl<F: Fn(Global, &mut Cursor<'_>, usize) -> Result<ExprTree, Halt>> Reader<F> 
     }
 
     /// So many of a prefix at most, and a Member.
-    fn signed(&self, tokens: &mut Cursor<'_>, sign: Prefix, most: u8) -> Result<ExprTree, Halt>
+    fn signed(&self, tokens: &mut Cursor<'_>, sign: Prefix, most: u8) -> Result<ExprTree, StopCause>
         requires { Nests self.now.levels (F.pre self.now.expr) (F.post self.now.expr) }
         ensures { ParsesTo (spec.signed (is_positive self.now.levels) (spec.expr self.now.levels)
             (prefixes.kind_of sign) (prefixes.under sign) most tokens.old.rest.now)
@@ -131,7 +131,7 @@ impl<F: Fn(Global, &mut Cursor<'_>, usize) -> Result<ExprTree, Halt>> Reader<F> 
 
     /// Up to four "!" Member | up to four "-" Member
     #[tactic(auto, unfolding(crate::specs::ExpressionReading::unary, crate::specs::ExpressionReading::signed))]
-    fn unary(&self, tokens: &mut Cursor<'_>) -> Result<ExprTree, Halt>
+    fn unary(&self, tokens: &mut Cursor<'_>) -> Result<ExprTree, StopCause>
         requires { Nests self.now.levels (F.pre self.now.expr) (F.post self.now.expr) }
         ensures { ParsesTo (spec.unary (is_positive self.now.levels) (spec.expr self.now.levels) tokens.old.rest.now)
             result tokens.new.rest.now }
@@ -144,7 +144,7 @@ impl<F: Fn(Global, &mut Cursor<'_>, usize) -> Result<ExprTree, Halt>> Reader<F> 
 
     /// Unary { "*" Unary }
     #[tactic(auto, unfolding(crate::specs::ExpressionReading::product, crate::specs::ExpressionReading::factors))]
-    fn product(&self, tokens: &mut Cursor<'_>) -> Result<ExprTree, Halt>
+    fn product(&self, tokens: &mut Cursor<'_>) -> Result<ExprTree, StopCause>
         requires { Nests self.now.levels (F.pre self.now.expr) (F.post self.now.expr) }
         ensures { ParsesTo (spec.product (is_positive self.now.levels) (spec.expr self.now.levels) tokens.old.rest.now)
             result tokens.new.rest.now }
@@ -154,7 +154,7 @@ impl<F: Fn(Global, &mut Cursor<'_>, usize) -> Result<ExprTree, Halt>> Reader<F> 
 
     /// Product { ("+" | "-") Product }
     #[tactic(auto, unfolding(crate::specs::ExpressionReading::sum, crate::specs::ExpressionReading::terms))]
-    pub(crate) fn sum(&self, tokens: &mut Cursor<'_>) -> Result<ExprTree, Halt>
+    pub(crate) fn sum(&self, tokens: &mut Cursor<'_>) -> Result<ExprTree, StopCause>
         requires { Nests self.now.levels (F.pre self.now.expr) (F.post self.now.expr) }
         ensures { ParsesTo (spec.sum (is_positive self.now.levels) (spec.expr self.now.levels) tokens.old.rest.now)
             result tokens.new.rest.now }
@@ -164,7 +164,7 @@ impl<F: Fn(Global, &mut Cursor<'_>, usize) -> Result<ExprTree, Halt>> Reader<F> 
 
     /// Sum [ comparison Sum | "has" (Ident | String) | "like" Pattern | "is" Path [ "in" Sum ] ]
     #[tactic(auto, unfolding(crate::specs::ExpressionReading::relation))]
-    fn relation(&self, tokens: &mut Cursor<'_>) -> Result<ExprTree, Halt>
+    fn relation(&self, tokens: &mut Cursor<'_>) -> Result<ExprTree, StopCause>
         requires { Nests self.now.levels (F.pre self.now.expr) (F.post self.now.expr) }
         ensures { ParsesTo (spec.relation (is_positive self.now.levels) (spec.expr self.now.levels) tokens.old.rest.now)
             result tokens.new.rest.now }
@@ -174,7 +174,7 @@ impl<F: Fn(Global, &mut Cursor<'_>, usize) -> Result<ExprTree, Halt>> Reader<F> 
 
     /// Relation { "&&" Relation }
     #[tactic(auto, unfolding(crate::specs::ExpressionReading::conjunction, crate::specs::ExpressionReading::ands))]
-    fn conjunction(&self, tokens: &mut Cursor<'_>) -> Result<ExprTree, Halt>
+    fn conjunction(&self, tokens: &mut Cursor<'_>) -> Result<ExprTree, StopCause>
         requires { Nests self.now.levels (F.pre self.now.expr) (F.post self.now.expr) }
         ensures { ParsesTo (spec.conjunction (is_positive self.now.levels)
             (spec.expr self.now.levels) tokens.old.rest.now)
@@ -185,7 +185,7 @@ impl<F: Fn(Global, &mut Cursor<'_>, usize) -> Result<ExprTree, Halt>> Reader<F> 
 
     /// And { "||" And }
     #[tactic(auto, unfolding(crate::specs::ExpressionReading::disjunction, crate::specs::ExpressionReading::ors))]
-    pub(crate) fn disjunction(&self, tokens: &mut Cursor<'_>) -> Result<ExprTree, Halt>
+    pub(crate) fn disjunction(&self, tokens: &mut Cursor<'_>) -> Result<ExprTree, StopCause>
         requires { Nests self.now.levels (F.pre self.now.expr) (F.post self.now.expr) }
         ensures { ParsesTo (spec.disjunction (is_positive self.now.levels)
             (spec.expr self.now.levels) tokens.old.rest.now)
@@ -199,7 +199,8 @@ impl<F: Fn(Global, &mut Cursor<'_>, usize) -> Result<ExprTree, Halt>> Reader<F> 
 #[derive(Drop)]
 struct Members<'r, F>(&'r Reader<F>);
 
-impl<F: Fn(Global, &mut Cursor<'_>, usize) -> Result<ExprTree, Halt>> Level for Members<'_, F> {
+impl<F: Fn(Global, &mut Cursor<'_>, usize) -> Result<ExprTree, StopCause>> Level
+    for Members<'_, F> {
     type Piece = Access<Items<ExprTree>>;
 
     ghost can_read = { λ s. Nests s.0.now.levels (F.pre s.0.now.expr) (F.post s.0.now.expr) };
@@ -210,12 +211,12 @@ impl<F: Fn(Global, &mut Cursor<'_>, usize) -> Result<ExprTree, Halt>> Level for 
 
     ghost joins = { tree.Member };
 
-    fn operand(&self, tokens: &mut Cursor<'_>) -> Result<ExprTree, Halt> {
+    fn operand(&self, tokens: &mut Cursor<'_>) -> Result<ExprTree, StopCause> {
         self.0.primary(tokens)
     }
 
     #[tactic(auto, unfolding(crate::specs::ExpressionReading::accessing))]
-    fn piece(&self, tokens: &mut Cursor<'_>) -> Result<Access<Items<ExprTree>>, Halt> {
+    fn piece(&self, tokens: &mut Cursor<'_>) -> Result<Access<Items<ExprTree>>, StopCause> {
         if tokens.sees(TokenKind::Dot) {
             return self.0.dotted(tokens);
         }
@@ -233,7 +234,8 @@ impl<F: Fn(Global, &mut Cursor<'_>, usize) -> Result<ExprTree, Halt>> Level for 
 #[derive(Drop)]
 struct Products<'r, F>(&'r Reader<F>);
 
-impl<F: Fn(Global, &mut Cursor<'_>, usize) -> Result<ExprTree, Halt>> Level for Products<'_, F> {
+impl<F: Fn(Global, &mut Cursor<'_>, usize) -> Result<ExprTree, StopCause>> Level
+    for Products<'_, F> {
     type Piece = ExprTree;
 
     ghost can_read = { λ s. Nests s.0.now.levels (F.pre s.0.now.expr) (F.post s.0.now.expr) };
@@ -244,12 +246,12 @@ impl<F: Fn(Global, &mut Cursor<'_>, usize) -> Result<ExprTree, Halt>> Level for 
 
     ghost joins = { tree.Product };
 
-    fn operand(&self, tokens: &mut Cursor<'_>) -> Result<ExprTree, Halt> {
+    fn operand(&self, tokens: &mut Cursor<'_>) -> Result<ExprTree, StopCause> {
         self.0.unary(tokens)
     }
 
     #[tactic(auto, unfolding(crate::specs::ExpressionReading::factor))]
-    fn piece(&self, tokens: &mut Cursor<'_>) -> Result<ExprTree, Halt> {
+    fn piece(&self, tokens: &mut Cursor<'_>) -> Result<ExprTree, StopCause> {
         tokens.take(TokenKind::Star)?;
         self.0.unary(tokens)
     }
@@ -265,7 +267,7 @@ impl<F: Fn(Global, &mut Cursor<'_>, usize) -> Result<ExprTree, Halt>> Level for 
 #[derive(Drop)]
 struct Sums<'r, F>(&'r Reader<F>);
 
-impl<F: Fn(Global, &mut Cursor<'_>, usize) -> Result<ExprTree, Halt>> Level for Sums<'_, F> {
+impl<F: Fn(Global, &mut Cursor<'_>, usize) -> Result<ExprTree, StopCause>> Level for Sums<'_, F> {
     type Piece = Term<ExprTree>;
 
     ghost can_read = { λ s. Nests s.0.now.levels (F.pre s.0.now.expr) (F.post s.0.now.expr) };
@@ -276,12 +278,12 @@ impl<F: Fn(Global, &mut Cursor<'_>, usize) -> Result<ExprTree, Halt>> Level for 
 
     ghost joins = { tree.Sum };
 
-    fn operand(&self, tokens: &mut Cursor<'_>) -> Result<ExprTree, Halt> {
+    fn operand(&self, tokens: &mut Cursor<'_>) -> Result<ExprTree, StopCause> {
         self.0.product(tokens)
     }
 
     #[tactic(auto, unfolding(crate::specs::ExpressionReading::term))]
-    fn piece(&self, tokens: &mut Cursor<'_>) -> Result<Term<ExprTree>, Halt> {
+    fn piece(&self, tokens: &mut Cursor<'_>) -> Result<Term<ExprTree>, StopCause> {
         let sign = take_symbol::<Sign>(tokens)?;
         let operand = self.0.product(tokens)?;
         Ok(Term { sign, operand })
@@ -298,7 +300,8 @@ impl<F: Fn(Global, &mut Cursor<'_>, usize) -> Result<ExprTree, Halt>> Level for 
 #[derive(Drop)]
 struct Relations<'r, F>(&'r Reader<F>);
 
-impl<F: Fn(Global, &mut Cursor<'_>, usize) -> Result<ExprTree, Halt>> Related for Relations<'_, F> {
+impl<F: Fn(Global, &mut Cursor<'_>, usize) -> Result<ExprTree, StopCause>> Related
+    for Relations<'_, F> {
     ghost can_read = { λ s. Nests s.0.now.levels (F.pre s.0.now.expr) (F.post s.0.now.expr) };
 
     ghost operands = { λ s. grammar.sum (is_positive s.0.now.levels) (grammar.expr s.0.now.levels) };
@@ -309,11 +312,11 @@ impl<F: Fn(Global, &mut Cursor<'_>, usize) -> Result<ExprTree, Halt>> Related fo
 
     ghost reads_tail = { λ s. spec.related (is_positive s.0.now.levels) (spec.expr s.0.now.levels) };
 
-    fn operand(&self, tokens: &mut Cursor<'_>) -> Result<ExprTree, Halt> {
+    fn operand(&self, tokens: &mut Cursor<'_>) -> Result<ExprTree, StopCause> {
         self.0.sum(tokens)
     }
 
-    fn with_tail(&self, tokens: &mut Cursor<'_>, x: ExprTree) -> Result<ExprTree, Halt> {
+    fn with_tail(&self, tokens: &mut Cursor<'_>, x: ExprTree) -> Result<ExprTree, StopCause> {
         self.0.related(tokens, x)
     }
 }
@@ -322,7 +325,7 @@ impl<F: Fn(Global, &mut Cursor<'_>, usize) -> Result<ExprTree, Halt>> Related fo
 #[derive(Drop)]
 struct Conjunctions<'r, F>(&'r Reader<F>);
 
-impl<F: Fn(Global, &mut Cursor<'_>, usize) -> Result<ExprTree, Halt>> Level
+impl<F: Fn(Global, &mut Cursor<'_>, usize) -> Result<ExprTree, StopCause>> Level
     for Conjunctions<'_, F> {
     type Piece = ExprTree;
 
@@ -334,12 +337,12 @@ impl<F: Fn(Global, &mut Cursor<'_>, usize) -> Result<ExprTree, Halt>> Level
 
     ghost joins = { tree.And };
 
-    fn operand(&self, tokens: &mut Cursor<'_>) -> Result<ExprTree, Halt> {
+    fn operand(&self, tokens: &mut Cursor<'_>) -> Result<ExprTree, StopCause> {
         self.0.relation(tokens)
     }
 
     #[tactic(auto, unfolding(crate::specs::ExpressionReading::next_and))]
-    fn piece(&self, tokens: &mut Cursor<'_>) -> Result<ExprTree, Halt> {
+    fn piece(&self, tokens: &mut Cursor<'_>) -> Result<ExprTree, StopCause> {
         tokens.take(TokenKind::And)?;
         self.0.relation(tokens)
     }
@@ -355,7 +358,7 @@ impl<F: Fn(Global, &mut Cursor<'_>, usize) -> Result<ExprTree, Halt>> Level
 #[derive(Drop)]
 struct Disjunctions<'r, F>(&'r Reader<F>);
 
-impl<F: Fn(Global, &mut Cursor<'_>, usize) -> Result<ExprTree, Halt>> Level
+impl<F: Fn(Global, &mut Cursor<'_>, usize) -> Result<ExprTree, StopCause>> Level
     for Disjunctions<'_, F> {
     type Piece = ExprTree;
 
@@ -367,12 +370,12 @@ impl<F: Fn(Global, &mut Cursor<'_>, usize) -> Result<ExprTree, Halt>> Level
 
     ghost joins = { tree.Or };
 
-    fn operand(&self, tokens: &mut Cursor<'_>) -> Result<ExprTree, Halt> {
+    fn operand(&self, tokens: &mut Cursor<'_>) -> Result<ExprTree, StopCause> {
         self.0.conjunction(tokens)
     }
 
     #[tactic(auto, unfolding(crate::specs::ExpressionReading::next_or))]
-    fn piece(&self, tokens: &mut Cursor<'_>) -> Result<ExprTree, Halt> {
+    fn piece(&self, tokens: &mut Cursor<'_>) -> Result<ExprTree, StopCause> {
         tokens.take(TokenKind::Or)?;
         self.0.conjunction(tokens)
     }

@@ -5,12 +5,12 @@ ghost use Rattle.grammar_expressions.specs.ExpressionReading as spec;
 ghost use Rattle.grammar_expressions.specs.Expressions.{is_positive};
 ghost use Rattle.grammar_trees.specs.grammar_tokens.ParsesTo.{ParsesTo};
 ghost use Rattle.grammar_expressions.specs.inner.Nests.{Nests};
-ghost use Rattle.grammar_trees.specs.grammar_tokens.declared.fault.Halt.TheVariants as halt;
+ghost use Rattle.grammar_trees.specs.grammar_tokens.declared.fault.StopCause.TheVariants as halt;
 
 use crate::symbols::{Symbol, take_symbol};
 use crate::token_sets::TokenSet;
 use grammar_trees::{
-    Access, Cursor, Entry, ExprTree, Halt, KeyTree, Name, NameSet, PathTree, Token, TokenKind,
+    Access, Cursor, Entry, ExprTree, KeyTree, Name, NameSet, PathTree, StopCause, Token, TokenKind,
     Variable, read_more, rest_of_name,
 };
 use plain::{Boxed, Items, beside};
@@ -18,7 +18,7 @@ use std::alloc::Global;
 
 /// "true" | "false" | Number | String
 #[tactic(auto, unfolding(crate::specs::ExpressionReading::literal))]
-fn literal(tokens: &mut Cursor<'_>) -> Result<ExprTree, Halt>
+fn literal(tokens: &mut Cursor<'_>) -> Result<ExprTree, StopCause>
     ensures reads { ParsesTo (spec.literal tokens.old.rest.now) result tokens.new.rest.now }
     ensures only { IfErr result (λ why. why ≡ halt.Unexpected) }
 {
@@ -36,7 +36,7 @@ fn literal(tokens: &mut Cursor<'_>) -> Result<ExprTree, Halt>
 
 /// Ident | String
 #[tactic(auto, unfolding(crate::specs::ExpressionReading::key))]
-pub(crate) fn key(tokens: &mut Cursor<'_>) -> Result<KeyTree, Halt>
+pub(crate) fn key(tokens: &mut Cursor<'_>) -> Result<KeyTree, StopCause>
     ensures reads { ParsesTo (spec.key tokens.old.rest.now) result tokens.new.rest.now }
     ensures only { IfErr result (λ why. why ≡ halt.Unexpected) }
 {
@@ -50,7 +50,7 @@ pub(crate) fn key(tokens: &mut Cursor<'_>) -> Result<KeyTree, Halt>
 
 /// "[" String "]"
 #[tactic(auto, unfolding(crate::specs::ExpressionReading::indexed))]
-pub(crate) fn indexed(tokens: &mut Cursor<'_>) -> Result<Access<Items<ExprTree>>, Halt>
+pub(crate) fn indexed(tokens: &mut Cursor<'_>) -> Result<Access<Items<ExprTree>>, StopCause>
     ensures reads { ParsesTo (spec.indexed tokens.old.rest.now) result tokens.new.rest.now }
     ensures only { IfErr result (λ why. why ≡ halt.Unexpected) }
 {
@@ -72,13 +72,13 @@ fn variable_at(path: &PathTree) -> Option<Variable>
 
 /// Returns a Path that no argument follows: the word of a variable, or nothing.
 #[tactic(auto, unfolding(crate::specs::ExpressionReading::alone))]
-fn alone(tokens: &Cursor<'_>, path: PathTree) -> Result<ExprTree, Halt>
+fn alone(tokens: &Cursor<'_>, path: PathTree) -> Result<ExprTree, StopCause>
     ensures reads { ParsesTo (spec.alone path tokens.now.rest.now) result tokens.now.rest.now }
     ensures only { IfErr result (λ why. why ≡ halt.Unexpected) }
 {
     match variable_at(&path) {
         Some(variable) => Ok(ExprTree::Variable(variable)),
-        None => Err(Halt::Unexpected),
+        None => Err(StopCause::Unexpected),
     }
 }
 
@@ -92,9 +92,9 @@ pub(crate) struct Reader<F> {
     pub(crate) expr: F,
 }
 
-impl<F: Fn(Global, &mut Cursor<'_>, usize) -> Result<ExprTree, Halt>> Reader<F> {
+impl<F: Fn(Global, &mut Cursor<'_>, usize) -> Result<ExprTree, StopCause>> Reader<F> {
     /// Returns an expression one level deeper.
-    pub(crate) fn inner(&self, tokens: &mut Cursor<'_>) -> Result<ExprTree, Halt>
+    pub(crate) fn inner(&self, tokens: &mut Cursor<'_>) -> Result<ExprTree, StopCause>
         requires { Nests self.now.levels (F.pre self.now.expr) (F.post self.now.expr) }
         ensures { ParsesTo (spec.expr self.now.levels tokens.old.rest.now) result tokens.new.rest.now }
     {
@@ -102,7 +102,7 @@ impl<F: Fn(Global, &mut Cursor<'_>, usize) -> Result<ExprTree, Halt>> Reader<F> 
     }
 
     /// Returns an expression one level deeper, in memory of its own.
-    pub(crate) fn boxed_inner(&self, tokens: &mut Cursor<'_>) -> Result<Boxed<ExprTree>, Halt>
+    pub(crate) fn boxed_inner(&self, tokens: &mut Cursor<'_>) -> Result<Boxed<ExprTree>, StopCause>
         requires { Nests self.now.levels (F.pre self.now.expr) (F.post self.now.expr) }
         ensures { ParsesTo (spec.expr self.now.levels tokens.old.rest.now) result tokens.new.rest.now }
     {
@@ -111,7 +111,7 @@ impl<F: Fn(Global, &mut Cursor<'_>, usize) -> Result<ExprTree, Halt>> Reader<F> 
     }
 
     #[tactic(auto, unfolding(crate::specs::ExpressionReading::next_argument))]
-    fn next_argument(&self, tokens: &mut Cursor<'_>) -> Result<ExprTree, Halt>
+    fn next_argument(&self, tokens: &mut Cursor<'_>) -> Result<ExprTree, StopCause>
         requires { Nests self.now.levels (F.pre self.now.expr) (F.post self.now.expr) }
         ensures { ParsesTo (spec.next_argument (is_positive self.now.levels) (spec.expr self.now.levels)
             tokens.old.rest.now)
@@ -125,7 +125,7 @@ impl<F: Fn(Global, &mut Cursor<'_>, usize) -> Result<ExprTree, Halt>> Reader<F> 
         &self,
         tokens: &mut Cursor<'_>,
         first: ExprTree,
-    ) -> Result<Items<ExprTree>, Halt>
+    ) -> Result<Items<ExprTree>, StopCause>
         requires { Nests self.now.levels (F.pre self.now.expr) (F.post self.now.expr) }
         ensures { ParsesTo (spec.rest_of_arguments (is_positive self.now.levels) (spec.expr self.now.levels)
             first tokens.old.rest.now)
@@ -138,7 +138,7 @@ impl<F: Fn(Global, &mut Cursor<'_>, usize) -> Result<ExprTree, Halt>> Reader<F> 
 
     /// [ Expr { "," Expr } ]
     #[tactic(auto, unfolding(crate::specs::ExpressionReading::arguments))]
-    fn arguments(&self, tokens: &mut Cursor<'_>) -> Result<Items<ExprTree>, Halt>
+    fn arguments(&self, tokens: &mut Cursor<'_>) -> Result<Items<ExprTree>, StopCause>
         requires { Nests self.now.levels (F.pre self.now.expr) (F.post self.now.expr) }
         ensures { ParsesTo (spec.arguments (is_positive self.now.levels)
             (spec.expr self.now.levels) tokens.old.rest.now)
@@ -153,7 +153,7 @@ impl<F: Fn(Global, &mut Cursor<'_>, usize) -> Result<ExprTree, Halt>> Reader<F> 
 
     /// "(" Arguments ")"
     #[tactic(auto, unfolding(crate::specs::ExpressionReading::called))]
-    pub(crate) fn called(&self, tokens: &mut Cursor<'_>) -> Result<Items<ExprTree>, Halt>
+    pub(crate) fn called(&self, tokens: &mut Cursor<'_>) -> Result<Items<ExprTree>, StopCause>
         requires { Nests self.now.levels (F.pre self.now.expr) (F.post self.now.expr) }
         ensures { ParsesTo (spec.called (is_positive self.now.levels) (spec.expr self.now.levels) tokens.old.rest.now)
             result tokens.new.rest.now }
@@ -166,7 +166,7 @@ impl<F: Fn(Global, &mut Cursor<'_>, usize) -> Result<ExprTree, Halt>> Reader<F> 
 
     /// Key ":" Expr
     #[tactic(auto, unfolding(crate::specs::ExpressionReading::entry))]
-    fn entry(&self, tokens: &mut Cursor<'_>) -> Result<Entry<ExprTree>, Halt>
+    fn entry(&self, tokens: &mut Cursor<'_>) -> Result<Entry<ExprTree>, StopCause>
         requires { Nests self.now.levels (F.pre self.now.expr) (F.post self.now.expr) }
         ensures { ParsesTo (spec.entry (is_positive self.now.levels) (spec.expr self.now.levels) tokens.old.rest.now)
             result tokens.new.rest.now }
@@ -178,7 +178,7 @@ impl<F: Fn(Global, &mut Cursor<'_>, usize) -> Result<ExprTree, Halt>> Reader<F> 
     }
 
     #[tactic(auto, unfolding(crate::specs::ExpressionReading::next_entry))]
-    fn next_entry(&self, tokens: &mut Cursor<'_>) -> Result<Entry<ExprTree>, Halt>
+    fn next_entry(&self, tokens: &mut Cursor<'_>) -> Result<Entry<ExprTree>, StopCause>
         requires { Nests self.now.levels (F.pre self.now.expr) (F.post self.now.expr) }
         ensures { ParsesTo (spec.next_entry (is_positive self.now.levels)
             (spec.expr self.now.levels) tokens.old.rest.now)
@@ -192,7 +192,7 @@ impl<F: Fn(Global, &mut Cursor<'_>, usize) -> Result<ExprTree, Halt>> Reader<F> 
         &self,
         tokens: &mut Cursor<'_>,
         first: Entry<ExprTree>,
-    ) -> Result<Items<Entry<ExprTree>>, Halt>
+    ) -> Result<Items<Entry<ExprTree>>, StopCause>
         requires { Nests self.now.levels (F.pre self.now.expr) (F.post self.now.expr) }
         ensures { ParsesTo (spec.rest_of_entries (is_positive self.now.levels) (spec.expr self.now.levels)
             first tokens.old.rest.now)
@@ -205,7 +205,7 @@ impl<F: Fn(Global, &mut Cursor<'_>, usize) -> Result<ExprTree, Halt>> Reader<F> 
 
     /// [ Key ":" Expr { "," Key ":" Expr } ]
     #[tactic(auto, unfolding(crate::specs::ExpressionReading::entries))]
-    fn entries(&self, tokens: &mut Cursor<'_>) -> Result<Items<Entry<ExprTree>>, Halt>
+    fn entries(&self, tokens: &mut Cursor<'_>) -> Result<Items<Entry<ExprTree>>, StopCause>
         requires { Nests self.now.levels (F.pre self.now.expr) (F.post self.now.expr) }
         ensures { ParsesTo (spec.entries (is_positive self.now.levels) (spec.expr self.now.levels) tokens.old.rest.now)
             result tokens.new.rest.now }
@@ -218,7 +218,7 @@ impl<F: Fn(Global, &mut Cursor<'_>, usize) -> Result<ExprTree, Halt>> Reader<F> 
     }
 
     #[tactic(auto, unfolding(crate::specs::ExpressionReading::call_of))]
-    fn call_of(&self, tokens: &mut Cursor<'_>, path: PathTree) -> Result<ExprTree, Halt>
+    fn call_of(&self, tokens: &mut Cursor<'_>, path: PathTree) -> Result<ExprTree, StopCause>
         requires { Nests self.now.levels (F.pre self.now.expr) (F.post self.now.expr) }
         ensures { ParsesTo (spec.call_of (is_positive self.now.levels) (spec.expr self.now.levels) path
             tokens.old.rest.now)
@@ -229,7 +229,11 @@ impl<F: Fn(Global, &mut Cursor<'_>, usize) -> Result<ExprTree, Halt>> Reader<F> 
     }
 
     #[tactic(auto, unfolding(crate::specs::ExpressionReading::call_or_variable))]
-    fn call_or_variable(&self, tokens: &mut Cursor<'_>, path: PathTree) -> Result<ExprTree, Halt>
+    fn call_or_variable(
+        &self,
+        tokens: &mut Cursor<'_>,
+        path: PathTree,
+    ) -> Result<ExprTree, StopCause>
         requires { Nests self.now.levels (F.pre self.now.expr) (F.post self.now.expr) }
         ensures { ParsesTo (spec.call_or_variable (is_positive self.now.levels) (spec.expr self.now.levels)
             path tokens.old.rest.now)
@@ -239,13 +243,13 @@ impl<F: Fn(Global, &mut Cursor<'_>, usize) -> Result<ExprTree, Halt>> Reader<F> 
             return alone(tokens, path);
         }
         if self.levels == 0 {
-            return Err(Halt::TooDeep);
+            return Err(StopCause::TooDeep);
         }
         self.call_of(tokens, path)
     }
 
     #[tactic(auto, unfolding(crate::specs::ExpressionReading::rest_of_named))]
-    fn rest_of_named(&self, tokens: &mut Cursor<'_>, first: Token) -> Result<ExprTree, Halt>
+    fn rest_of_named(&self, tokens: &mut Cursor<'_>, first: Token) -> Result<ExprTree, StopCause>
         requires { Nests self.now.levels (F.pre self.now.expr) (F.post self.now.expr) }
         ensures { ParsesTo (spec.rest_of_named (is_positive self.now.levels) (spec.expr self.now.levels)
             first tokens.old.rest.now)
@@ -259,7 +263,7 @@ impl<F: Fn(Global, &mut Cursor<'_>, usize) -> Result<ExprTree, Halt>> Reader<F> 
 
     /// Variable | Uid | Path "(" Arguments ")"
     #[tactic(auto, unfolding(crate::specs::ExpressionReading::named))]
-    fn named(&self, tokens: &mut Cursor<'_>) -> Result<ExprTree, Halt>
+    fn named(&self, tokens: &mut Cursor<'_>) -> Result<ExprTree, StopCause>
         requires { Nests self.now.levels (F.pre self.now.expr) (F.post self.now.expr) }
         ensures { ParsesTo (spec.named (is_positive self.now.levels) (spec.expr self.now.levels) tokens.old.rest.now)
             result tokens.new.rest.now }
@@ -270,7 +274,7 @@ impl<F: Fn(Global, &mut Cursor<'_>, usize) -> Result<ExprTree, Halt>> Reader<F> 
 
     /// "(" Expr ")"
     #[tactic(auto, unfolding(crate::specs::ExpressionReading::parenthesized))]
-    fn parenthesized(&self, tokens: &mut Cursor<'_>) -> Result<ExprTree, Halt>
+    fn parenthesized(&self, tokens: &mut Cursor<'_>) -> Result<ExprTree, StopCause>
         requires { Nests self.now.levels (F.pre self.now.expr) (F.post self.now.expr) }
         ensures { ParsesTo (spec.parenthesized (is_positive self.now.levels) (spec.expr self.now.levels)
             tokens.old.rest.now)
@@ -284,7 +288,7 @@ impl<F: Fn(Global, &mut Cursor<'_>, usize) -> Result<ExprTree, Halt>> Reader<F> 
 
     /// "[" Arguments "]"
     #[tactic(auto, unfolding(crate::specs::ExpressionReading::set))]
-    fn set(&self, tokens: &mut Cursor<'_>) -> Result<ExprTree, Halt>
+    fn set(&self, tokens: &mut Cursor<'_>) -> Result<ExprTree, StopCause>
         requires { Nests self.now.levels (F.pre self.now.expr) (F.post self.now.expr) }
         ensures { ParsesTo (spec.set (is_positive self.now.levels) (spec.expr self.now.levels) tokens.old.rest.now)
             result tokens.new.rest.now }
@@ -297,7 +301,7 @@ impl<F: Fn(Global, &mut Cursor<'_>, usize) -> Result<ExprTree, Halt>> Reader<F> 
 
     /// "{" [ Key ":" Expr { "," Key ":" Expr } ] "}"
     #[tactic(auto, unfolding(crate::specs::ExpressionReading::braced))]
-    fn braced(&self, tokens: &mut Cursor<'_>) -> Result<ExprTree, Halt>
+    fn braced(&self, tokens: &mut Cursor<'_>) -> Result<ExprTree, StopCause>
         requires { Nests self.now.levels (F.pre self.now.expr) (F.post self.now.expr) }
         ensures { ParsesTo (spec.braced (is_positive self.now.levels) (spec.expr self.now.levels) tokens.old.rest.now)
             result tokens.new.rest.now }
@@ -309,7 +313,7 @@ impl<F: Fn(Global, &mut Cursor<'_>, usize) -> Result<ExprTree, Halt>> Reader<F> 
     }
 
     #[tactic(auto, unfolding(crate::specs::ExpressionReading::nested))]
-    fn nested(&self, tokens: &mut Cursor<'_>) -> Result<ExprTree, Halt>
+    fn nested(&self, tokens: &mut Cursor<'_>) -> Result<ExprTree, StopCause>
         requires { Nests self.now.levels (F.pre self.now.expr) (F.post self.now.expr) }
         ensures { ParsesTo (spec.nested (is_positive self.now.levels) (spec.expr self.now.levels) tokens.old.rest.now)
             result tokens.new.rest.now }
@@ -325,7 +329,7 @@ impl<F: Fn(Global, &mut Cursor<'_>, usize) -> Result<ExprTree, Halt>> Reader<F> 
 
     /// Variable | Uid | Call | "(" Expr ")" | "[" Arguments "]" | "{" .. "}" | Literal
     #[tactic(auto, unfolding(crate::specs::ExpressionReading::primary))]
-    pub(crate) fn primary(&self, tokens: &mut Cursor<'_>) -> Result<ExprTree, Halt>
+    pub(crate) fn primary(&self, tokens: &mut Cursor<'_>) -> Result<ExprTree, StopCause>
         requires { Nests self.now.levels (F.pre self.now.expr) (F.post self.now.expr) }
         ensures { ParsesTo (spec.primary (is_positive self.now.levels) (spec.expr self.now.levels) tokens.old.rest.now)
             result tokens.new.rest.now }
@@ -337,7 +341,7 @@ impl<F: Fn(Global, &mut Cursor<'_>, usize) -> Result<ExprTree, Halt>> Reader<F> 
             return literal(tokens);
         }
         if self.levels == 0 {
-            return Err(Halt::TooDeep);
+            return Err(StopCause::TooDeep);
         }
         self.nested(tokens)
     }

@@ -11,7 +11,7 @@ use crate::primary::{Reader, key};
 use crate::symbols::take_symbol;
 use crate::token_sets::TokenSet;
 use grammar_trees::{
-    Comparison, Cursor, ExprTree, Halt, KeyTree, PathTree, Token, TokenKind, path,
+    Comparison, Cursor, ExprTree, KeyTree, PathTree, StopCause, Token, TokenKind, path,
 };
 use plain::{Boxed, beside};
 use std::alloc::{AllocError, Global};
@@ -31,7 +31,7 @@ pub(crate) enum Tail {
 
 /// "has" (Ident | String)
 #[tactic(auto, unfolding(crate::specs::inner::Tails::has))]
-fn has(tokens: &mut Cursor<'_>) -> Result<Option<Tail>, Halt>
+fn has(tokens: &mut Cursor<'_>) -> Result<Option<Tail>, StopCause>
     ensures { ParsesTo (tails.has tokens.old.rest.now) result tokens.new.rest.now }
 {
     tokens.take(TokenKind::Has)?;
@@ -41,7 +41,7 @@ fn has(tokens: &mut Cursor<'_>) -> Result<Option<Tail>, Halt>
 
 /// "like" Pattern
 #[tactic(auto, unfolding(crate::specs::inner::Tails::like))]
-fn like(tokens: &mut Cursor<'_>) -> Result<Option<Tail>, Halt>
+fn like(tokens: &mut Cursor<'_>) -> Result<Option<Tail>, StopCause>
     ensures { ParsesTo (tails.like tokens.old.rest.now) result tokens.new.rest.now }
 {
     tokens.take(TokenKind::Like)?;
@@ -75,9 +75,9 @@ fn relate(alloc: Global, x: ExprTree, tail: Option<Tail>) -> Result<ExprTree, Al
     }
 }
 
-impl<F: Fn(Global, &mut Cursor<'_>, usize) -> Result<ExprTree, Halt>> Reader<F> {
+impl<F: Fn(Global, &mut Cursor<'_>, usize) -> Result<ExprTree, StopCause>> Reader<F> {
     /// Returns a Sum in memory of its own.
-    fn boxed_sum(&self, tokens: &mut Cursor<'_>) -> Result<Boxed<ExprTree>, Halt>
+    fn boxed_sum(&self, tokens: &mut Cursor<'_>) -> Result<Boxed<ExprTree>, StopCause>
         requires { Nests self.now.levels (F.pre self.now.expr) (F.post self.now.expr) }
         ensures { ParsesTo (spec.sum (is_positive self.now.levels) (spec.expr self.now.levels) tokens.old.rest.now)
             result tokens.new.rest.now }
@@ -88,7 +88,7 @@ impl<F: Fn(Global, &mut Cursor<'_>, usize) -> Result<ExprTree, Halt>> Reader<F> 
 
     /// ("<" | "<=" | ">" | ">=" | "==" | "!=" | "in") Sum
     #[tactic(auto, unfolding(crate::specs::inner::Tails::compared))]
-    fn compared(&self, tokens: &mut Cursor<'_>) -> Result<Option<Tail>, Halt>
+    fn compared(&self, tokens: &mut Cursor<'_>) -> Result<Option<Tail>, StopCause>
         requires { Nests self.now.levels (F.pre self.now.expr) (F.post self.now.expr) }
         ensures { ParsesTo (tails.compared (is_positive self.now.levels)
             (spec.expr self.now.levels) tokens.old.rest.now)
@@ -100,7 +100,7 @@ impl<F: Fn(Global, &mut Cursor<'_>, usize) -> Result<ExprTree, Halt>> Reader<F> 
     }
 
     #[tactic(auto, unfolding(crate::specs::ExpressionReading::inside))]
-    fn inside(&self, tokens: &mut Cursor<'_>) -> Result<Boxed<ExprTree>, Halt>
+    fn inside(&self, tokens: &mut Cursor<'_>) -> Result<Boxed<ExprTree>, StopCause>
         requires { Nests self.now.levels (F.pre self.now.expr) (F.post self.now.expr) }
         ensures { ParsesTo (spec.inside (is_positive self.now.levels) (spec.expr self.now.levels) tokens.old.rest.now)
             result tokens.new.rest.now }
@@ -111,7 +111,7 @@ impl<F: Fn(Global, &mut Cursor<'_>, usize) -> Result<ExprTree, Halt>> Reader<F> 
 
     /// [ "in" Sum ]
     #[tactic(auto, unfolding(crate::specs::ExpressionReading::maybe_inside))]
-    fn maybe_inside(&self, tokens: &mut Cursor<'_>) -> Result<Option<Boxed<ExprTree>>, Halt>
+    fn maybe_inside(&self, tokens: &mut Cursor<'_>) -> Result<Option<Boxed<ExprTree>>, StopCause>
         requires { Nests self.now.levels (F.pre self.now.expr) (F.post self.now.expr) }
         ensures { ParsesTo (spec.maybe_inside (is_positive self.now.levels)
             (spec.expr self.now.levels) tokens.old.rest.now)
@@ -126,7 +126,7 @@ impl<F: Fn(Global, &mut Cursor<'_>, usize) -> Result<ExprTree, Halt>> Reader<F> 
 
     /// "is" Path [ "in" Sum ]
     #[tactic(auto, unfolding(crate::specs::inner::Tails::type_test))]
-    fn type_test(&self, tokens: &mut Cursor<'_>) -> Result<Option<Tail>, Halt>
+    fn type_test(&self, tokens: &mut Cursor<'_>) -> Result<Option<Tail>, StopCause>
         requires { Nests self.now.levels (F.pre self.now.expr) (F.post self.now.expr) }
         ensures { ParsesTo (tails.type_test (is_positive self.now.levels)
             (spec.expr self.now.levels) tokens.old.rest.now) result tokens.new.rest.now }
@@ -138,7 +138,7 @@ impl<F: Fn(Global, &mut Cursor<'_>, usize) -> Result<ExprTree, Halt>> Reader<F> 
     }
 
     #[tactic(auto, unfolding(crate::specs::inner::Tails::test_tail))]
-    fn test_tail(&self, tokens: &mut Cursor<'_>) -> Result<Option<Tail>, Halt>
+    fn test_tail(&self, tokens: &mut Cursor<'_>) -> Result<Option<Tail>, StopCause>
         requires { Nests self.now.levels (F.pre self.now.expr) (F.post self.now.expr) }
         ensures { ParsesTo (tails.test_tail (is_positive self.now.levels)
             (spec.expr self.now.levels) tokens.old.rest.now)
@@ -158,7 +158,7 @@ impl<F: Fn(Global, &mut Cursor<'_>, usize) -> Result<ExprTree, Halt>> Reader<F> 
 
     /// [ comparison Sum | "has" (Ident | String) | "like" Pattern | "is" Path [ "in" Sum ] ]
     #[tactic(auto, unfolding(crate::specs::inner::Tails::tail))]
-    fn tail(&self, tokens: &mut Cursor<'_>) -> Result<Option<Tail>, Halt>
+    fn tail(&self, tokens: &mut Cursor<'_>) -> Result<Option<Tail>, StopCause>
         requires { Nests self.now.levels (F.pre self.now.expr) (F.post self.now.expr) }
         ensures { ParsesTo (tails.tail (is_positive self.now.levels) (spec.expr self.now.levels) tokens.old.rest.now)
             result tokens.new.rest.now }
@@ -170,7 +170,7 @@ impl<F: Fn(Global, &mut Cursor<'_>, usize) -> Result<ExprTree, Halt>> Reader<F> 
     }
 
     #[tactic(auto, unfolding(crate::specs::inner::Tails::joined))]
-    fn join_tail(&self, tokens: &mut Cursor<'_>, x: ExprTree) -> Result<ExprTree, Halt>
+    fn join_tail(&self, tokens: &mut Cursor<'_>, x: ExprTree) -> Result<ExprTree, StopCause>
         requires { Nests self.now.levels (F.pre self.now.expr) (F.post self.now.expr) }
         ensures { ParsesTo (tails.joined (is_positive self.now.levels)
             (spec.expr self.now.levels) x tokens.old.rest.now)
@@ -181,7 +181,11 @@ impl<F: Fn(Global, &mut Cursor<'_>, usize) -> Result<ExprTree, Halt>> Reader<F> 
     }
 
     /// Returns a relation, of its first Sum and what stands behind it.
-    pub(crate) fn related(&self, tokens: &mut Cursor<'_>, x: ExprTree) -> Result<ExprTree, Halt>
+    pub(crate) fn related(
+        &self,
+        tokens: &mut Cursor<'_>,
+        x: ExprTree,
+    ) -> Result<ExprTree, StopCause>
         requires { Nests self.now.levels (F.pre self.now.expr) (F.post self.now.expr) }
         ensures { ParsesTo (spec.related (is_positive self.now.levels)
             (spec.expr self.now.levels) x tokens.old.rest.now)

@@ -3,11 +3,11 @@
 ghost use Rattle.std.specs.Prelude.{◌≡◌, IfErr, Option};
 ghost use Rattle.grammar_trees.specs.grammar_tokens.declared.token.TokenKind as kinds;
 ghost use Rattle.grammar_trees.specs.grammar_tokens.ParsesTo.{ParsesTo};
-ghost use Rattle.grammar_trees.specs.grammar_tokens.declared.fault.Halt.TheVariants as halt;
+ghost use Rattle.grammar_trees.specs.grammar_tokens.declared.fault.StopCause.TheVariants as halt;
 ghost use Rattle.grammar_expressions.specs.Expressions.{boolean_of, variable_of, sign_of, comparison_of};
 ghost use Rattle.grammar_expressions.specs.ExpressionReading as spec;
 
-use grammar_trees::{Comparison, Cursor, Halt, Sign, TokenKind, Variable};
+use grammar_trees::{Comparison, Cursor, Sign, StopCause, TokenKind, Variable};
 
 /// What tokens of some kinds stand for, each by its kind alone.
 pub trait Symbol: Copy {
@@ -75,18 +75,18 @@ impl Symbol for Comparison {
 
 /// Returns what the next token stands for, which has to be something of this type; else none is taken.
 #[tactic(auto, unfolding(crate::specs::ExpressionReading::symbol))]
-pub fn take_symbol<S: Symbol>(tokens: &mut Cursor<'_>) -> Result<S, Halt>
+pub fn take_symbol<S: Symbol>(tokens: &mut Cursor<'_>) -> Result<S, StopCause>
     ensures reads { ParsesTo (spec.symbol S.meaning tokens.old.rest.now) result tokens.new.rest.now }
     ensures only { IfErr result (λ why. why ≡ halt.Unexpected) }
 {
     let [token, rest @ ..] = tokens.rest else {
-        return Err(Halt::Unexpected);
+        return Err(StopCause::Unexpected);
     };
     match S::of(token.kind) {
         Some(meant) => {
             tokens.rest = rest;
             Ok(meant)
         }
-        None => Err(Halt::Unexpected),
+        None => Err(StopCause::Unexpected),
     }
 }

@@ -1,7 +1,7 @@
 -- A policy and a list of policies, each as a whole list of tokens.
 use Rattle.std.proofs.Common.{suc, ◌-◌, Result, List, length}
 use Rattle.grammar_expressions.specs.grammar_tokens.declared.token.Token.{Token}
-use Rattle.grammar_expressions.specs.grammar_tokens.declared.fault.Halt.{Halt}
+use Rattle.grammar_expressions.specs.grammar_tokens.declared.fault.StopCause.{StopCause}
 use Rattle.grammar_policies.specs.declared.tree.PolicyTree.{PolicyTree}
 use Rattle.grammar_policies.specs.Grammar as g
 use Rattle.grammar_policies.specs.inner.Parsing as r
@@ -26,7 +26,7 @@ one_policy_at_any = depths.one_tree_at_any g.policy r.policy none policy_rule (�
 pub policy_answer : HasOneAnswerWithin (g.policy nesting_limit) (at_any g.policy)
 policy_answer = depths.one_answer g.policy r.policy none policy_rule (λ n. alive_policy (suc n)) 63
 
-pub policy_answered : (ts rest : List Token) (read : Result PolicyTree Halt) → ParsesTo (r.policy nesting_limit ts) read rest
+pub policy_answered : (ts rest : List Token) (read : Result PolicyTree StopCause) → ParsesTo (r.policy nesting_limit ts) read rest
     → ReadsWithin (g.policy nesting_limit) (at_any g.policy) ts (whole_of read (length ts - length rest) rest)
 policy_answered = depths.answered_whole g.policy r.policy none policy_rule (λ n. alive_policy (suc n)) 63
 
@@ -41,7 +41,7 @@ one_list_at_any = depths.one_tree_at_any g.policies r.policies policy_firsts pol
 pub list_answer : HasOneAnswerWithin (g.policies nesting_limit) (at_any g.policies)
 list_answer = depths.one_answer g.policies r.policies policy_firsts policies_rule (λ n. alive_policies (suc n)) 63
 
-pub policies_answered : (ts rest : List Token) (read : Result (List PolicyTree) Halt) → ParsesTo (r.policies nesting_limit ts) read rest
+pub policies_answered : (ts rest : List Token) (read : Result (List PolicyTree) StopCause) → ParsesTo (r.policies nesting_limit ts) read rest
     → ReadsWithin (g.policies nesting_limit) (at_any g.policies) ts (whole_of read (length ts - length rest) rest)
 policies_answered = depths.answered_whole g.policies r.policies policy_firsts policies_rule (λ n. alive_policies (suc n)) 63
 

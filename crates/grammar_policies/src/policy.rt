@@ -2,7 +2,7 @@
 
 ghost use Rattle.std.specs.Prelude.{◌≡◌, IfErr};
 ghost use Rattle.grammar_expressions.specs.grammar_tokens.ParsesTo.{ParsesTo};
-ghost use Rattle.grammar_expressions.specs.grammar_tokens.declared.fault.Halt.TheVariants as halt;
+ghost use Rattle.grammar_expressions.specs.grammar_tokens.declared.fault.StopCause.TheVariants as halt;
 ghost use Rattle.grammar_expressions.specs.Expressions.{nesting_limit};
 ghost use Rattle.grammar_policies.specs.inner.Parsing as spec;
 
@@ -10,13 +10,13 @@ use crate::policy_sets::PolicySet;
 use crate::scope::scope;
 use crate::tree::{Annotation, Condition, ConditionWord, PolicyTree, ScopeTree};
 use grammar_expressions::{
-    Cursor, Halt, NESTING_LIMIT, Token, TokenKind, expr, read_many, take_symbol,
+    Cursor, NESTING_LIMIT, StopCause, Token, TokenKind, expr, read_many, take_symbol,
 };
 use plain::{Items, beside};
 use std::alloc::Global;
 
 #[tactic(auto, unfolding(crate::specs::inner::Parsing::maybe_text))]
-fn maybe_text(tokens: &mut Cursor<'_>) -> Result<Option<Token>, Halt>
+fn maybe_text(tokens: &mut Cursor<'_>) -> Result<Option<Token>, StopCause>
     ensures reads { ParsesTo (spec.maybe_text tokens.old.rest.now) result tokens.new.rest.now }
     ensures only { IfErr result (λ why. why ≡ halt.Unexpected) }
 {
@@ -29,7 +29,7 @@ fn maybe_text(tokens: &mut Cursor<'_>) -> Result<Option<Token>, Halt>
 
 /// "(" [ String ] ")"
 #[tactic(auto, unfolding(crate::specs::inner::Parsing::annotation_value))]
-fn annotation_value(tokens: &mut Cursor<'_>) -> Result<Option<Token>, Halt>
+fn annotation_value(tokens: &mut Cursor<'_>) -> Result<Option<Token>, StopCause>
     ensures reads { ParsesTo (spec.annotation_value tokens.old.rest.now) result tokens.new.rest.now }
     ensures only { IfErr result (λ why. why ≡ halt.Unexpected) }
 {
@@ -40,7 +40,7 @@ fn annotation_value(tokens: &mut Cursor<'_>) -> Result<Option<Token>, Halt>
 }
 
 #[tactic(auto, unfolding(crate::specs::inner::Parsing::maybe_value))]
-fn maybe_value(tokens: &mut Cursor<'_>) -> Result<Option<Token>, Halt>
+fn maybe_value(tokens: &mut Cursor<'_>) -> Result<Option<Token>, StopCause>
     ensures reads { ParsesTo (spec.maybe_value tokens.old.rest.now) result tokens.new.rest.now }
     ensures only { IfErr result (λ why. why ≡ halt.Unexpected) }
 {
@@ -52,7 +52,7 @@ fn maybe_value(tokens: &mut Cursor<'_>) -> Result<Option<Token>, Halt>
 
 /// Annotation = "@" (Ident | Reserved) [ "(" [ String ] ")" ]
 #[tactic(auto, unfolding(crate::specs::inner::Parsing::annotation))]
-fn annotation(tokens: &mut Cursor<'_>) -> Result<Annotation, Halt>
+fn annotation(tokens: &mut Cursor<'_>) -> Result<Annotation, StopCause>
     ensures reads { ParsesTo (spec.annotation tokens.old.rest.now) result tokens.new.rest.now }
     ensures only { IfErr result (λ why. why ≡ halt.Unexpected) }
 {
@@ -63,7 +63,7 @@ fn annotation(tokens: &mut Cursor<'_>) -> Result<Annotation, Halt>
 }
 
 #[tactic(auto, unfolding(crate::specs::inner::Parsing::annotations))]
-fn annotations(alloc: Global, tokens: &mut Cursor<'_>) -> Result<Items<Annotation>, Halt>
+fn annotations(alloc: Global, tokens: &mut Cursor<'_>) -> Result<Items<Annotation>, StopCause>
     ensures { ParsesTo (spec.annotations tokens.old.rest.now) result tokens.new.rest.now }
 {
     read_many(alloc, tokens, TokenKind::At, annotation)
@@ -71,7 +71,7 @@ fn annotations(alloc: Global, tokens: &mut Cursor<'_>) -> Result<Items<Annotatio
 
 /// ("when" | "unless") "{" Expr "}"
 #[tactic(auto, unfolding(crate::specs::inner::Parsing::condition))]
-fn condition(alloc: Global, tokens: &mut Cursor<'_>) -> Result<Condition, Halt>
+fn condition(alloc: Global, tokens: &mut Cursor<'_>) -> Result<Condition, StopCause>
     ensures { ParsesTo (spec.condition nesting_limit tokens.old.rest.now) result tokens.new.rest.now }
 {
     let word = take_symbol::<ConditionWord>(tokens)?;
@@ -82,7 +82,7 @@ fn condition(alloc: Global, tokens: &mut Cursor<'_>) -> Result<Condition, Halt>
 }
 
 #[tactic(auto, unfolding(crate::specs::inner::Parsing::conditions))]
-fn conditions(alloc: Global, tokens: &mut Cursor<'_>) -> Result<Items<Condition>, Halt>
+fn conditions(alloc: Global, tokens: &mut Cursor<'_>) -> Result<Items<Condition>, StopCause>
     ensures { ParsesTo (spec.conditions nesting_limit tokens.old.rest.now) result tokens.new.rest.now }
 {
     read_many(alloc, tokens, PolicySet::ConditionWords, |tokens| {
@@ -92,7 +92,7 @@ fn conditions(alloc: Global, tokens: &mut Cursor<'_>) -> Result<Items<Condition>
 
 /// ")" { Condition } ";"
 #[tactic(auto, unfolding(crate::specs::inner::Parsing::scope_tail))]
-fn scope_tail(alloc: Global, tokens: &mut Cursor<'_>) -> Result<Items<Condition>, Halt>
+fn scope_tail(alloc: Global, tokens: &mut Cursor<'_>) -> Result<Items<Condition>, StopCause>
     ensures { ParsesTo (spec.scope_tail nesting_limit tokens.old.rest.now) result tokens.new.rest.now }
 {
     tokens.take(TokenKind::RParen)?;
@@ -109,7 +109,7 @@ fn policy_of(
     annotations: Items<Annotation>,
     effect: Token,
     found: ScopeTree,
-) -> Result<PolicyTree, Halt>
+) -> Result<PolicyTree, StopCause>
     ensures { ParsesTo (spec.policy_of nesting_limit annotations effect found tokens.old.rest.now)
         result tokens.new.rest.now }
 {
@@ -129,7 +129,7 @@ fn policy_of(
 
 /// Policy = { Annotation } Effect "(" Scope ")" { Condition } ";"
 #[tactic(auto, unfolding(crate::specs::inner::Parsing::policy))]
-pub(crate) fn policy(alloc: Global, tokens: &mut Cursor<'_>) -> Result<PolicyTree, Halt>
+pub(crate) fn policy(alloc: Global, tokens: &mut Cursor<'_>) -> Result<PolicyTree, StopCause>
     ensures { ParsesTo (spec.policy nesting_limit tokens.old.rest.now) result tokens.new.rest.now }
 {
     let annotations = annotations(alloc, tokens)?;
@@ -141,7 +141,10 @@ pub(crate) fn policy(alloc: Global, tokens: &mut Cursor<'_>) -> Result<PolicyTre
 
 /// Returns a file: any number of policies.
 #[tactic(auto, unfolding(crate::specs::inner::Parsing::policies))]
-pub(crate) fn policies(alloc: Global, tokens: &mut Cursor<'_>) -> Result<Items<PolicyTree>, Halt>
+pub(crate) fn policies(
+    alloc: Global,
+    tokens: &mut Cursor<'_>,
+) -> Result<Items<PolicyTree>, StopCause>
     ensures { ParsesTo (spec.policies nesting_limit tokens.old.rest.now) result tokens.new.rest.now }
 {
     read_many(alloc, tokens, PolicySet::PolicyStarts, |tokens| {

@@ -4,13 +4,13 @@ ghost use Rattle.grammar_expressions.specs.grammar_tokens.ParsesTo.{ParsesTo};
 ghost use Rattle.grammar_policies.specs.inner.Parsing as spec;
 
 use crate::tree::{ActionTree, PartTree, ScopeTree};
-use grammar_expressions::{Cursor, Halt, NameSet, TokenKind, UidTree, path, read_more, uid};
+use grammar_expressions::{Cursor, NameSet, StopCause, TokenKind, UidTree, path, read_more, uid};
 use plain::{Items, beside};
 use std::alloc::Global;
 
 /// "==" Uid
 #[tactic(auto, unfolding(crate::specs::inner::Parsing::equal_uid))]
-fn equal_uid(alloc: Global, tokens: &mut Cursor<'_>) -> Result<UidTree, Halt>
+fn equal_uid(alloc: Global, tokens: &mut Cursor<'_>) -> Result<UidTree, StopCause>
     ensures { ParsesTo (spec.equal_uid tokens.old.rest.now) result tokens.new.rest.now }
 {
     tokens.take(TokenKind::Equal)?;
@@ -19,7 +19,7 @@ fn equal_uid(alloc: Global, tokens: &mut Cursor<'_>) -> Result<UidTree, Halt>
 
 /// "in" Uid
 #[tactic(auto, unfolding(crate::specs::inner::Parsing::in_uid))]
-fn in_uid(alloc: Global, tokens: &mut Cursor<'_>) -> Result<UidTree, Halt>
+fn in_uid(alloc: Global, tokens: &mut Cursor<'_>) -> Result<UidTree, StopCause>
     ensures { ParsesTo (spec.in_uid tokens.old.rest.now) result tokens.new.rest.now }
 {
     tokens.take(TokenKind::In)?;
@@ -28,7 +28,7 @@ fn in_uid(alloc: Global, tokens: &mut Cursor<'_>) -> Result<UidTree, Halt>
 
 /// "is" Path [ "in" Uid ]
 #[tactic(auto, unfolding(crate::specs::inner::Parsing::type_test))]
-fn type_test(alloc: Global, tokens: &mut Cursor<'_>) -> Result<PartTree, Halt>
+fn type_test(alloc: Global, tokens: &mut Cursor<'_>) -> Result<PartTree, StopCause>
     ensures { ParsesTo (spec.type_test tokens.old.rest.now) result tokens.new.rest.now }
 {
     tokens.take(TokenKind::Is)?;
@@ -42,7 +42,7 @@ fn type_test(alloc: Global, tokens: &mut Cursor<'_>) -> Result<PartTree, Halt>
 
 /// [ "==" Uid | "in" Uid | "is" Path [ "in" Uid ] ]
 #[tactic(auto, unfolding(crate::specs::inner::Parsing::entity_constraint))]
-fn entity_constraint(alloc: Global, tokens: &mut Cursor<'_>) -> Result<PartTree, Halt>
+fn entity_constraint(alloc: Global, tokens: &mut Cursor<'_>) -> Result<PartTree, StopCause>
     ensures { ParsesTo (spec.entity_constraint tokens.old.rest.now) result tokens.new.rest.now }
 {
     if tokens.sees(TokenKind::Equal) {
@@ -65,7 +65,7 @@ fn entity_part(
     alloc: Global,
     tokens: &mut Cursor<'_>,
     variable: TokenKind,
-) -> Result<PartTree, Halt>
+) -> Result<PartTree, StopCause>
     ensures { ParsesTo (spec.entity_part variable tokens.old.rest.now) result tokens.new.rest.now }
 {
     tokens.take(variable)?;
@@ -73,7 +73,7 @@ fn entity_part(
 }
 
 #[tactic(auto, unfolding(crate::specs::inner::Parsing::comma_uid))]
-fn comma_uid(alloc: Global, tokens: &mut Cursor<'_>) -> Result<UidTree, Halt>
+fn comma_uid(alloc: Global, tokens: &mut Cursor<'_>) -> Result<UidTree, StopCause>
     ensures { ParsesTo (spec.comma_uid tokens.old.rest.now) result tokens.new.rest.now }
 {
     tokens.take(TokenKind::Comma)?;
@@ -84,7 +84,7 @@ fn rest_of_uids(
     alloc: Global,
     tokens: &mut Cursor<'_>,
     first: UidTree,
-) -> Result<Items<UidTree>, Halt>
+) -> Result<Items<UidTree>, StopCause>
     ensures { ParsesTo (spec.rest_of_uids first tokens.old.rest.now) result tokens.new.rest.now }
 {
     read_more(alloc, tokens, first, TokenKind::Comma, |tokens| {
@@ -94,7 +94,7 @@ fn rest_of_uids(
 
 /// [ Uid { "," Uid } ]
 #[tactic(auto, unfolding(crate::specs::inner::Parsing::uids))]
-fn uids(alloc: Global, tokens: &mut Cursor<'_>) -> Result<Items<UidTree>, Halt>
+fn uids(alloc: Global, tokens: &mut Cursor<'_>) -> Result<Items<UidTree>, StopCause>
     ensures { ParsesTo (spec.uids tokens.old.rest.now) result tokens.new.rest.now }
 {
     if !tokens.sees_one_of(NameSet::Identifiers) {
@@ -105,7 +105,7 @@ fn uids(alloc: Global, tokens: &mut Cursor<'_>) -> Result<Items<UidTree>, Halt>
 }
 
 #[tactic(auto, unfolding(crate::specs::inner::Parsing::uid_list))]
-fn uid_list(alloc: Global, tokens: &mut Cursor<'_>) -> Result<ActionTree, Halt>
+fn uid_list(alloc: Global, tokens: &mut Cursor<'_>) -> Result<ActionTree, StopCause>
     ensures { ParsesTo (spec.uid_list tokens.old.rest.now) result tokens.new.rest.now }
 {
     tokens.take(TokenKind::LBracket)?;
@@ -115,7 +115,7 @@ fn uid_list(alloc: Global, tokens: &mut Cursor<'_>) -> Result<ActionTree, Halt>
 }
 
 #[tactic(auto, unfolding(crate::specs::inner::Parsing::list_or_uid))]
-fn list_or_uid(alloc: Global, tokens: &mut Cursor<'_>) -> Result<ActionTree, Halt>
+fn list_or_uid(alloc: Global, tokens: &mut Cursor<'_>) -> Result<ActionTree, StopCause>
     ensures { ParsesTo (spec.list_or_uid tokens.old.rest.now) result tokens.new.rest.now }
 {
     if tokens.sees(TokenKind::LBracket) {
@@ -127,7 +127,7 @@ fn list_or_uid(alloc: Global, tokens: &mut Cursor<'_>) -> Result<ActionTree, Hal
 
 /// "in" ( "[" [ Uid { "," Uid } ] "]" | Uid )
 #[tactic(auto, unfolding(crate::specs::inner::Parsing::in_actions))]
-fn in_actions(alloc: Global, tokens: &mut Cursor<'_>) -> Result<ActionTree, Halt>
+fn in_actions(alloc: Global, tokens: &mut Cursor<'_>) -> Result<ActionTree, StopCause>
     ensures { ParsesTo (spec.in_actions tokens.old.rest.now) result tokens.new.rest.now }
 {
     tokens.take(TokenKind::In)?;
@@ -136,7 +136,7 @@ fn in_actions(alloc: Global, tokens: &mut Cursor<'_>) -> Result<ActionTree, Halt
 
 /// [ "==" Uid | "in" Uid | "in" "[" [ Uid { "," Uid } ] "]" ]
 #[tactic(auto, unfolding(crate::specs::inner::Parsing::action_constraint))]
-fn action_constraint(alloc: Global, tokens: &mut Cursor<'_>) -> Result<ActionTree, Halt>
+fn action_constraint(alloc: Global, tokens: &mut Cursor<'_>) -> Result<ActionTree, StopCause>
     ensures { ParsesTo (spec.action_constraint tokens.old.rest.now) result tokens.new.rest.now }
 {
     if tokens.sees(TokenKind::Equal) {
@@ -151,7 +151,7 @@ fn action_constraint(alloc: Global, tokens: &mut Cursor<'_>) -> Result<ActionTre
 
 /// "action" and its constraint.
 #[tactic(auto, unfolding(crate::specs::inner::Parsing::action_part))]
-fn action_part(alloc: Global, tokens: &mut Cursor<'_>) -> Result<ActionTree, Halt>
+fn action_part(alloc: Global, tokens: &mut Cursor<'_>) -> Result<ActionTree, StopCause>
     ensures { ParsesTo (spec.action_part tokens.old.rest.now) result tokens.new.rest.now }
 {
     tokens.take(TokenKind::Action)?;
@@ -160,7 +160,7 @@ fn action_part(alloc: Global, tokens: &mut Cursor<'_>) -> Result<ActionTree, Hal
 
 /// Scope = Principal "," Action "," Resource
 #[tactic(auto, unfolding(crate::specs::inner::Parsing::scope))]
-pub(crate) fn scope(alloc: Global, tokens: &mut Cursor<'_>) -> Result<ScopeTree, Halt>
+pub(crate) fn scope(alloc: Global, tokens: &mut Cursor<'_>) -> Result<ScopeTree, StopCause>
     ensures { ParsesTo (spec.scope tokens.old.rest.now) result tokens.new.rest.now }
 {
     let principal = entity_part(alloc, tokens, TokenKind::Principal)?;

@@ -1,7 +1,7 @@
 -- A language by its levels of nesting: with n of them, and with any number.
 use Rattle.std.proofs.Common.{◌≡◌, ℕ, suc, ◌+◌, ◌-◌, ◌≤◌, ◌<◌, List, [], ◌∷◌, ◌++◌, Result, length, refl, sym, subst, ◌∙◌, append_assoc, arith}
 use Rattle.grammar_tokens.specs.declared.token.Token.{Token}
-use Rattle.grammar_tokens.specs.declared.fault.Halt.{Halt}
+use Rattle.grammar_tokens.specs.declared.fault.StopCause.{StopCause}
 use Rattle.grammar_tokens.specs.Kinds.{Kinds}
 use Rattle.grammar_tokens.specs.Lang.{Lang, at_any}
 use Rattle.grammar_tokens.specs.ParsesTo.{ParsesTo}
@@ -72,11 +72,11 @@ module _ {A : Type 0} (G : ℕ → Lang A) (P : ℕ → Parser A) (ks : Kinds)
 
   -- ---- what a reader answers
 
-  pub answered_whole : (n : ℕ) (ts rest : List Token) (read : Result A Halt) → ParsesTo (P (suc n) ts) read rest
+  pub answered_whole : (n : ℕ) (ts rest : List Token) (read : Result A StopCause) → ParsesTo (P (suc n) ts) read rest
       → ReadsWithin (G (suc n)) (at_any G) ts (whole_of read (length ts - length rest) rest)
   answered_whole n = whole.answered_whole (G (suc n)) (at_any G) (P (suc n)) ks (levels (suc n) (suc n)) (rule n n (omega arith)) refl (alive n) (limited n)
 
-  pub front_read : (n : ℕ) → Firm (G (suc n)) (P (suc n)) → (ts rest : List Token) (r : Result A Halt) → ParsesTo (P (suc n) ts) r rest
+  pub front_read : (n : ℕ) → Firm (G (suc n)) (P (suc n)) → (ts rest : List Token) (r : Result A StopCause) → ParsesTo (P (suc n) ts) r rest
       → ReadsFrontWithin (G (suc n)) (at_any G) ts r rest
   front_read n = whole.front_read (G (suc n)) (at_any G) (P (suc n)) ks (levels (suc n) (suc n)) (rule n n (omega arith)) refl (alive n) (limited n)
 

@@ -4,8 +4,8 @@ use Rattle.grammar_tokens.specs.declared.token.Token.{Token}
 use Rattle.grammar_tokens.specs.Reads.{sees}
 use Rattle.grammar_tokens.specs.Kinds.{Kinds}
 use Rattle.std.proofs.Common.{Result, Err}
-use Rattle.grammar_tokens.specs.declared.fault.Halt.{Halt}
-use Rattle.grammar_tokens.specs.declared.fault.Halt.TheVariants as halt
+use Rattle.grammar_tokens.specs.declared.fault.StopCause.{StopCause}
+use Rattle.grammar_tokens.specs.declared.fault.StopCause.TheVariants as halt
 use Rattle.grammar_tokens.specs.ParsesTo.{ParsesTo}
 use Rattle.grammar_tokens.specs.Reading.{Parser, ParseResult, Read, Stop, Why, Unexpected, TooDeep, and_then, pure, chosen, loop_from}
 
@@ -58,12 +58,12 @@ pub no_more : {X : Type 0} {x : X} (f : ℕ → X) (n at : ℕ) → n ≤ at →
 no_more f n at done e = let none : n - at ≡ 0 = omega arith in e ∙ ap f none
 
 -- what a turn that stops gives
-seen_err : {A : Type 0} (ks : Kinds) (p : Parser A) (n : ℕ) (found : List A) (ts rest : List Token) (e : Halt) → sees ks ts ≡ true → ParsesTo (p ts) (Err e) rest → ParsesTo (gathered ks p (suc n) found ts) (Err e) rest
+seen_err : {A : Type 0} (ks : Kinds) (p : Parser A) (n : ℕ) (found : List A) (ts rest : List Token) (e : StopCause) → sees ks ts ≡ true → ParsesTo (p ts) (Err e) rest → ParsesTo (gathered ks p (suc n) found ts) (Err e) rest
 seen_err ks p n found ts rest halt.NoMemory h e = tt
 seen_err ks p n found ts rest halt.Unexpected h e = seen_stop ks p n found ts rest Unexpected h e
 seen_err ks p n found ts rest halt.TooDeep h e = seen_stop ks p n found ts rest TooDeep h e
 
-pub instead : {A : Type 0} (o o' : ParseResult A) (r : Result A Halt) (rest : List Token) → o ≡ o' → ParsesTo o' r rest → ParsesTo o r rest
+pub instead : {A : Type 0} (o o' : ParseResult A) (r : Result A StopCause) (rest : List Token) → o ≡ o' → ParsesTo o' r rest → ParsesTo o r rest
 instead o o' r rest e g = subst (λ z. ParsesTo z r rest) (sym e) g
 
 -- ---- one turn of the code's loop, at the place at of end turns
@@ -82,7 +82,7 @@ module _ {A : Type 0} (ks : Kinds) (p : Parser A) (x : ParseResult (List A)) (en
   pub ran_out : x ≡ gathered ks p (end - at) found ts → end ≤ at → x ≡ Read found ts
   ran_out e done = no_more (λ n. gathered ks p n found ts) end at done e ∙ nothing_more ks p found ts
 
-  pub stopped : (fault : Halt) (rest : List Token) → x ≡ gathered ks p (end - at) found ts → at < end → true ≡ sees ks ts → ParsesTo (p ts) (Err fault) rest → ParsesTo x (Err fault) rest
+  pub stopped : (fault : StopCause) (rest : List Token) → x ≡ gathered ks p (end - at) found ts → at < end → true ≡ sees ks ts → ParsesTo (p ts) (Err fault) rest → ParsesTo x (Err fault) rest
   stopped fault rest e below seen g =
       instead x (gathered ks p (suc (end - (at + 1))) found ts) (Err fault) rest (next_turn end at below (λ n. gathered ks p n found ts) e)
       (seen_err ks p (end - (at + 1)) found ts rest fault (sym seen) g)

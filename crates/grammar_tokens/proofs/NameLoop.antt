@@ -3,8 +3,8 @@ use Rattle.std.proofs.Common.{◌≡◌, ℕ, zero, suc, ◌+◌, ◌-◌, ◌<�
 use mathlib.Core.Path.{fun_ext}
 use Rattle.grammar_tokens.specs.declared.token.Token.{Token}
 use Rattle.grammar_tokens.specs.declared.token.TokenKind.TheVariants as k
-use Rattle.grammar_tokens.specs.declared.fault.Halt.{Halt}
-use Rattle.grammar_tokens.specs.declared.fault.Halt.TheVariants as halt
+use Rattle.grammar_tokens.specs.declared.fault.StopCause.{StopCause}
+use Rattle.grammar_tokens.specs.declared.fault.StopCause.TheVariants as halt
 use Rattle.grammar_tokens.specs.declared.tree.Name.{Name}
 use Rattle.grammar_tokens.specs.declared.tree.Name.TheVariants as name
 use Rattle.grammar_tokens.specs.ParsesTo.{ParsesTo}
@@ -101,12 +101,12 @@ module _ (x : ParseResult Name) (end at : ℕ) (first : Token) (more ts : List T
   pub ended : (t : Token) (mid : List Token) → x ≡ taken (end - at) first more ts → at < end → true ≡ sees (only k.Colons) ts → piece ts ≡ Read t mid → is_text t ≡ true → x ≡ Read (uid_named first more t) mid
   ended t mid e below seen r text = next_turn end at below (λ n. taken n first more ts) e ∙ text_ends (end - (at + 1)) first t more ts mid (sym seen) r text
 
-  stopped_by : (fault : Halt) (rest : List Token) → x ≡ taken (suc (end - (at + 1))) first more ts → true ≡ sees (only k.Colons) ts → ParsesTo (piece ts) (Err fault) rest → ParsesTo x (Err fault) rest
+  stopped_by : (fault : StopCause) (rest : List Token) → x ≡ taken (suc (end - (at + 1))) first more ts → true ≡ sees (only k.Colons) ts → ParsesTo (piece ts) (Err fault) rest → ParsesTo x (Err fault) rest
   stopped_by halt.NoMemory rest e seen g = tt
   stopped_by halt.Unexpected rest e seen g = e ∙ stops_one (end - (at + 1)) first more ts rest Unexpected (sym seen) g
   stopped_by halt.TooDeep rest e seen g = e ∙ stops_one (end - (at + 1)) first more ts rest TooDeep (sym seen) g
 
-  pub stopped : (fault : Halt) (rest : List Token) → x ≡ taken (end - at) first more ts → at < end → true ≡ sees (only k.Colons) ts → ParsesTo (piece ts) (Err fault) rest → ParsesTo x (Err fault) rest
+  pub stopped : (fault : StopCause) (rest : List Token) → x ≡ taken (end - at) first more ts → at < end → true ≡ sees (only k.Colons) ts → ParsesTo (piece ts) (Err fault) rest → ParsesTo x (Err fault) rest
   stopped fault rest e below seen g = stopped_by fault rest (next_turn end at below (λ n. taken n first more ts) e) seen g
 
   pub bare : x ≡ taken (end - at) first more ts → false ≡ sees (only k.Colons) ts → x ≡ Read (path_named first more) ts

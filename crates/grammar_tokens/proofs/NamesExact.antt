@@ -1,7 +1,7 @@
 -- A Path and a Uid, at the front of a list and as a whole one. They nest nothing, so all levels are alike.
 use Rattle.std.proofs.Common.{◌-◌, Result, List, length}
 use Rattle.grammar_tokens.specs.declared.token.Token.{Token}
-use Rattle.grammar_tokens.specs.declared.fault.Halt.{Halt}
+use Rattle.grammar_tokens.specs.declared.fault.StopCause.{StopCause}
 use Rattle.grammar_tokens.specs.declared.tree.PathTree.{PathTree}
 use Rattle.grammar_tokens.specs.declared.tree.UidTree.{UidTree}
 use Rattle.grammar_tokens.specs.Grammar as g
@@ -20,13 +20,13 @@ level = record { Deeper = Unit {0}; Equal = Unit {0} }
 flat_path : Limited g.path g.path r.path
 flat_path = whole.flat g.path r.path after_name level (path_rule level) tt alive_path tt
 
-pub path_front : (ts rest : List Token) (x : Result PathTree Halt) → ParsesTo (r.path ts) x rest → ReadsFront g.path ts x rest
+pub path_front : (ts rest : List Token) (x : Result PathTree StopCause) → ParsesTo (r.path ts) x rest → ReadsFront g.path ts x rest
 path_front = whole.front_read g.path g.path r.path after_name level (path_rule level) tt alive_path flat_path (firm_path level)
 
 flat_uid : Limited g.uid g.uid r.uid
 flat_uid = whole.flat g.uid r.uid after_name level (uid_rule level) tt alive_uid tt
 
-pub uid_front : (ts rest : List Token) (x : Result UidTree Halt) → ParsesTo (r.uid ts) x rest → ReadsFront g.uid ts x rest
+pub uid_front : (ts rest : List Token) (x : Result UidTree StopCause) → ParsesTo (r.uid ts) x rest → ReadsFront g.uid ts x rest
 uid_front = whole.front_read g.uid g.uid r.uid after_name level (uid_rule level) tt alive_uid flat_uid (firm_uid level)
 
 -- ---- a whole list
@@ -37,6 +37,6 @@ one_uid = whole.one_tree g.uid r.uid after_name level (uid_rule level) tt alive_
 pub uid_answer : HasOneAnswer g.uid
 uid_answer = whole.one_answer g.uid g.uid r.uid after_name level (uid_rule level) tt alive_uid flat_uid
 
-pub uid_answered : (ts rest : List Token) (read : Result UidTree Halt) → ParsesTo (r.uid ts) read rest
+pub uid_answered : (ts rest : List Token) (read : Result UidTree StopCause) → ParsesTo (r.uid ts) read rest
     → Reads g.uid ts (whole_of read (length ts - length rest) rest)
 uid_answered = whole.answered_whole g.uid g.uid r.uid after_name level (uid_rule level) tt alive_uid flat_uid

@@ -3,8 +3,8 @@ use Rattle.std.proofs.Common.{◌≡◌, ℕ, zero, suc, ◌+◌, ◌-◌, ◌<�
 use mathlib.Core.Path.{fun_ext}
 use Rattle.grammar_tokens.specs.declared.token.Token.{Token}
 use Rattle.grammar_tokens.specs.declared.token.TokenKind.TheVariants as k
-use Rattle.grammar_tokens.specs.declared.fault.Halt.{Halt}
-use Rattle.grammar_tokens.specs.declared.fault.Halt.TheVariants as halt
+use Rattle.grammar_tokens.specs.declared.fault.StopCause.{StopCause}
+use Rattle.grammar_tokens.specs.declared.fault.StopCause.TheVariants as halt
 use Rattle.grammar_tokens.specs.declared.tree.UidTree.{UidTree}
 use Rattle.grammar_tokens.specs.ParsesTo.{ParsesTo}
 use Rattle.grammar_tokens.specs.Kinds.{Kinds, only}
@@ -136,12 +136,12 @@ module _ (x : ParseResult UidTree) (end at : ℕ) (first : Token) (more ts : Lis
   pub ended : (t : Token) (mid : List Token) → x ≡ taken (end - at) first more ts → at < end → piece ts ≡ Read t mid → is_text t ≡ true → x ≡ Read (named first more t) mid
   ended t mid e below r text = next_turn end at below (λ n. taken n first more ts) e ∙ text_ends (end - (at + 1)) first t more ts mid r text
 
-  stopped_by : (fault : Halt) (rest : List Token) → x ≡ taken (suc (end - (at + 1))) first more ts → ParsesTo (piece ts) (Err fault) rest → ParsesTo x (Err fault) rest
+  stopped_by : (fault : StopCause) (rest : List Token) → x ≡ taken (suc (end - (at + 1))) first more ts → ParsesTo (piece ts) (Err fault) rest → ParsesTo x (Err fault) rest
   stopped_by halt.NoMemory rest e g = tt
   stopped_by halt.Unexpected rest e g = e ∙ stops_by (sees (only k.Colons) ts) (end - (at + 1)) first more ts rest Unexpected refl g
   stopped_by halt.TooDeep rest e g = e ∙ stops_by (sees (only k.Colons) ts) (end - (at + 1)) first more ts rest TooDeep refl g
 
-  pub stopped : (fault : Halt) (rest : List Token) → x ≡ taken (end - at) first more ts → at < end → ParsesTo (piece ts) (Err fault) rest → ParsesTo x (Err fault) rest
+  pub stopped : (fault : StopCause) (rest : List Token) → x ≡ taken (end - at) first more ts → at < end → ParsesTo (piece ts) (Err fault) rest → ParsesTo x (Err fault) rest
   stopped fault rest e below g = stopped_by fault rest (next_turn end at below (λ n. taken n first more ts) e) g
 
   pub ran_out : x ≡ taken (end - at) first more ts → end ≤ at → x ≡ Stop Unexpected ts

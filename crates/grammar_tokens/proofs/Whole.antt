@@ -2,8 +2,8 @@
 use Rattle.std.proofs.Common.{◌≡◌, ◌⊎◌, inl, inr, ℕ, ◌-◌, ◌<◌, Bool, true, false, List, [], ◌∷◌, ◌++◌, Result, Ok, Err, refl, sym, ap, subst, ◌∙◌, append_assoc, append-nil, length-append, arith, length}
 use Rattle.std.proofs.lemmas.List.{append_cancel_right}
 use Rattle.grammar_tokens.specs.declared.token.Token.{Token}
-use Rattle.grammar_tokens.specs.declared.fault.Halt.{Halt}
-use Rattle.grammar_tokens.specs.declared.fault.Halt.TheVariants as halt
+use Rattle.grammar_tokens.specs.declared.fault.StopCause.{StopCause}
+use Rattle.grammar_tokens.specs.declared.fault.StopCause.TheVariants as halt
 use Rattle.grammar_tokens.specs.declared.fault.SyntaxFault.{SyntaxFault}
 use Rattle.grammar_tokens.specs.declared.fault.SyntaxFault.TheVariants as fault
 use Rattle.grammar_tokens.specs.Kinds.{Kinds}
@@ -251,7 +251,7 @@ module _ {A : Type 0} (L K : Lang A) (p : Parser A) (ks : Kinds) (D : Levels) (r
   part_read ts (b ∷ more) x e some =
       inr (broken_refuses ts (refusal_at (length ts - length (b ∷ more)) (b ∷ more)) (broken_past ts x b more e))
 
-  halted_read : (ts rest : List Token) (h : Halt) → ParsesTo (p ts) (Err h) rest
+  halted_read : (ts rest : List Token) (h : StopCause) → ParsesTo (p ts) (Err h) rest
       → ReadsWithin L K ts (Err (refusal_of h (length ts - length rest) rest))
   halted_read ts rest halt.NoMemory g = inl refl
   halted_read ts rest halt.Unexpected g =
@@ -260,7 +260,7 @@ module _ {A : Type 0} (L K : Lang A) (p : Parser A) (ks : Kinds) (D : Levels) (r
       inr (broken_refuses ts (fault.TooDeep (length ts - length rest)) (broken_deep ts rest g))
 
   -- by what was read of the front
-  pub answered_whole : (ts rest : List Token) (read : Result A Halt) → ParsesTo (p ts) read rest
+  pub answered_whole : (ts rest : List Token) (read : Result A StopCause) → ParsesTo (p ts) read rest
       → ReadsWithin L K ts (whole_of read (length ts - length rest) rest)
   answered_whole ts [] (Ok x) g = derived_whole L p ks D rule equal alive ts x g
   answered_whole ts (b ∷ more) (Ok x) g = part_read ts (b ∷ more) x g (omega arith)
@@ -273,7 +273,7 @@ module _ {A : Type 0} (L K : Lang A) (p : Parser A) (ks : Kinds) (D : Levels) (r
   no_tree firm ts [] place b e = b.stops
   no_tree firm ts (t ∷ more) place b e = λ x. firm.at b.front t more x (ap p (sym b.whole) ∙ e)
 
-  pub front_read : Firm L p → (ts rest : List Token) (r : Result A Halt) → ParsesTo (p ts) r rest → ReadsFrontWithin L K ts r rest
+  pub front_read : Firm L p → (ts rest : List Token) (r : Result A StopCause) → ParsesTo (p ts) r rest → ReadsFrontWithin L K ts r rest
   front_read firm ts rest (Ok x) g =
       let s = rule.sound ts x rest g in
       record { front = s.front; whole = s.whole; derived = s.derived; ends = past_by s.front rest x (ap p (sym s.whole) ∙ g) }

@@ -2,11 +2,11 @@
 -- memory; a function that asks for none says beside this that it never runs out.
 use Rattle.std.specs.Prelude.{◌≡◌, Result, Ok, Err, List}
 use Rattle.grammar_tokens.specs.declared.token.Token.{Token}
-use Rattle.grammar_tokens.specs.declared.fault.Halt.{Halt}
-use Rattle.grammar_tokens.specs.declared.fault.Halt.TheVariants as halt
+use Rattle.grammar_tokens.specs.declared.fault.StopCause.{StopCause}
+use Rattle.grammar_tokens.specs.declared.fault.StopCause.TheVariants as halt
 use Rattle.grammar_tokens.specs.Reading.{ParseResult, Read, Stop, Unexpected, TooDeep}
 
-abbrev pub ParsesTo : {A : Type 0} → ParseResult A → Result A Halt → List Token → Type 0
+abbrev pub ParsesTo : {A : Type 0} → ParseResult A → Result A StopCause → List Token → Type 0
 ParsesTo outcome (Ok a) rest = outcome ≡ Read a rest
 ParsesTo outcome (Err halt.NoMemory) rest = Unit {0}
 ParsesTo outcome (Err halt.Unexpected) rest = outcome ≡ Stop Unexpected rest

@@ -5,8 +5,8 @@ use Rattle.std.specs.Prelude.{Result, Ok, Err, Vec}
 use Rattle.std.specs.declared.alloc.Global.{Global}
 use Rattle.grammar_tokens.specs.declared.token.TokenKind.TheVariants as k
 use Rattle.grammar_tokens.specs.declared.token.Token.{Token}
-use Rattle.grammar_tokens.specs.declared.fault.Halt.{Halt}
-use Rattle.grammar_tokens.specs.declared.fault.Halt.TheVariants as halt
+use Rattle.grammar_tokens.specs.declared.fault.StopCause.{StopCause}
+use Rattle.grammar_tokens.specs.declared.fault.StopCause.TheVariants as halt
 use Rattle.grammar_tokens.specs.declared.fault.SyntaxFault.{SyntaxFault}
 use Rattle.grammar_tokens.specs.declared.fault.SyntaxFault.TheVariants as fault
 use Rattle.grammar_tokens.specs.Kinds.{Kinds}
@@ -100,7 +100,7 @@ pub record Takes {A : Type 0} (L K : Lang A) (ts : List Token) (tree : A) (rest 
 -- What a reader answers that stops behind a tree, or at the first token with which nothing goes on, and what is left
 -- then: L and K as for whole lists. A token is unexpected only where those before it are no tree; where they are one,
 -- that tree is the answer.
-abbrev pub ReadsFrontWithin : {A : Type 0} → Lang A → Lang A → List Token → Result A Halt → List Token → Type 0
+abbrev pub ReadsFrontWithin : {A : Type 0} → Lang A → Lang A → List Token → Result A StopCause → List Token → Type 0
 ReadsFrontWithin L K ts (Ok tree) rest = Takes L K ts tree rest
 ReadsFrontWithin L K ts (Err halt.NoMemory) rest = Unit {0}
 ReadsFrontWithin L K ts (Err halt.Unexpected) rest =
@@ -113,7 +113,7 @@ ReadsFrontWithin L K ts (Err halt.TooDeep) rest =
 abbrev pub Reads : {A : Type 0} → Lang A → List Token → Result A SyntaxFault → Type 0
 Reads L ts result = ReadsWithin L L ts result
 
-abbrev pub ReadsFront : {A : Type 0} → Lang A → List Token → Result A Halt → List Token → Type 0
+abbrev pub ReadsFront : {A : Type 0} → Lang A → List Token → Result A StopCause → List Token → Type 0
 ReadsFront L ts result rest = ReadsFrontWithin L L ts result rest
 
 abbrev pub HasOneAnswer : {A : Type 0} → Lang A → Type 0
@@ -133,13 +133,13 @@ abbrev pub refusal_at : ℕ → List Token → SyntaxFault
 refusal_at place rest = refusal_by (sees is_slot rest) place
 
 -- the refusal for what made reading halt
-abbrev pub refusal_of : Halt → ℕ → List Token → SyntaxFault
+abbrev pub refusal_of : StopCause → ℕ → List Token → SyntaxFault
 refusal_of halt.NoMemory place rest = fault.NoMemory
 refusal_of halt.Unexpected place rest = refusal_at place rest
 refusal_of halt.TooDeep place rest = fault.TooDeep place
 
 -- what is answered for a whole list, by what was read of its front and what is left behind that
-abbrev pub whole_of : {A : Type 0} → Result A Halt → ℕ → List Token → Result A SyntaxFault
+abbrev pub whole_of : {A : Type 0} → Result A StopCause → ℕ → List Token → Result A SyntaxFault
 whole_of (Ok tree) place [] = Ok tree
 whole_of (Ok tree) place (token ∷ more) = Err (refusal_of halt.Unexpected place (token ∷ more))
 whole_of (Err why) place rest = Err (refusal_of why place rest)

@@ -2,15 +2,16 @@
 use Rattle.std.specs.Prelude.{Result, List, ◌∷◌, ◌++◌}
 use denote.Ref.{MutBor}
 use Rattle.grammar_tokens.specs.declared.cursor.Cursor.{Cursor}
-use Rattle.grammar_tokens.specs.declared.fault.Halt.{Halt}
+use Rattle.grammar_tokens.specs.declared.fault.StopCause.{StopCause}
 use Rattle.grammar_tokens.specs.Kinds.{Kinds}
 use Rattle.grammar_tokens.specs.Reading.{Parser, many, pure, ◌>>=◌}
 use Rattle.grammar_tokens.specs.ParsesTo.{ParsesTo}
 
 -- each call reads what p does
-abbrev pub CallsRead : {A : Type 0} → Parser A → (MutBor Cursor → Result A Halt → MutBor Cursor → Type 0) → Type 0
+abbrev pub CallsRead : {A : Type 0} → Parser A → (MutBor Cursor → Result A StopCause → MutBor Cursor → Type 0) → Type 0
 CallsRead {A} p post =
-    (old new : MutBor Cursor) (r : Result A Halt) → post old r new → ParsesTo (p old.now.rest.now) r new.now.rest.now
+    (old new : MutBor Cursor) (r : Result A StopCause) → post old r new
+    → ParsesTo (p old.now.rest.now) r new.now.rest.now
 
 -- pieces, put behind those that were found before
 abbrev pub many_onto : {A : Type 0} → List A → Kinds → Parser A → Parser (List A)

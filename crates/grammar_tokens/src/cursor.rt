@@ -5,9 +5,9 @@ ghost use Rattle.grammar_tokens.specs.ParsesTo.{ParsesTo};
 ghost use Rattle.grammar_tokens.specs.Kinds as spec;
 ghost use Rattle.grammar_tokens.specs.Reading as reading;
 ghost use Rattle.grammar_tokens.specs.Reads as reads;
-ghost use Rattle.grammar_tokens.specs.declared.fault.Halt.TheVariants as halt;
+ghost use Rattle.grammar_tokens.specs.declared.fault.StopCause.TheVariants as halt;
 
-use crate::fault::Halt;
+use crate::fault::StopCause;
 use crate::kind_sets::{KindSet, same_kind};
 use crate::token::{Token, TokenKind};
 
@@ -47,7 +47,7 @@ impl<'a> Cursor<'a> {
 
     /// Returns the next token, which has to be of this kind; else none is taken.
     #[tactic(auto, unfolding(crate::specs::Reading::take))]
-    pub fn take(&mut self, kind: TokenKind) -> Result<Token, Halt>
+    pub fn take(&mut self, kind: TokenKind) -> Result<Token, StopCause>
         ensures reads { ParsesTo (reading.token kind self.old.rest.now) result self.new.rest.now }
         ensures only { IfErr result (λ why. why ≡ halt.Unexpected) }
     {
@@ -56,13 +56,13 @@ impl<'a> Cursor<'a> {
                 self.rest = rest;
                 Ok(*token)
             }
-            _ => Err(Halt::Unexpected),
+            _ => Err(StopCause::Unexpected),
         }
     }
 
     /// Returns the next token, which has to be of one of these kinds; else none is taken.
     #[tactic(auto, unfolding(crate::specs::Reading::take))]
-    pub fn take_one_of<S: KindSet>(&mut self, set: S) -> Result<Token, Halt>
+    pub fn take_one_of<S: KindSet>(&mut self, set: S) -> Result<Token, StopCause>
         ensures reads { ParsesTo (reading.take (S.included set) self.old.rest.now) result self.new.rest.now }
         ensures only { IfErr result (λ why. why ≡ halt.Unexpected) }
     {
@@ -71,7 +71,7 @@ impl<'a> Cursor<'a> {
                 self.rest = rest;
                 Ok(*token)
             }
-            _ => Err(Halt::Unexpected),
+            _ => Err(StopCause::Unexpected),
         }
     }
 }

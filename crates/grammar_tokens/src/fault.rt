@@ -1,7 +1,7 @@
 //! Why tokens are not read.
 ghost use Rattle.std.specs.Prelude.{◌≡◌};
 ghost use Rattle.grammar_tokens.specs.declared.fault.SyntaxFault.TheVariants as fault;
-ghost use Rattle.grammar_tokens.specs.declared.fault.Halt.TheVariants as halt;
+ghost use Rattle.grammar_tokens.specs.declared.fault.StopCause.TheVariants as halt;
 
 use std::alloc::AllocError;
 use thiserror::Error;
@@ -33,7 +33,7 @@ impl From<AllocError> for SyntaxFault {
 
 /// Why reading stops at the next token.
 #[derive(Clone, Copy, PartialEq, Eq)]
-pub enum Halt {
+pub enum StopCause {
     NoMemory,
     /// The next token can't stand there, or the tokens end too early.
     Unexpected,
@@ -41,10 +41,10 @@ pub enum Halt {
     TooDeep,
 }
 
-impl From<AllocError> for Halt {
+impl From<AllocError> for StopCause {
     ghost from_gives = { λ _ e. e ≡ halt.NoMemory };
 
-    fn from(_error: AllocError) -> Halt {
-        Halt::NoMemory
+    fn from(_error: AllocError) -> StopCause {
+        StopCause::NoMemory
     }
 }

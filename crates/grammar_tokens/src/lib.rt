@@ -26,7 +26,7 @@ mod words;
 mod written;
 
 pub use cursor::Cursor;
-pub use fault::{Halt, SyntaxFault};
+pub use fault::{StopCause, SyntaxFault};
 pub use kind_sets::{KindSet, NameSet};
 pub use laws::{kinds_of_words, lexing_is_unique, strings_have_one_meaning};
 pub use lex_fault::LexFault;

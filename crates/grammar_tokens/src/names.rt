@@ -5,10 +5,10 @@ ghost use Rattle.grammar_tokens.specs.ParsesTo.{ParsesTo};
 ghost use Rattle.grammar_tokens.specs.Grammar as grammar;
 ghost use Rattle.grammar_tokens.specs.Parsing as spec;
 ghost use Rattle.grammar_tokens.specs.Reads.{ReadsFront};
-ghost use Rattle.grammar_tokens.specs.declared.fault.Halt.TheVariants as halt;
+ghost use Rattle.grammar_tokens.specs.declared.fault.StopCause.TheVariants as halt;
 
 use crate::cursor::Cursor;
-use crate::fault::Halt;
+use crate::fault::StopCause;
 use crate::kind_sets::NameSet;
 use crate::repeated::read_many;
 use crate::token::{Token, TokenKind};
@@ -17,7 +17,7 @@ use plain::Items;
 use std::alloc::Global;
 
 #[tactic(auto, unfolding(crate::specs::Parsing::path_word))]
-fn path_word(tokens: &mut Cursor<'_>) -> Result<Token, Halt>
+fn path_word(tokens: &mut Cursor<'_>) -> Result<Token, StopCause>
     ensures reads { ParsesTo (spec.path_word tokens.old.rest.now) result tokens.new.rest.now }
     ensures only { IfErr result (λ why. why ≡ halt.Unexpected) }
 {
@@ -26,7 +26,7 @@ fn path_word(tokens: &mut Cursor<'_>) -> Result<Token, Halt>
 }
 
 #[tactic(auto, unfolding(crate::specs::Parsing::rest_of_path))]
-fn rest_of_path(alloc: Global, tokens: &mut Cursor<'_>, first: Token) -> Result<PathTree, Halt>
+fn rest_of_path(alloc: Global, tokens: &mut Cursor<'_>, first: Token) -> Result<PathTree, StopCause>
     ensures { ParsesTo (spec.rest_of_path first tokens.old.rest.now) result tokens.new.rest.now }
 {
     let more = read_many(alloc, tokens, TokenKind::Colons, path_word)?;
@@ -36,7 +36,7 @@ fn rest_of_path(alloc: Global, tokens: &mut Cursor<'_>, first: Token) -> Result<
 /// Path = Ident { "::" Ident }, from the front of the tokens and as many of them as it takes. The
 /// tokens that are left afterwards begin behind it, or with the one at which reading halts.
 #[tactic(auto, unfolding(crate::specs::Parsing::path))]
-pub fn path(alloc: Global, tokens: &mut Cursor<'_>) -> Result<PathTree, Halt>
+pub fn path(alloc: Global, tokens: &mut Cursor<'_>) -> Result<PathTree, StopCause>
     ensures reads { ReadsFront grammar.path tokens.old.rest.now result tokens.new.rest.now }
     ensures steps { ParsesTo (spec.path tokens.old.rest.now) result tokens.new.rest.now }
 {
@@ -45,7 +45,7 @@ pub fn path(alloc: Global, tokens: &mut Cursor<'_>) -> Result<PathTree, Halt>
 }
 
 #[tactic(auto, unfolding(crate::specs::Parsing::piece))]
-fn piece(tokens: &mut Cursor<'_>) -> Result<Token, Halt>
+fn piece(tokens: &mut Cursor<'_>) -> Result<Token, StopCause>
     ensures reads { ParsesTo (spec.piece tokens.old.rest.now) result tokens.new.rest.now }
     ensures only { IfErr result (λ why. why ≡ halt.Unexpected) }
 {
@@ -53,7 +53,7 @@ fn piece(tokens: &mut Cursor<'_>) -> Result<Token, Halt>
     tokens.take_one_of(NameSet::Pieces)
 }
 
-fn rest_of_uid(alloc: Global, tokens: &mut Cursor<'_>, first: Token) -> Result<UidTree, Halt>
+fn rest_of_uid(alloc: Global, tokens: &mut Cursor<'_>, first: Token) -> Result<UidTree, StopCause>
     ensures { ParsesTo (spec.rest_of_uid first tokens.old.rest.now) result tokens.new.rest.now }
 {
     let mut more = Items::new(alloc);
@@ -65,13 +65,13 @@ fn rest_of_uid(alloc: Global, tokens: &mut Cursor<'_>, first: Token) -> Result<U
         }
         more.push(next)?;
     }
-    Err(Halt::Unexpected)
+    Err(StopCause::Unexpected)
 }
 
 /// Uid = Path "::" String, from the front of the tokens. The tokens that are left afterwards begin
 /// behind it, or with the one at which reading halts.
 #[tactic(auto, unfolding(crate::specs::Parsing::uid))]
-pub fn uid(alloc: Global, tokens: &mut Cursor<'_>) -> Result<UidTree, Halt>
+pub fn uid(alloc: Global, tokens: &mut Cursor<'_>) -> Result<UidTree, StopCause>
     ensures reads { ReadsFront grammar.uid tokens.old.rest.now result tokens.new.rest.now }
     ensures steps { ParsesTo (spec.uid tokens.old.rest.now) result tokens.new.rest.now }
 {
@@ -80,7 +80,7 @@ pub fn uid(alloc: Global, tokens: &mut Cursor<'_>) -> Result<UidTree, Halt>
 }
 
 /// Returns what stands behind a first identifier makes a Path of it, or a Uid where a String comes.
-pub fn rest_of_name(alloc: Global, tokens: &mut Cursor<'_>, first: Token) -> Result<Name, Halt>
+pub fn rest_of_name(alloc: Global, tokens: &mut Cursor<'_>, first: Token) -> Result<Name, StopCause>
     ensures { ParsesTo (spec.rest_of_name first tokens.old.rest.now) result tokens.new.rest.now }
 {
     let mut more = Items::new(alloc);

@@ -5,18 +5,18 @@ ghost use Rattle.grammar_tokens.specs.Reading.{Parser, many};
 ghost use Rattle.grammar_tokens.specs.Repeats.{CallsRead, many_onto, many_after};
 
 use crate::cursor::Cursor;
-use crate::fault::Halt;
+use crate::fault::StopCause;
 use crate::kind_sets::KindSet;
 use plain::Items;
 use std::alloc::Global;
 
 /// These pieces, and behind them as many as begin with a token of the set; the first halt of a call, or `NoMemory`.
-fn read_on<T: Drop, S: KindSet, F: Fn(&mut Cursor<'_>) -> Result<T, Halt>>(
+fn read_on<T: Drop, S: KindSet, F: Fn(&mut Cursor<'_>) -> Result<T, StopCause>>(
     mut found: Items<T>,
     tokens: &mut Cursor<'_>,
     set: S,
     read: F,
-) -> Result<Items<T>, Halt>
+) -> Result<Items<T>, StopCause>
     requires { F.IsAlwaysCallable read }
     ensures { (p : Parser T) → CallsRead p (F.post read)
         → ParsesTo (many_onto found (S.included set) p tokens.old.rest.now) result tokens.new.rest.now }
@@ -33,12 +33,12 @@ fn read_on<T: Drop, S: KindSet, F: Fn(&mut Cursor<'_>) -> Result<T, Halt>>(
 
 /// Pieces, as long as a token of the set comes next. Each is read by a call. Answers with the first halt of such a
 /// call, or with `NoMemory` where a piece finds no room.
-pub fn read_many<T: Drop, S: KindSet, F: Fn(&mut Cursor<'_>) -> Result<T, Halt>>(
+pub fn read_many<T: Drop, S: KindSet, F: Fn(&mut Cursor<'_>) -> Result<T, StopCause>>(
     alloc: Global,
     tokens: &mut Cursor<'_>,
     set: S,
     read: F,
-) -> Result<Items<T>, Halt>
+) -> Result<Items<T>, StopCause>
     requires { F.IsAlwaysCallable read }
     ensures { (p : Parser T) → CallsRead p (F.post read)
         → ParsesTo (many (S.included set) p tokens.old.rest.now) result tokens.new.rest.now }
@@ -48,13 +48,13 @@ pub fn read_many<T: Drop, S: KindSet, F: Fn(&mut Cursor<'_>) -> Result<T, Halt>>
 
 /// Returns a first piece, and behind it more, as long as a token of the set comes next. Each of these is read by a
 /// call. Answers with the first halt of such a call, or with `NoMemory` where a piece, the first too, finds no room.
-pub fn read_more<T: Drop, S: KindSet, F: Fn(&mut Cursor<'_>) -> Result<T, Halt>>(
+pub fn read_more<T: Drop, S: KindSet, F: Fn(&mut Cursor<'_>) -> Result<T, StopCause>>(
     alloc: Global,
     tokens: &mut Cursor<'_>,
     first: T,
     set: S,
     read: F,
-) -> Result<Items<T>, Halt>
+) -> Result<Items<T>, StopCause>
     requires { F.IsAlwaysCallable read }
     ensures { (p : Parser T) → CallsRead p (F.post read)
         → ParsesTo (many_after first (S.included set) p tokens.old.rest.now) result tokens.new.rest.now }

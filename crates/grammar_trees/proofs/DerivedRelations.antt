@@ -2,12 +2,12 @@
 use Rattle.std.proofs.Common.{◌≡◌, List, ◌++◌, Result, Ok, Err, refl, sym, ap, ◌∙◌, append_assoc}
 use Rattle.std.specs.Prelude.{IfOk}
 use Rattle.grammar_tokens.specs.declared.token.Token.{Token}
-use Rattle.grammar_tokens.specs.declared.fault.Halt.{Halt}
+use Rattle.grammar_tokens.specs.declared.fault.StopCause.{StopCause}
 use Rattle.grammar_tokens.specs.Lang.{Lang}
 use Rattle.grammar_trees.specs.declared.tree.ExprTree.{ExprTree}
 use Rattle.grammar_trees.specs.Relations.{relation, DerivesFront}
 
-pub relation_derives : (L : Lang ExprTree) (M : ExprTree → Lang ExprTree) (ts mid rest : List Token) (x : ExprTree) (read : Result ExprTree Halt) → DerivesFront L ts x mid
+pub relation_derives : (L : Lang ExprTree) (M : ExprTree → Lang ExprTree) (ts mid rest : List Token) (x : ExprTree) (read : Result ExprTree StopCause) → DerivesFront L ts x mid
     → IfOk read (λ e. DerivesFront (M x) mid e rest) → IfOk read (λ e. DerivesFront (relation L M) ts e rest)
 relation_derives L M ts mid rest x (Ok e) f g = record {
   front = f.front ++ g.front;

@@ -10,7 +10,7 @@ mod repeats;
 mod tree;
 
 pub use grammar_tokens::{
-    Cursor, Halt, KindSet, LexFault, Name, NameSet, PathTree, SyntaxFault, Token, TokenKind,
+    Cursor, KindSet, LexFault, Name, NameSet, PathTree, StopCause, SyntaxFault, Token, TokenKind,
     UidTree, decode_pattern, decode_string, lexing_is_unique, path, read_many, read_more,
     read_to_end, rest_of_name, spelling, strings_have_one_meaning, tokens, uid,
 };

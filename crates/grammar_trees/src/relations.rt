@@ -7,7 +7,7 @@ ghost use Rattle.grammar_trees.specs.Relations.{relation, DerivesFront};
 ghost use Rattle.grammar_trees.specs.declared.tree.ExprTree as trees;
 
 use crate::tree::ExprTree;
-use grammar_tokens::{Cursor, Halt};
+use grammar_tokens::{Cursor, StopCause};
 
 /// The parsers of a relation's operand and tail, with what they derive.
 pub trait Related {
@@ -23,13 +23,13 @@ pub trait Related {
 
     ghost reads_tail: { Self → trees.ExprTree → Parser trees.ExprTree };
 
-    fn operand(&self, tokens: &mut Cursor<'_>) -> Result<ExprTree, Halt>
+    fn operand(&self, tokens: &mut Cursor<'_>) -> Result<ExprTree, StopCause>
         requires { can_read self.now }
         ensures derives { IfOk result (λ x. DerivesFront (operands self.now) tokens.old.rest.now x
             tokens.new.rest.now) }
         ensures reads { ParsesTo (reads_operand self.now tokens.old.rest.now) result tokens.new.rest.now };
 
-    fn with_tail(&self, tokens: &mut Cursor<'_>, x: ExprTree) -> Result<ExprTree, Halt>
+    fn with_tail(&self, tokens: &mut Cursor<'_>, x: ExprTree) -> Result<ExprTree, StopCause>
         requires { can_read self.now }
         ensures derives { IfOk result (λ e. DerivesFront (tailed self.now x) tokens.old.rest.now e
             tokens.new.rest.now) }
@@ -41,7 +41,7 @@ pub trait Related {
 /// Comparisons do not chain: of `1 < 2 < 3` it reads `1 < 2`, and no production continues with the second `<`.
 ///
 /// Source: Cedar reference guide 4.0, "Grammar specification for Cedar policy syntax".
-pub fn relation<R: Related>(tokens: &mut Cursor<'_>, of: &R) -> Result<ExprTree, Halt>
+pub fn relation<R: Related>(tokens: &mut Cursor<'_>, of: &R) -> Result<ExprTree, StopCause>
     requires { R.can_read of.now }
     ensures derives { IfOk result (λ e. DerivesFront (relation (R.operands of.now) (R.tailed of.now))
         tokens.old.rest.now e tokens.new.rest.now) }

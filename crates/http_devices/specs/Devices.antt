@@ -1,26 +1,25 @@
--- Readers and writers that count their failures.
--- A rule of this product.
+-- Defines readers and writers that count their failures. Rules of this product.
 use Rattle.std.specs.Prelude.{◌≡◌, ℕ, ◌+◌, ◌-◌, ◌^◌, ◌<◌, ◌⊎◌, min, Result, Ok, Err}
 
--- a reader or writer, and how often it failed
+-- A `Watched T` is a reader or writer, with the number of its failures.
 pub record Watched (T : Type 0) : Type 0 where
   pub device : T
   pub failures : ℕ
 
--- a count after one more; it stays at `u64::MAX` once it is there
+-- `counted n` is the count after one more failure; it stays at `u64::MAX`.
 abbrev pub counted : ℕ → ℕ
 counted n = min (n + 1) (2 ^ 64 - 1)
 
--- the count rises at a failure
+-- `CountsFailure r old new` holds if the count `new` is `counted old` for a failure `r`, else `old`.
 abbrev pub CountsFailure : {A E : Type 0} → Result A E → ℕ → ℕ → Type 0
 CountsFailure (Ok a) old new = new ≡ old
 CountsFailure (Err e) old new = new ≡ counted old
 
--- the device failed between two moments, as far as its count can say
+-- `HasFailed old new` holds if the device failed between these counts, as far as they show.
 abbrev pub HasFailed : ℕ → ℕ → Type 0
 HasFailed old new = (old < new) ⊎ (new ≡ 2 ^ 64 - 1)
 
--- the last call failed, and none before it did, as far as the count can say
+-- `FailsAtLast failed fails old new` holds if the last call failed, and none before it, as far as the counts show.
 module _ {D : Type 0} (failed : D → ℕ) (fails : D → D → Type 0) where
   pub record FailsAtLast (old new : D) : Type 0 where
     pub between : D

@@ -6,25 +6,25 @@ ghost use Rattle.http_devices.specs.Devices.{CountsFailure, FailsAtLast, counted
 use std::io::{Read, Write};
 use std::marker::Model;
 
-/// The device failed. Its count says so too.
+/// The error of a device's failed call, which its count includes.
 #[derive(Clone, Copy)]
 pub struct DeviceFailed;
 
 /// A reader that counts its failures.
 pub trait Source {
-    // The bytes that are left to read, where they are known.
+    // The bytes left to read, if they are known.
     ghost left: { Self → Option (List ℕ) };
 
-    // How often it failed, up to `u64::MAX`.
+    // The number of failures, at most `u64::MAX`.
     ghost failed: { Self → ℕ };
 
-    // One call of `read`, with room for so many bytes, led from the first state to the second, and gave these.
+    // A call of `read` with a buffer of this length led from the first state to the second, and gave these bytes.
     ghost reads: { Self → ℕ → List ℕ → Self → Type 0 };
 
-    // One call of `read` led from the first state to the second, and failed.
+    // A call of `read` led from the first state to the second, and failed.
     ghost fails: { Self → Self → Type 0 };
 
-    /// Reads once. No bytes in a buffer with room are the end of the input.
+    /// Reads once. No bytes into a nonempty buffer mean the end of the input.
     fn read(&mut self, buf: &mut [u8]) -> Result<usize, DeviceFailed>
         ensures bound { IfOk result (λ n. n ≤ length buf.new) }
         ensures bytes { ReadConsumes (left self.old) (left self.new) result buf.new }
@@ -32,26 +32,26 @@ pub trait Source {
         ensures failure { OnErr result (fails self.old self.new) }
         ensures failures { CountsFailure result (failed self.old) (failed self.new) };
 
-    /// Returns how often it failed.
+    /// Returns the number of failures.
     fn failures(&self) -> u64
         ensures { result ≡ failed self.now };
 }
 
-/// A writer that counts its failures. To take none of some bytes is a failure.
+/// A writer that counts its failures. Accepting none of some bytes is a failure.
 pub trait Sink {
-    // The bytes that were taken, where they are known.
+    // The accepted bytes, if they are known.
     ghost holds: { Self → Option (List ℕ) };
 
-    // How often it failed, up to `u64::MAX`.
+    // The number of failures, at most `u64::MAX`.
     ghost failed: { Self → ℕ };
 
-    // One call of `write` with these bytes led from the first state to the second, and took so many of them.
+    // A call of `write` with these bytes led from the first state to the second, and accepted this number of them.
     ghost writes: { Self → List ℕ → ℕ → Self → Type 0 };
 
-    // One call of `write` led from the first state to the second, and failed.
+    // A call of `write` led from the first state to the second, and failed.
     ghost fails: { Self → Self → Type 0 };
 
-    /// Writes once, and answers how many of the bytes were taken.
+    /// Writes once; returns how many of the bytes were accepted.
     fn write(&mut self, bytes: &[u8]) -> Result<usize, DeviceFailed>
         requires { 0 < length bytes.now }
         ensures bound { IfOk result (λ n. (0 < n) × (n ≤ length bytes.now)) }
@@ -60,12 +60,12 @@ pub trait Sink {
         ensures failure { OnErr result (fails self.old self.new) }
         ensures failures { CountsFailure result (failed self.old) (failed self.new) };
 
-    /// Returns how often it failed.
+    /// Returns the number of failures.
     fn failures(&self) -> u64
         ensures { result ≡ failed self.now };
 }
 
-/// Any reader or writer, with a count. A call that was interrupted failed like any other.
+/// Any reader or writer, with a count of failures. An interrupted call is a failure like any other.
 #[derive(Drop)]
 pub struct Counted<T> {
     inner: T,
@@ -81,7 +81,7 @@ impl<T> Model for Counted<T> {
 }
 
 impl<T> Counted<T> {
-    /// One that did not fail yet.
+    /// Creates a device that has not failed yet.
     pub fn new(inner: T) -> Counted<T>
         ensures { result ≡ record { device = inner; failures = 0 } }
     {
@@ -141,7 +141,11 @@ impl<W: Write> Sink for Counted<W> {
     }
 }
 
-/// Writes all the bytes, in as many writes as it takes. It stops at the first that fails, before all were taken.
+/// Writes all the bytes, in as many calls as needed.
+///
+/// # Errors
+///
+/// `DeviceFailed` at the first call that fails: then fewer than all bytes were accepted, the first ones.
 pub fn write_all<W: Sink>(writer: &mut W, bytes: &[u8]) -> Result<(), DeviceFailed>
     ensures ok { OnOk result (Appends (W.holds writer.old) (W.holds writer.new) bytes.now) }
     ensures err { OnErr result ((front : List ℕ) × (rest : List ℕ) × (0 < length rest) × (bytes.now ≡ front ++ rest)

@@ -1,4 +1,4 @@
-//! Devices over memory, which read or take stated pieces and fail at one stated call.
+//! Devices over memory, which read or accept given pieces and fail at one given call.
 ghost use Rattle.std.specs.Prelude.{◌≡◌, ◌⊎◌, ◌<◌, Some, None, IfSome, []};
 ghost use Rattle.http_devices.specs.Memory.{Breaks, FailsByPlan, Delivers, Passes, Takes, next_piece};
 
@@ -6,7 +6,7 @@ use crate::devices::{DeviceFailed, Sink, Source};
 use std::alloc::Global;
 use std::marker::Model;
 
-/// How much each call moves, and which one fails. A device counts its calls by it.
+/// A plan of how many bytes each call moves, and which call fails. It counts the calls.
 #[derive(Drop)]
 pub struct Plan<'a> {
     pieces: &'a [usize],
@@ -23,8 +23,9 @@ impl<'a> Model for Plan<'a> {
 }
 
 impl<'a> Plan<'a> {
-    /// Returns a plan of which no call was made yet. `pieces` are the most bytes that each call moves; the last one
-    /// holds from then on, none are all that fits, and 0 is 1. `fails_at` is the number of the call that fails, from 0.
+    /// Creates a plan before any call. `pieces` are the most bytes that each call moves: the last one applies from
+    /// then on, an empty list has no limit, and 0 counts as 1. `fails_at` is the number of the call that fails, from
+    /// 0.
     pub fn new(pieces: &'a [usize], fails_at: Option<u64>) -> Plan<'a>
         ensures { result ≡ record { pieces = pieces.entry.now; fails_at = fails_at; calls = 0 } }
     {
@@ -35,7 +36,7 @@ impl<'a> Plan<'a> {
         }
     }
 
-    /// Returns how much the next call moves, at least one byte, or `None` where it fails.
+    /// Returns the most bytes that the next call moves, at least one; `None` if it fails.
     fn next_call(&mut self) -> Option<usize>
         ensures moves { IfSome result (λ n. (n ≡ next_piece self.old.pieces) × Passes self.old self.new) }
         ensures some { IfSome result (λ n. 0 < n) }
@@ -74,7 +75,7 @@ impl<'a> Model for Fed<'a> {
 }
 
 impl<'a> Fed<'a> {
-    /// Returns a reader of all these bytes.
+    /// Creates a reader of all these bytes.
     pub fn new(bytes: &'a [u8], plan: Plan<'a>) -> Fed<'a>
         ensures { result ≡ record { bytes = bytes.entry.now; plan = plan.entry; failures = 0 } }
     {
@@ -85,7 +86,7 @@ impl<'a> Fed<'a> {
         }
     }
 
-    /// Returns what is unread.
+    /// Returns the unread bytes.
     pub fn left(&self) -> &[u8]
         ensures { result.now ≡ self.now.bytes }
     {
@@ -119,7 +120,7 @@ impl Source for Fed<'_> {
     }
 }
 
-/// A writer into memory. Want of memory is a failure.
+/// A writer into memory. A failed allocation is a failure.
 #[derive(Drop)]
 pub struct Kept<'a> {
     bytes: Vec<u8>,
@@ -136,7 +137,7 @@ impl<'a> Model for Kept<'a> {
 }
 
 impl<'a> Kept<'a> {
-    /// Returns a writer that took nothing yet.
+    /// Creates a writer that has accepted nothing yet.
     pub fn new(alloc: Global, plan: Plan<'a>) -> Kept<'a>
         ensures { result ≡ record { bytes = []; plan = plan.entry; failures = 0 } }
     {
@@ -147,7 +148,7 @@ impl<'a> Kept<'a> {
         }
     }
 
-    /// Returns what was taken.
+    /// Returns the accepted bytes.
     pub fn bytes(&self) -> &[u8]
         ensures { result.now ≡ self.now.bytes }
     {
@@ -162,7 +163,7 @@ impl Sink for Kept<'_> {
 
     ghost writes = { Takes };
 
-    // By its plan, or for want of memory.
+    // By its plan, or because an allocation failed.
     ghost fails = { λ old new. Breaks old new × (FailsByPlan old.plan new.plan ⊎ Passes old.plan new.plan) };
 
     fn write(&mut self, bytes: &[u8]) -> Result<usize, DeviceFailed> {

@@ -2,4 +2,5 @@
 pub mod CutLemmas
 pub mod OneReply
 pub mod OneRequest
+mod ReadBack
 pub mod ReplyLemmas

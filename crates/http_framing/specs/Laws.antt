@@ -1,18 +1,19 @@
--- That a stream has one reply at its front at most, however it was cut.
+-- Defines the theorem that a stream has at most one reply at its front, however it is cut.
 use Rattle.std.specs.Prelude.{◌≡◌, ℕ, List, ◌++◌}
 use Rattle.http_framing.specs.Reply.{IsBadReply, IsUnfinishedReply, ReadsReply}
 
--- some first bytes of the stream were read as this reply
+-- `BeginsWithReply stream status body` holds if some first bytes of `stream` are read as this reply.
 abbrev pub BeginsWithReply : List ℕ → ℕ → List ℕ → Type 0
 BeginsWithReply stream status body =
     (front : List ℕ) × (after : List ℕ) × (rest : List ℕ) × (stream ≡ front ++ after)
     × ReadsReply front status body rest
 
--- some first bytes of the stream were refused
+-- `BeginsBadly stream` holds if some first bytes of `stream` are rejected.
 abbrev pub BeginsBadly : List ℕ → Type 0
 BeginsBadly stream = (front : List ℕ) × (after : List ℕ) × (stream ≡ front ++ after) × IsBadReply front
 
--- a stream has one reply at most, however it was cut, and is refused or ends too early only where it has none
+-- `HasOneReply stream` holds if `stream` has at most one reply, however it is cut, and is rejected or ends too early
+-- only if it has none, and not both.
 pub record HasOneReply (stream : List ℕ) : Type 0 where
   pub replies :
       (s t : ℕ) (a b : List ℕ) → BeginsWithReply stream s a → BeginsWithReply stream t b → (s ≡ t) × (a ≡ b)

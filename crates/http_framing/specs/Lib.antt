@@ -2,6 +2,7 @@ pub mod Fields
 pub mod Request
 pub mod Reply
 pub mod Laws
+pub mod Sent
 pub mod inner
--- crates below, passed on to those above
+-- Specifications of lower crates, re-exported.
 pub use Rattle.http_texts.specs as http_texts

@@ -1,4 +1,4 @@
--- Where a reply ends, and what is refused as one (RFC 9112, sections 4 to 6; RFC 9110, section 8.6).
+-- Defines where a reply ends, and which replies are rejected (RFC 9112, sections 4 to 6; RFC 9110, section 8.6).
 use Rattle.std.specs.Prelude.{◌≡◌, ℕ, ◌<◌, ◌≤◌, ◌⊎◌, List, [], ◌∷◌, ◌++◌, length, map, drop}
 use Rattle.std.specs.Prelude.{if◌then◌else◌, codes}
 use Rattle.std.specs.List.{list_any}
@@ -13,57 +13,62 @@ use Rattle.http_framing.specs.declared.reply_cut.ReplyCut.{ReplyCut}
 use Rattle.http_framing.specs.declared.reply_cut.ReplyCut.TheVariants as Variants
 use Rattle.http_framing.specs.declared.TheConstants.{MAX_HEAD, MAX_FIELDS, MAX_REPLY}
 
--- what the values of Content-Length come to: there has to be one
+-- `length_by vs` is the length by the values `vs` of Content-Length, of which there must be exactly one.
 abbrev pub length_by : List (List ℕ) → Announced
 length_by [] = NoNumber
 length_by (v ∷ []) = announced MAX_REPLY v
 length_by (v ∷ w ∷ vs) = NoNumber
 
--- how long the body of a reply is; a transfer coding would say it otherwise
+-- `reply_length ps` is the length of the body of a reply with the fields `ps`; a transfer coding would define it
+-- otherwise.
 abbrev pub reply_length : List Pair → Announced
 reply_length ps =
     if list_any (is_named (codes "transfer-encoding")) ps then NoNumber
     else length_by (values_named (codes "content-length") ps)
 
+-- `length_of h` is the length of the body of a reply with the head `h`.
 abbrev pub length_of : ResponseHead → Announced
 length_of h = reply_length (map name_and_value h.fields)
 
--- bytes begin with the head h of a reply, which is within the limits, and then rest
+-- `AdmitsReply bytes h rest` holds if `bytes` are the head `h` of a reply, which is within the limits, and then
+-- `rest`.
 pub record AdmitsReply (bytes : List ℕ) (h : ResponseHead) (rest : List ℕ) : Type 0 where
   pub reads : ReadsResponse bytes h rest
   pub short : length (print_response h) ≤ MAX_HEAD
   pub few : length h.fields ≤ MAX_FIELDS
 
--- bytes begin with no head of a reply within the limits
+-- `HasNoAdmittedReply bytes` holds if `bytes` do not begin with a head of a reply within the limits.
 abbrev pub HasNoAdmittedReply : List ℕ → Type 0
 HasNoAdmittedReply bytes = (h : ResponseHead) (rest : List ℕ) → AdmitsReply bytes h rest → ⊥
 
--- bytes are a reply with this status and this body, and then rest
+-- `ReadsReply bytes status body rest` holds if `bytes` are a reply with this status and this body, and then `rest`.
 pub record ReadsReply (bytes : List ℕ) (status : ℕ) (body rest : List ℕ) : Type 0 where
   pub head : ResponseHead
   pub admits : AdmitsReply bytes head (body ++ rest)
   pub framed : length_of head ≡ Size (length body)
   pub status_is : status ≡ status_code head
 
--- bytes begin with the head of a reply that says no length, or too much of it
+-- `HasNoLength bytes` holds if `bytes` begin with the head of a reply without a valid length, or with one over the
+-- limit.
 pub record HasNoLength (bytes : List ℕ) : Type 0 where
   pub head : ResponseHead
   pub rest : List ℕ
   pub admits : AdmitsReply bytes head rest
   pub framed : (length_of head ≡ NoNumber) ⊎ (length_of head ≡ TooLong)
 
--- no admitted head can come: bytes begin with a whole head of too many fields, or are too many
+-- `IsTooLargeReply bytes` holds if `bytes` begin with a whole head of too many fields, or are more than a head may
+-- be: no admitted head can follow.
 abbrev pub IsTooLargeReply : List ℕ → Type 0
 IsTooLargeReply bytes =
     ((h : ResponseHead) × (rest : List ℕ) × ReadsResponse bytes h rest × (MAX_FIELDS < length h.fields))
     ⊎ (MAX_HEAD < length bytes)
 
--- bytes begin no reply that can be read
+-- `IsBadReply bytes` holds if `bytes` do not begin with a readable reply, and cannot, whatever follows.
 abbrev pub IsBadReply : List ℕ → Type 0
 IsBadReply bytes =
     HasNoLength bytes ⊎ (HasNoAdmittedReply bytes × (IsTooLargeReply bytes ⊎ NeverHasResponse bytes))
 
--- bytes begin with an admitted head whose body is cut off
+-- `IsCutOffReply bytes` holds if `bytes` begin with an admitted head whose body is incomplete.
 pub record IsCutOffReply (bytes : List ℕ) : Type 0 where
   pub head : ResponseHead
   pub rest : List ℕ
@@ -72,34 +77,36 @@ pub record IsCutOffReply (bytes : List ℕ) : Type 0 where
   pub framed : length_of head ≡ Size size
   pub short : length rest < size
 
--- bytes are less than a head, and more may come
+-- `IsPartOfReplyHead bytes` holds if `bytes` are less than a head, and may become one.
 pub record IsPartOfReplyHead (bytes : List ℕ) : Type 0 where
   pub none : HasNoResponse bytes
   pub short : length bytes ≤ MAX_HEAD
   pub open_still : MayBecomeResponse bytes
 
--- bytes are less than a reply
+-- `IsUnfinishedReply bytes` holds if `bytes` are less than a reply.
 abbrev pub IsUnfinishedReply : List ℕ → Type 0
 IsUnfinishedReply bytes = IsCutOffReply bytes ⊎ IsPartOfReplyHead bytes
 
--- the parts lie in bytes where the reply has them
+-- `IsReplyAt bytes p` holds if `bytes` begin with a reply whose parts are at `p`.
 pub record IsReplyAt (bytes : List ℕ) (p : ReplyParts) : Type 0 where
   pub ordered : (p.body ≤ p.end) × (p.end ≤ length bytes)
   pub reads : ReadsReply bytes p.code (span_bytes bytes (record { start = p.body; end = p.end })) (drop p.end bytes)
 
--- bytes are less than a reply, and stay so, whatever comes, while they are less than so many in all
+-- `StaysUnfinishedReply bytes needed` holds if `bytes` are less than a reply, whatever follows, as long as all are
+-- fewer than `needed`.
 abbrev pub StaysUnfinishedReply : List ℕ → ℕ → Type 0
 StaysUnfinishedReply bytes needed =
     (more : List ℕ) → length (bytes ++ more) < needed → IsUnfinishedReply (bytes ++ more)
 
--- bytes are less than a reply, and stay so below so many; behind a whole head these are all that is wanted
+-- `IsUnfinishedReplyBelow bytes needed` holds if `bytes` are less than a reply, and stay so below `needed`; after a
+-- whole head, `needed` bytes are enough.
 pub record IsUnfinishedReplyBelow (bytes : List ℕ) (needed : ℕ) : Type 0 where
   pub unfinished : IsUnfinishedReply bytes
   pub below : StaysUnfinishedReply bytes needed
   pub enough :
       (more : List ℕ) → IsCutOffReply bytes → needed ≤ length (bytes ++ more) → IsUnfinishedReply (bytes ++ more) → ⊥
 
--- what stands at the front of bytes
+-- `IsReplyCut bytes cut` holds if `cut` is the result of cutting the front of `bytes`.
 abbrev pub IsReplyCut : List ℕ → ReplyCut → Type 0
 IsReplyCut bytes (Variants.Whole p) = IsReplyAt bytes p
 IsReplyCut bytes Variants.Bad = IsBadReply bytes

@@ -1,4 +1,4 @@
-//! Where the requests of a stream end.
+//! Finds where the requests of a stream end.
 ghost use Rattle.std.specs.Prelude.{◌≡◌, ◌≤◌, length, map, take, All};
 ghost use Rattle.httparse.specs.Spans.{IsHeaderWithin, IsRequestOf, IsRequestWithin, header_bytes};
 ghost use Rattle.http_framing.specs.Request.{IsCut, closes, framing, framing_by, needs_length};
@@ -10,37 +10,37 @@ use http::{Method, StatusCode};
 use httparse::Status as Parsed;
 use httparse::spans::{HeaderSpan, RequestSpans, Span, parse_request};
 
-/// How long a body is, or with which status its head is refused.
+/// The length of a body, or the status with which its head is rejected.
 #[derive(Clone, Copy)]
 pub enum Framing {
     Body(usize),
     Refused(StatusCode),
 }
 
-/// Where the parts of a request are.
+/// The byte offsets of the parts of a request.
 #[derive(Clone, Copy)]
 pub struct Parts {
     pub method: Span,
     pub target: Span,
-    /// Where the body begins.
+    /// The offset at which the body begins.
     pub body: usize,
-    /// Where the body ends, and the request with it.
+    /// The offset at which the body, and so the request, ends.
     pub end: usize,
-    /// Whether the reply to the request is the last one.
+    /// Whether the reply to this request is the last one.
     pub closes: bool,
 }
 
-/// What stands at the front of some bytes.
+/// The result of cutting the front of some bytes.
 #[derive(Clone, Copy)]
 pub enum Cut {
     Whole(Parts),
     Refused(StatusCode),
-    /// Less than a request. It stays so while there are less than so many bytes, which is how many a whole head asks
-    /// for, and 0 where the head is not whole.
+    /// Less than a request, also with more bytes as long as all are fewer than this number: the length that a whole
+    /// head asks for, or 0 if the head is not whole.
     Unfinished(usize),
 }
 
-/// Returns what one announcement comes to.
+/// Returns the framing by one announced length.
 fn framing_by(length: Announced) -> Framing
     ensures { result ≡ framing_by length }
 {
@@ -51,14 +51,14 @@ fn framing_by(length: Announced) -> Framing
     }
 }
 
-/// Returns whether a request with this method has to announce its length.
+/// Returns whether a request with this method must announce its length.
 fn needs_length(method: &[u8]) -> bool
     ensures { result ≡ needs_length method.now }
 {
     method == Method::PUT.as_str().as_bytes() || method == Method::POST.as_str().as_bytes()
 }
 
-/// Returns how long the body is, or with which status the head is refused.
+/// Returns the length of the body, or the status with which the head is rejected.
 fn framing_at(buf: &[u8], headers: &[HeaderSpan], method: &[u8]) -> Framing
     requires { All (IsHeaderWithin (length buf.now)) headers.now }
     ensures { result ≡ framing method.now (map (header_bytes buf.now) headers.now) }
@@ -90,7 +90,7 @@ fn closes(buf: &[u8], headers: &[HeaderSpan], minor: u8) -> bool
     false
 }
 
-/// Returns what stands at the front of `buf`, whose first bytes `seen` begin with the head.
+/// Cuts the front of `buf`, whose first bytes `seen` begin with the head.
 fn cut_body(buf: &[u8], seen: &[u8], headers: &[HeaderSpan], head: &RequestSpans) -> Cut
     requires seen { seen.now ≡ take MAX_HEAD buf.now }
     requires few { length headers.now ≤ MAX_FIELDS }
@@ -117,8 +117,10 @@ fn cut_body(buf: &[u8], seen: &[u8], headers: &[HeaderSpan], head: &RequestSpans
     }
 }
 
-/// Returns what stands at the front of `buf`. `room` has a header for each byte that a head may have, so that a head of
-/// too many fields is seen whole.
+/// Cuts the front of `buf`: a whole request, a rejected one, or less than one.
+///
+/// `room` has a header for each byte that a head may have, so that a head with too many fields is seen whole. Does
+/// not allocate.
 pub fn cut_request(buf: &[u8], room: &mut [HeaderSpan]) -> Cut
     requires { MAX_HEAD ≤ length room.old }
     ensures { IsCut buf.now result }

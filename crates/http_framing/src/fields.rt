@@ -1,4 +1,4 @@
-//! What the fields of a head say.
+//! The fields of a head.
 ghost use Rattle.std.specs.Prelude.{◌≡◌, ◌<◌, ◌^◌, length, map, All};
 ghost use Rattle.std.specs.Char.{to_ascii_lowercase};
 ghost use Rattle.std.specs.List.{list_any};
@@ -9,7 +9,7 @@ ghost use Rattle.http_framing.specs.inner.Found.{IsFound, skip_ows_back};
 
 use httparse::spans::HeaderSpan;
 
-/// The values of a field that is to stand once.
+/// The values of a field that is expected once.
 #[derive(Clone, Copy)]
 pub(crate) enum Found<'b> {
     Absent,
@@ -17,7 +17,7 @@ pub(crate) enum Found<'b> {
     Many,
 }
 
-/// What the value of a Content-Length says.
+/// The length that the value of a Content-Length announces.
 #[derive(Clone, Copy)]
 pub enum Announced {
     Size(usize),
@@ -66,7 +66,7 @@ pub(crate) fn has_header(buf: &[u8], headers: &[HeaderSpan], name: &[u8]) -> boo
     false
 }
 
-/// Returns the number that the text writes, if it writes one, up to `most`.
+/// Returns the decimal number that the text is, up to `most`.
 pub(crate) fn length_of(text: &[u8], most: usize) -> Announced
     requires { most < 2 ^ 32 }
     ensures { result ≡ announced most text.now }
@@ -90,7 +90,7 @@ pub(crate) fn length_of(text: &[u8], most: usize) -> Announced
     }
 }
 
-/// Returns the text from the first byte that is no blank.
+/// Returns the text from the first byte that is not whitespace (space or tab).
 fn skip_front(text: &[u8]) -> &[u8]
     ensures { result.now ≡ skip_ows text.now }
 {
@@ -101,7 +101,7 @@ fn skip_front(text: &[u8]) -> &[u8]
     rest
 }
 
-/// Returns the text up to the last byte that is no blank.
+/// Returns the text up to the last byte that is not whitespace (space or tab).
 fn skip_back(text: &[u8]) -> &[u8]
     ensures { result.now ≡ skip_ows_back text.now }
 {
@@ -112,7 +112,7 @@ fn skip_back(text: &[u8]) -> &[u8]
     rest
 }
 
-/// Returns whether the text is `close`, blanks at its ends aside.
+/// Returns whether the text is `close` in any case, apart from whitespace at its ends.
 #[tactic(auto, unfolding(httparse::specs::Grammar::trim_ows))]
 fn is_close_part(text: &[u8]) -> bool
     ensures { result ≡ is_close_part text.now }
@@ -120,7 +120,7 @@ fn is_close_part(text: &[u8]) -> bool
     skip_back(skip_front(text)).eq_ignore_ascii_case(b"close")
 }
 
-/// Returns whether a part between commas is `close`.
+/// Returns whether one of the comma-separated parts is `close`.
 fn lists_close(value: &[u8]) -> bool
     ensures { result ≡ lists_close value.now }
 {

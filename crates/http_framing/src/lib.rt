@@ -1,6 +1,6 @@
-//! Where requests and replies of HTTP/1.1 end in a stream of bytes, and which of them are refused.
+//! Finds where requests and replies of HTTP/1.1 end in a stream of bytes, and which of them are rejected.
 //!
-//! Nothing here reads or writes, and no memory is asked for.
+//! Nothing here reads, writes or allocates.
 #![tactic(auto)]
 
 pub mod cut;
@@ -9,10 +9,11 @@ pub mod laws;
 mod limits;
 pub mod reply_cut;
 
+pub use http_texts::parts::{Ask, is_host, is_method, is_target};
 pub use http_texts::reply::{HEAD_ROOM, REFUSAL_ROOM, put_head, put_refusal};
-pub use http_texts::request::{Ask, request_text};
+pub use http_texts::request::request_text;
 
-/// The most bytes of a head, its empty line included.
+/// The most bytes of a head, with its empty line.
 pub const MAX_HEAD: usize = 16_384;
 
 /// The most fields of a head.

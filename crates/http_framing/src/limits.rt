@@ -1,9 +1,9 @@
-//! What a head may have.
+//! The limits of a head.
 ghost use Rattle.std.specs.Prelude.{◌≡◌, ◌≤◌, ◌<◌, true, false, take};
 
 use crate::{MAX_FIELDS, MAX_HEAD};
 
-/// As much as a head may have.
+/// Returns the first bytes, as many as a head may have.
 pub(crate) fn first_bytes(buf: &[u8]) -> &[u8]
     ensures { result.now ≡ take MAX_HEAD buf.now }
 {
@@ -14,7 +14,7 @@ pub(crate) fn first_bytes(buf: &[u8]) -> &[u8]
     }
 }
 
-/// Returns whether a head has more fields than it may.
+/// Returns whether a head has more fields than allowed.
 pub(crate) fn has_too_many(fields: usize) -> bool
     ensures over { result ≡ true → MAX_FIELDS < fields }
     ensures fits { result ≡ false → fields ≤ MAX_FIELDS }
@@ -22,7 +22,7 @@ pub(crate) fn has_too_many(fields: usize) -> bool
     fields > MAX_FIELDS
 }
 
-/// Returns whether the `left` bytes behind a head are less than its body of this size.
+/// Returns whether the `left` bytes after a head are fewer than its body of this size.
 pub(crate) fn is_cut_off(left: usize, size: usize) -> bool
     ensures cut { result ≡ true → left < size }
     ensures whole { result ≡ false → size ≤ left }

@@ -1,4 +1,4 @@
-//! Where the reply at the front of a stream ends.
+//! Finds where the reply at the front of a stream ends.
 ghost use Rattle.std.specs.Prelude.{◌≡◌, ◌≤◌, length, map, take, All};
 ghost use Rattle.httparse.specs.Spans.{IsHeaderWithin, IsResponseOf, IsResponseWithin, header_bytes};
 ghost use Rattle.http_framing.specs.Reply.{IsReplyCut, reply_length};
@@ -9,29 +9,29 @@ use crate::{MAX_FIELDS, MAX_HEAD, MAX_REPLY};
 use httparse::Status as Parsed;
 use httparse::spans::{HeaderSpan, ResponseSpans, parse_response};
 
-/// Where the parts of a reply are.
+/// The byte offsets of the parts of a reply, and its status.
 #[derive(Clone, Copy)]
 pub struct ReplyParts {
     /// The three digits of the status, as a number.
     pub code: u16,
-    /// Where the body begins.
+    /// The offset at which the body begins.
     pub body: usize,
-    /// Where the body ends.
+    /// The offset at which the body ends.
     pub end: usize,
 }
 
-/// What stands at the front of some bytes.
+/// The result of cutting the front of some bytes.
 #[derive(Clone, Copy)]
 pub enum ReplyCut {
     Whole(ReplyParts),
-    /// They begin no reply of one length within the limits.
+    /// The bytes do not begin with a reply of one length within the limits.
     Bad,
-    /// Less than a reply. It stays so while there are less than so many bytes, which is how many a whole head asks for,
-    /// and 0 where the head is not whole.
+    /// Less than a reply, also with more bytes as long as all are fewer than this number: the length that a whole
+    /// head asks for, or 0 if the head is not whole.
     Unfinished(usize),
 }
 
-/// Returns how long the body of a reply is.
+/// Returns the length of the body of a reply.
 fn length_at(buf: &[u8], headers: &[HeaderSpan]) -> Announced
     requires { All (IsHeaderWithin (length buf.now)) headers.now }
     ensures { result ≡ reply_length (map (header_bytes buf.now) headers.now) }
@@ -45,7 +45,7 @@ fn length_at(buf: &[u8], headers: &[HeaderSpan]) -> Announced
     }
 }
 
-/// Returns what stands at the front of `buf`, whose first bytes `seen` begin with the head.
+/// Cuts the front of `buf`, whose first bytes `seen` begin with the head.
 fn cut_reply_body(buf: &[u8], seen: &[u8], headers: &[HeaderSpan], head: &ResponseSpans) -> ReplyCut
     requires seen { seen.now ≡ take MAX_HEAD buf.now }
     requires few { length headers.now ≤ MAX_FIELDS }
@@ -67,8 +67,10 @@ fn cut_reply_body(buf: &[u8], seen: &[u8], headers: &[HeaderSpan], head: &Respon
     }
 }
 
-/// Returns what stands at the front of `buf`. `room` has a header for each byte that a head may have, so that a head of
-/// too many fields is seen whole.
+/// Cuts the front of `buf`: a whole reply, a bad one, or less than one.
+///
+/// `room` has a header for each byte that a head may have, so that a head with too many fields is seen whole. Does
+/// not allocate.
 pub fn cut_reply(buf: &[u8], room: &mut [HeaderSpan]) -> ReplyCut
     requires { MAX_HEAD ≤ length room.old }
     ensures { IsReplyCut buf.now result }

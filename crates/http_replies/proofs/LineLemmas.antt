@@ -4,13 +4,13 @@ use Rattle.std.proofs.Common.{None, List, refl, sym, ap, ◌∙◌}
 use Rattle.std.proofs.Common.{append_assoc}
 use Rattle.std.proofs.lemmas.Bool.{cases_lt, agree_below_at}
 use Rattle.std.specs.Prelude.{codes, decimal}
-use Rattle.site_steps.specs.stamped_store.declared.entry.Stamp.{Stamp}
+use Rattle.site.specs.site_steps.stamped_store.declared.entry.Stamp.{Stamp}
 use Rattle.http_texts.specs.ReplyText.{error_line as stream_line}
 use Rattle.answer_lines.specs.Refusals.{error_line}
 use Rattle.json.specs.Print.{escape_byte, escape}
 use Rattle.json.proofs.Printed.Strings.{escape_byte_plain}
 use Rattle.plain.specs.Words.{AllAre, is_word_byte, is_letter, is_digit}
-use Rattle.site_steps.specs.stamped_store.SiteNames.{IsSiteName, is_site_byte}
+use Rattle.site.specs.site_steps.stamped_store.SiteNames.{IsSiteName, is_site_byte}
 use Rattle.serde_json.specs.Written.{has_float}
 use Rattle.http_replies.specs.Lines.{found_json, fault_line, put_line, stamp_line, taken_line}
 use Rattle.http_replies.specs.inner.Pieces.{boolean_word, number_or_null, site_end}

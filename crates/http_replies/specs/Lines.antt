@@ -3,7 +3,7 @@
 use Rattle.std.specs.Prelude.{ℕ, Bool, List, Option, codes}
 use Rattle.serde_json.specs.Data.{Data, boolean, number, unsigned, string, object, no_members, member}
 use Rattle.serde_json.specs.Written.{compact_text}
-use Rattle.site_steps.specs.stamped_store.declared.entry.Stamp.{Stamp}
+use Rattle.site.specs.site_steps.stamped_store.declared.entry.Stamp.{Stamp}
 use Rattle.answer_lines.specs.Refusals.{error_line}
 
 -- {"count":2,"site":"00001"}

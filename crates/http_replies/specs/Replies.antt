@@ -1,15 +1,15 @@
 -- The reply to each outcome of a request: its status, and its body. A rule of this product.
 use Rattle.std.specs.Prelude.{◌≡◌, ◌⊎◌, ℕ, List, Option, Some, None, Result, Ok, Err}
 use Rattle.http.specs.declared.status.StatusCode.{StatusCode}
-use Rattle.site_steps.specs.stamped_store.declared.entry.Stamp.{Stamp}
+use Rattle.site.specs.site_steps.stamped_store.declared.entry.Stamp.{Stamp}
 use Rattle.answer_lines.specs.authoriser.declared.answer.Answer.{Answer}
 use Rattle.answer_lines.specs.Lines.{answer_line}
-use Rattle.site_steps.specs.declared.fault.SiteFault.{SiteFault}
-use Rattle.site_steps.specs.declared.fault.SiteFault.TheVariants as fault
-use Rattle.site_steps.specs.declared.outcome.Put.{Put}
-use Rattle.site_steps.specs.declared.outcome.Taken.{Taken}
-use Rattle.site_steps.specs.declared.outcome.Taken.TheVariants.{All, Short}
-use Rattle.site_steps.specs.Faults.{code_of, place_of, within_of}
+use Rattle.site.specs.site_steps.declared.fault.SiteFault.{SiteFault}
+use Rattle.site.specs.site_steps.declared.fault.SiteFault.TheVariants as fault
+use Rattle.site.specs.site_steps.declared.outcome.Put.{Put}
+use Rattle.site.specs.site_steps.declared.outcome.Taken.{Taken}
+use Rattle.site.specs.site_steps.declared.outcome.Taken.TheVariants.{All, Short}
+use Rattle.site.specs.site_steps.Faults.{code_of, place_of, within_of}
 use Rattle.http_replies.specs.Statuses.{refusal_status}
 use Rattle.http_replies.specs.Lines.{fault_line, found_line, put_line, stamp_line, taken_line}
 

@@ -1,8 +1,8 @@
 //! Laws of replies, each the contract of a function that does nothing.
 ghost use Rattle.std.specs.Prelude.{◌≡◌, ◌++◌, ℕ, Bool, None, codes, decimal, if◌then◌else◌};
 ghost use Rattle.http_texts.specs.ReplyText.{error_line};
-ghost use Rattle.site_steps.specs.stamped_store.SiteNames.{IsSiteName};
-ghost use Rattle.site_steps.specs.stamped_store.declared.entry.Stamp.{Stamp};
+ghost use Rattle.site.specs.site_steps.stamped_store.SiteNames.{IsSiteName};
+ghost use Rattle.site.specs.site_steps.stamped_store.declared.entry.Stamp.{Stamp};
 ghost use Rattle.http_replies.specs.Lines.{fault_line, put_line, stamp_line};
 
 /// An error that is a status alone is told by one and the same line, whether a request is refused before it is read

@@ -17,9 +17,10 @@ pub use reporting::{
     report_answer, report_fault, report_found, report_message, report_put, report_stamp,
     report_status, report_taken,
 };
-pub use site_steps::{
-    EntityFault, Found, Input, Reply, Site, SiteFault, Stamp, Taken, answer,
-    inputs_have_one_outcome, runs_go_right, runs_leave_what_they_took, take_bytes,
+pub use site::{
+    EntityFault, Event, EventReply, Found, Input, Operation, Put, Reply, Site, SiteFault, SiteName,
+    Stamp, Taken, World, answer, inputs_have_one_outcome, run, runs_are_sound,
+    runs_leave_what_they_took, simulate, take_bytes,
 };
 
 /// No reply to a change, and no refusal, has a longer body than so many bytes.

@@ -2,12 +2,12 @@
 ghost use Rattle.std.specs.Prelude.{◌≡◌, ◌≤◌, ◌+◌, ◌++◌, length, vec_len, decimal};
 ghost use Rattle.std.specs.Vec.{vec_capacity};
 ghost use Rattle.http_replies.specs.Lines.{fault_line, put_line, stamp_line, taken_line};
-ghost use Rattle.site_steps.specs.stamped_store.SiteNames.{IsSiteName};
+ghost use Rattle.site.specs.site_steps.stamped_store.SiteNames.{IsSiteName};
 ghost use Rattle.http_replies.specs.inner.Pieces.{boolean_word, number_or_null, site_end};
 
 use crate::LINE_ROOM;
 use itoa::Buffer;
-use site_steps::{SiteName, Stamp};
+use site::{SiteName, Stamp};
 
 /// Appends a piece.
 fn append(text: &mut Vec<u8>, piece: &[u8])

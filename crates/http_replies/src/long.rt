@@ -9,7 +9,7 @@ use answer_lines::{Answer, answer_line};
 use json_words::write_json;
 use plain::NoMemory;
 use serde_json::{Value, json};
-use site_steps::Stamp;
+use site::Stamp;
 use std::alloc::Global;
 
 /// Appends bytes.

@@ -14,7 +14,7 @@ use crate::status::refusal_status;
 use answer_lines::Answer;
 use http::StatusCode;
 use plain::{Items, NoMemory};
-use site_steps::{Put, SiteFault, Stamp, Taken};
+use site::{Put, SiteFault, Stamp, Taken};
 use std::alloc::Global;
 
 /// Tells a refusal of the site, by its number, its place and the number within. Takes no memory.
@@ -94,7 +94,7 @@ pub fn report_taken(text: &mut Vec<u8>, outcome: Result<Taken, SiteFault>) -> St
 }
 
 /// Returns the status of a body that was appended; where memory was refused for it, that is told in its place.
-fn told_or_short(text: &mut Vec<u8>, appended: Result<(), NoMemory>) -> StatusCode
+fn status_or_no_memory(text: &mut Vec<u8>, appended: Result<(), NoMemory>) -> StatusCode
     requires room { OnErr appended (vec_len text.old + LINE_ROOM ≤ vec_capacity text.old) }
     ensures ok { OnOk appended ((result ≡ 200) × (text.new.items ≡ text.old.items)) }
     ensures err { OnErr appended ((result ≡ (fault_reply SiteFault.NoMemory).0)
@@ -122,7 +122,7 @@ pub fn report_answer(
     match outcome {
         Ok(answer) => {
             let appended = append_answer(alloc, text, answer);
-            told_or_short(text, appended)
+            status_or_no_memory(text, appended)
         }
         Err(fault) => report_fault(text, *fault),
     }
@@ -139,7 +139,7 @@ pub fn report_found(alloc: Global, text: &mut Vec<u8>, found: &Option<(&str, Sta
     match found {
         Some((policy, stamp)) => {
             let appended = append_found(alloc, text, policy, *stamp);
-            told_or_short(text, appended)
+            status_or_no_memory(text, appended)
         }
         None => report_fault(text, SiteFault::NotThere),
     }
@@ -155,7 +155,7 @@ pub fn report_message(text: &mut Vec<u8>, outcome: &Result<Items<u8>, SiteFault>
     match outcome {
         Ok(bytes) => {
             let appended = append_bytes(text, bytes.as_slice());
-            told_or_short(text, appended)
+            status_or_no_memory(text, appended)
         }
         Err(fault) => report_fault(text, *fault),
     }

@@ -1,6 +1,7 @@
--- What a request asks for, by its method and its target. Which paths and methods there are is a rule of this product. A
--- path ends before the query, its segments stand between slashes, and a policy's id is one segment, percent-decoded
--- (RFC 3986, sections 3.3, 3.4 and 2.1). Methods are told apart by their exact bytes (RFC 9110, section 9.1).
+-- Defines the operation that a request asks for, by its method and its target.
+-- Rules of this product: the paths and the methods. A path ends before the query, its segments are separated by
+-- slashes, and a policy's id is one segment, percent-decoded (RFC 3986, sections 3.3, 3.4 and 2.1). Methods are
+-- compared by their exact bytes (RFC 9110, section 9.1).
 use Prim.Native.Char.{code}
 use Rattle.std.specs.Prelude.{ℕ, Bool, true, false, not, ◌&&◌, ◌==◌, List, length, take, drop, Option, Some, None}
 use Rattle.std.specs.Prelude.{if◌then◌else◌, codes, bytes_eq}
@@ -14,39 +15,41 @@ use Rattle.http_routes.specs.declared.route.Route.TheVariants.{Authorize, PutPol
 use Rattle.http_routes.specs.declared.route.Route.TheVariants.{PutEntity, DeleteEntity, State, Summary, Delta}
 use Rattle.http_routes.specs.declared.route.Route.TheVariants.{Merge, Unknown, OtherMethod}
 
+-- `is_question_mark b` is whether the byte `b` is a question mark.
 abbrev pub is_question_mark : ℕ → Bool
 is_question_mark b = b == code "?"
 
+-- `is_slash b` is whether the byte `b` is a slash.
 abbrev pub is_slash : ℕ → Bool
 is_slash b = b == code "/"
 
--- the target up to its query
+-- `path_of target` is `target` up to its query.
 unfoldable pub path_of : List ℕ → List ℕ
 path_of target = before_first is_question_mark target
 
--- the id that bytes are
+-- `id_in bytes` is the id that the decoded `bytes` are.
 unfoldable pub id_in : List ℕ → PolicyId
 id_in bytes = if is_utf8 bytes then Named bytes else NotUtf8
 
--- the id that a segment stands for
+-- `id_of segment` is the id that `segment` names.
 abbrev pub id_of : List ℕ → PolicyId
 id_of segment = id_in (percent_decode segment)
 
--- what the path of a policy begins with
+-- `policies` is the prefix of the path of a policy.
 unfoldable pub policies : List ℕ
 policies = codes "/v1/policies/"
 
--- the segment that names a policy: all that follows, where that is one segment
+-- `segment_of path` is all after this prefix, if `path` has it and the rest is one segment.
 unfoldable pub segment_of : List ℕ → Option (List ℕ)
 segment_of path =
     if bytes_eq (take (length policies) path) policies && not (list_any is_slash (drop (length policies) path))
     then Some (drop (length policies) path) else None
 
--- the route of a path with one method
+-- `only wanted method route` is `route` if `method` is the one of its path.
 unfoldable pub only : List ℕ → List ℕ → Route → Route
 only wanted method route = if bytes_eq method wanted then route else OtherMethod
 
--- the route of a path that names no policy
+-- `plain_route method path` is the route of a `path` that does not name a policy.
 unfoldable pub plain_route : List ℕ → List ℕ → Route
 plain_route method path =
     if bytes_eq path (codes "/v1/authorize") then only (codes "POST") method Authorize
@@ -58,7 +61,7 @@ plain_route method path =
     else if bytes_eq path (codes "/v1/merge") then only (codes "POST") method Merge
     else Unknown
 
--- the route of the policy that a segment names
+-- `policy_route method segment` is the route of the policy that `segment` names.
 unfoldable pub policy_route : List ℕ → List ℕ → Route
 policy_route method segment =
     if bytes_eq method (codes "GET") then GetPolicy (id_of segment)
@@ -66,16 +69,16 @@ policy_route method segment =
     else if bytes_eq method (codes "DELETE") then DeletePolicy (id_of segment)
     else OtherMethod
 
--- the route of a path, by whether it names a policy
+-- `route_at method path segment` is the route of `path`, which names the policy `segment` if there is one.
 abbrev pub route_at : List ℕ → List ℕ → Option (List ℕ) → Route
 route_at method path None = plain_route method path
 route_at method path (Some segment) = policy_route method segment
 
--- what a method and a target ask for
+-- `route_stated method target` is the operation that this method and target ask for.
 unfoldable pub route_stated : List ℕ → List ℕ → Route
 route_stated method target = route_at method (path_of target) (segment_of (path_of target))
 
--- the route is that of a policy, which has an id
+-- `has_id route` is whether `route` is that of a policy, with its id.
 abbrev pub has_id : Route → Bool
 has_id (PutPolicy id) = true
 has_id (GetPolicy id) = true

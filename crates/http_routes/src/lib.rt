@@ -1,4 +1,4 @@
-//! Which deed a request asks a site for: its method and its target, and nothing of its body.
+//! Maps a request to an operation of a site, by its method and its target, without its body.
 #![tactic(auto)]
 
 mod path;

@@ -3,10 +3,10 @@ ghost use Rattle.std.specs.Prelude.{◌≡◌, option_map};
 ghost use Rattle.std.specs.List.{list_any};
 ghost use Rattle.http_routes.specs.Routes.{path_of, segment_of, is_slash};
 
-/// The bytes that the path of a policy begins with: its id follows.
+/// The prefix of the path of a policy; the policy's id follows.
 const POLICIES: &[u8] = b"/v1/policies/";
 
-/// Returns the target up to its query.
+/// Returns the path of a target: all before its first question mark.
 #[tactic(auto, unfolding(crate::specs::Routes::path_of))]
 pub(crate) fn path_of(target: &[u8]) -> &[u8]
     ensures { result.now ≡ path_of target.now }
@@ -19,14 +19,14 @@ pub(crate) fn path_of(target: &[u8]) -> &[u8]
     target
 }
 
-/// Returns whether a slash is among the bytes, so that they are no one segment.
+/// Returns whether the bytes contain a slash, and so are more than one segment.
 fn has_slash(bytes: &[u8]) -> bool
     ensures { result ≡ list_any is_slash bytes.now }
 {
     bytes.contains(&b'/')
 }
 
-/// Returns the segment that names a policy, where the path is that of one.
+/// Returns the segment that names a policy, if the path is that of one.
 #[tactic(auto, unfolding(crate::specs::Routes::segment_of, crate::specs::Routes::policies))]
 pub(crate) fn segment_of(path: &[u8]) -> Option<&[u8]>
     ensures { option_map (λ s. s.now) result ≡ segment_of path.now }

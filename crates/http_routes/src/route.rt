@@ -1,40 +1,40 @@
-//! What requests ask for.
+//! The operations that requests ask for.
 
 use plain::Text;
 
-/// The id that a path names a policy by.
+/// The id by which a path names a policy.
 #[derive(Drop)]
 pub enum PolicyId {
-    /// The text that the segment stands for, whatever its length: nothing of it is judged yet.
+    /// The decoded text of the segment, of any length; it is not checked yet.
     Named(Text),
-    /// What the segment stands for is not UTF-8.
+    /// The decoded segment is not UTF-8.
     NotUtf8,
 }
 
-/// What a request asks for.
+/// The operation that a request asks for.
 #[derive(Drop)]
 pub enum Route {
-    /// The request in the body is decided.
+    /// Decides the request in the body.
     Authorize,
-    /// The policy in the body is put under this id.
+    /// Puts the policy in the body under this id.
     PutPolicy(PolicyId),
-    /// The policy of this id is asked for.
+    /// Returns the policy of this id.
     GetPolicy(PolicyId),
-    /// The policy of this id is taken away.
+    /// Deletes the policy of this id.
     DeletePolicy(PolicyId),
-    /// The entity in the body is put.
+    /// Puts the entity in the body.
     PutEntity,
-    /// The entity whose uid is in the body is taken away.
+    /// Deletes the entity whose uid is in the body.
     DeleteEntity,
-    /// The state is asked for.
+    /// Returns the state.
     State,
-    /// The summary is asked for.
+    /// Returns the summary.
     Summary,
-    /// What is news to whoever has the summary in the body is asked for.
+    /// Returns a delta against the summary in the body.
     Delta,
-    /// The updates of the message in the body are taken.
+    /// Applies the updates of the message in the body.
     Merge,
-    /// No such path is known (404), whatever the method.
+    /// The path is unknown (404), whatever the method.
     Unknown,
     /// The path is known, and has another method (405).
     OtherMethod,

@@ -10,7 +10,7 @@ use percent_encoding::percent_decode;
 use plain::{NoMemory, Text};
 use std::alloc::Global;
 
-/// Returns the bytes that a segment stands for.
+/// Returns the percent-decoded bytes of a segment.
 fn decoded(alloc: Global, segment: &[u8]) -> Result<Vec<u8>, NoMemory>
     ensures { IfOk result (λ b. b.items ≡ percent_decode segment.now) }
 {
@@ -19,7 +19,7 @@ fn decoded(alloc: Global, segment: &[u8]) -> Result<Vec<u8>, NoMemory>
     Ok(bytes)
 }
 
-/// Returns the id that bytes are. Takes no memory.
+/// Returns the id that decoded bytes are. Does not allocate.
 #[tactic(auto, unfolding(crate::specs::Routes::id_in))]
 fn id_in(bytes: Vec<u8>) -> PolicyId
     ensures { result ≡ id_in bytes.items }
@@ -30,7 +30,7 @@ fn id_in(bytes: Vec<u8>) -> PolicyId
     }
 }
 
-/// Returns the id that a segment stands for.
+/// Returns the id that a segment names.
 fn id_of(alloc: Global, segment: &[u8]) -> Result<PolicyId, NoMemory>
     ensures { IfOk result (λ id. id ≡ id_of segment.now) }
 {
@@ -57,7 +57,7 @@ fn only(wanted: &Method, method: &[u8], route: Route) -> Route
     }
 }
 
-/// Returns the route of a path that names no policy.
+/// Returns the route of a path that does not name a policy.
 #[tactic(auto, unfolding(crate::specs::Routes::plain_route))]
 fn plain_route(method: &[u8], path: &[u8]) -> Route
     ensures { result ≡ plain_route method.now path.now }
@@ -86,7 +86,7 @@ fn plain_route(method: &[u8], path: &[u8]) -> Route
     Route::Unknown
 }
 
-/// Returns the route of the policy that a segment names. Memory is asked for where the method is one that a policy has.
+/// Returns the route of the policy that a segment names. Allocates only if a policy has this method.
 #[tactic(auto, unfolding(crate::specs::Routes::policy_route))]
 fn policy_route(alloc: Global, method: &[u8], segment: &[u8]) -> Result<Route, NoMemory>
     ensures route { IfOk result (λ r. r ≡ policy_route method.now segment.now) }
@@ -104,12 +104,15 @@ fn policy_route(alloc: Global, method: &[u8], segment: &[u8]) -> Result<Route, N
     Ok(Route::OtherMethod)
 }
 
-/// Returns what a request with this method and this target asks for. The path is the target up to its first question
-/// mark, and nothing else is cut or decoded but the id of a policy, which is one segment, the empty one too: there a
-/// percent sign with two hexadecimal digits is the byte that they are, and any other percent sign stands for itself
-/// (RFC 3986, section 2.1). Methods are told apart by their exact bytes (RFC 9110, section 9.1).
+/// Returns the operation that a request with this method and this target asks for.
 ///
-/// Fails only where memory is refused for the id of a policy: what has no id takes no memory.
+/// The path is the target up to its first question mark. Only the id of a policy is decoded, which is one segment,
+/// possibly empty: a percent sign with two hexadecimal digits is the byte of these digits, and any other percent sign
+/// is itself (RFC 3986, section 2.1). Methods are compared by their exact bytes (RFC 9110, section 9.1).
+///
+/// # Errors
+///
+/// `NoMemory`, only for the id of a policy: a route without an id does not allocate.
 #[tactic(auto, unfolding(crate::specs::Routes::route_stated))]
 pub fn route_of(alloc: Global, method: &[u8], target: &[u8]) -> Result<Route, NoMemory>
     ensures route { IfOk result (λ r. r ≡ route_stated method.now target.now) }

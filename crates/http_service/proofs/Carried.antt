@@ -6,7 +6,7 @@ use Rattle.http_streams.specs.Serving.{IsAnswered}
 use Rattle.http_streams.specs.declared.serve.StreamFault.{StreamFault}
 use Rattle.http_streams.proofs.Simulated.{answered}
 use Rattle.http_replies.specs.site_steps.schema.Views.{schema_view}
-use Rattle.http_replies.specs.site_steps.Seen.{Seen, schema_of, store_in, IsSameSite}
+use Rattle.http_replies.specs.site_steps.SiteViews.{SiteView, schema_of, store_in, IsSameSite}
 use Rattle.http_replies.specs.site_steps.Runs.{Run}
 use Rattle.http_replies.proofs.of_site_steps.RunLemmas.{run_push, same_step}
 use Rattle.http_routes.specs.Routes.{route_stated}
@@ -18,24 +18,24 @@ use Rattle.http_service.proofs.RunLemmas.{RunsTake}
 
 -- ---- the run that a stream makes so far, from the site that it began with
 
-pub record Running (first : Seen) (v : Served) : Type 0 where
+pub record Running (first : SiteView) (v : Served) : Type 0 where
   pub run : Run (schema_of first) first.name (store_in first) v.inputs v.replies (store_in v.site)
   pub same : IsSameSite first v.site
 
-unchanged : (old new : Seen) → new ≡ old → IsSameSite old new
-unchanged old new h = (ap (λ (a : Seen). a.schema) h, ap (λ (a : Seen). a.name) h)
+unchanged : (old new : SiteView) → new ≡ old → IsSameSite old new
+unchanged old new h = (ap (λ (a : SiteView). a.schema) h, ap (λ (a : SiteView). a.name) h)
 
-same_then : (a b c : Seen) → IsSameSite a b → IsSameSite b c → IsSameSite a c
+same_then : (a b c : SiteView) → IsSameSite a b → IsSameSite b c → IsSameSite a c
 same_then a b c h k = (k.0 ∙ h.0, k.1 ∙ h.1)
 
-no_step : (first : Seen) (v : Served) (new : Seen) → Running first v → new ≡ v.site
+no_step : (first : SiteView) (v : Served) (new : SiteView) → Running first v → new ≡ v.site
     → Running first (record { site = new; inputs = v.inputs; replies = v.replies })
 no_step first v new h e = record {
-  run = subst (λ (s : Seen). Run (schema_of first) first.name (store_in first) v.inputs v.replies (store_in s)) (sym e) h.run;
+  run = subst (λ (s : SiteView). Run (schema_of first) first.name (store_in first) v.inputs v.replies (store_in s)) (sym e) h.run;
   same = same_then first v.site new h.same (unchanged v.site new e);
 }
 
-one_request : (first : Seen) (a : Asked) (v : Served) (new : Seen) (status : StatusCode) (line : List ℕ) → Running first v
+one_request : (first : SiteView) (a : Asked) (v : Served) (new : SiteView) (status : StatusCode) (line : List ℕ) → Running first v
     → Replies v.site a status line new
     → (w : Served) × Continues v a status line w × Running first w × (w.site ≡ new)
 one_request first (hands i) v new status line so_far h = (
@@ -74,7 +74,7 @@ carry_on : (start a b : SiteService) (x : Served) (m t body : List ℕ) (status 
 carry_on start a b x m t body status line carries h =
     let asks = asked (route_stated m t) body in
     let one = one_request start.site.now asks x b.site.now status line carries.running
-    (subst (λ (s : Seen). Replies s asks status line b.site.now) (sym carries.site) h.0) in
+    (subst (λ (s : SiteView). Replies s asks status line b.site.now) (sym carries.site) h.0) in
     (one.0, one.1, record { site = one.3; running = one.2; borrow = h.1 ∙ carries.borrow })
 
 carried_first : (start : SiteService) → Carries start start (unasked start.site.now)
@@ -102,12 +102,12 @@ module _ {R W : Type 0} (left : R → Option (List ℕ)) (read_failures : R → 
       holds write_failures write_fails first last before after old new (unasked old.site.now) result
       (carried_first old) h in
       let start = old.site.now in
-      let ran = subst (λ (s : Seen). Running start (record { site = s; inputs = all.0.inputs; replies = all.0.replies }))
+      let ran = subst (λ (s : SiteView). Running start (record { site = s; inputs = all.0.inputs; replies = all.0.replies }))
       all.2.site all.2.running in (
         record {
           inputs = all.0.inputs;
           replies = all.0.replies;
-          answered = subst (λ (s : Seen). IsAnswered continues_run left read_failures reads read_fails holds
+          answered = subst (λ (s : SiteView). IsAnswered continues_run left read_failures reads read_fails holds
               write_failures write_fails first last before after (unasked start)
               (record { site = s; inputs = all.0.inputs; replies = all.0.replies }) result) all.2.site all.1;
           run = ran.run;

@@ -9,7 +9,7 @@ use Rattle.values.specs.declared.entity_uid.EntityUid.{EntityUid}
 use Rattle.http_replies.specs.site_steps.entities.declared.fault.EntityFault.TheVariants.{BadShape}
 use Rattle.http_replies.specs.policy_grammar.declared.fault.ReadFault.{ReadFault}
 use Rattle.http_replies.specs.policy_grammar.declared.fault.ReadFault.TheVariants.{BadId}
-use Rattle.http_replies.specs.site_steps.Seen.{Seen, schema_of, store_in, IsSameSite}
+use Rattle.http_replies.specs.site_steps.SiteViews.{SiteView, schema_of, store_in, IsSameSite}
 use Rattle.http_replies.specs.site_steps.declared.fault.SiteFault.{SiteFault}
 use Rattle.http_replies.specs.site_steps.declared.fault.SiteFault.TheVariants as fault
 use Rattle.http_replies.specs.site_steps.declared.outcome.Put.{Put}
@@ -32,7 +32,7 @@ use Rattle.http_service.specs.Answered.{told}
 use Rattle.http_service.specs.inner.Dealing.{ReportsOrNoMemory, Deals, Tells, lacking}
 use Rattle.http_replies.specs.site_steps.schema.Schemas.{StatedSchema}
 
-pub handed : (old new : Seen) (i : Input) (r : Reply) (status : StatusCode) (before after : List ℕ)
+pub handed : (old new : SiteView) (i : Input) (r : Reply) (status : StatusCode) (before after : List ℕ)
     → Step (schema_of old) old.name (store_in old) i r (store_in new) → IsSameSite old new
     → status ≡ (told r).0 → after ≡ before ++ (told r).1 → Deals old (hands i) status before after new
 handed old new i r status before after step same e f =
@@ -87,38 +87,38 @@ step_lacks schema n s (input.Authorize b) (reply.Written r) t h = absurd h
 step_lacks schema n s (input.GetPolicy id) (reply.Written r) t h = absurd h
 
 -- what the site replied is told
-pub dealt : (old new : Seen) (i : Input) (r : Reply) (status : StatusCode) (before after : List ℕ)
+pub dealt : (old new : SiteView) (i : Input) (r : Reply) (status : StatusCode) (before after : List ℕ)
     → Step (schema_of old) old.name (store_in old) i r (store_in new) → IsSameSite old new
     → Tells r status before after → Deals old (hands i) status before after new
 dealt old new i r status before after step same (line, f, inl h) = (line, f, (r, step, same, h))
 dealt old new i r status before after step same (line, f, inr h) =
     (line, f, (lacking r, step_lacks (schema_of old) old.name (store_in old) i r (store_in new) step, same, h))
 
-pub refuses : (old : Seen) (f : SiteFault) (status : StatusCode) (before after : List ℕ) → status ≡ (fault_reply f).0
+pub refuses : (old : SiteView) (f : SiteFault) (status : StatusCode) (before after : List ℕ) → status ≡ (fault_reply f).0
     → after ≡ before ++ (fault_reply f).1 → Deals old (refused f) status before after old
 refuses old f status before after e g =
     ((fault_reply f).1, g, (inl (ap (λ (s : StatusCode). (s, (fault_reply f).1)) e), refl))
 
-pub lacks : (old : Seen) (f : SiteFault) (status : StatusCode) (before after : List ℕ)
+pub lacks : (old : SiteView) (f : SiteFault) (status : StatusCode) (before after : List ℕ)
     → status ≡ (fault_reply fault.NoMemory).0 → after ≡ before ++ (fault_reply fault.NoMemory).1
     → Deals old (refused f) status before after old
 lacks old f status before after e g =
     ((fault_reply fault.NoMemory).1, g, (inr (ap (λ (s : StatusCode). (s, (fault_reply fault.NoMemory).1)) e), refl))
 
-pub unserves : (old : Seen) (u status : StatusCode) (before after : List ℕ) → status ≡ (status_reply u).0
+pub unserves : (old : SiteView) (u status : StatusCode) (before after : List ℕ) → status ≡ (status_reply u).0
     → after ≡ before ++ (status_reply u).1 → Deals old (unserved u) status before after old
 unserves old u status before after e g =
     ((status_reply u).1, g, (ap (λ (s : StatusCode). (s, (status_reply u).1)) e, refl))
 
 -- ---- a policy that is put
 
-pub put_text : (old new : Seen) (body id text : List ℕ) (status : StatusCode) (before after : List ℕ) → is_utf8 body ≡ true
+pub put_text : (old new : SiteView) (body id text : List ℕ) (status : StatusCode) (before after : List ℕ) → is_utf8 body ≡ true
     → text ≡ body → Deals old (hands (input.PutPolicy id text)) status before after new
     → Deals old (put_asked body id) status before after new
 put_text old new body id text status before after utf8 e h =
     rw utf8 (subst (λ (t : List ℕ). Deals old (hands (input.PutPolicy id t)) status before after new) e h)
 
-pub put_other : (old : Seen) (body id : List ℕ) (why : ReadFault) (status : StatusCode) (before after : List ℕ)
+pub put_other : (old : SiteView) (body id : List ℕ) (why : ReadFault) (status : StatusCode) (before after : List ℕ)
     → is_utf8 body ≡ false → why ≡ not_text id body → status ≡ (fault_reply (fault.Policy why)).0
     → after ≡ before ++ (fault_reply (fault.Policy why)).1 → Deals old (put_asked body id) status before after old
 put_other old body id why status before after other e f g =
@@ -132,13 +132,13 @@ not_utf8 bytes false e h = e
 
 -- ---- an entity that is taken away
 
-pub removed : (old new : Seen) (o : Option EntityUid) (uid : EntityUid) (status : StatusCode) (before after : List ℕ)
+pub removed : (old new : SiteView) (o : Option EntityUid) (uid : EntityUid) (status : StatusCode) (before after : List ℕ)
     → o ≡ Some uid → Deals old (hands (input.DeleteEntity uid)) status before after new
     → Deals old (removal_asked o) status before after new
 removed old new o uid status before after e h =
     subst (λ (x : Option EntityUid). Deals old (removal_asked x) status before after new) (sym e) h
 
-pub removal_lacks : (old : Seen) (o : Option EntityUid) (status : StatusCode) (before after : List ℕ)
+pub removal_lacks : (old : SiteView) (o : Option EntityUid) (status : StatusCode) (before after : List ℕ)
     → status ≡ (fault_reply fault.NoMemory).0 → after ≡ before ++ (fault_reply fault.NoMemory).1
     → Deals old (removal_asked o) status before after old
 removal_lacks old (Some uid) status before after f g =
@@ -148,7 +148,7 @@ removal_lacks old None status before after f g = lacks old (fault.Entity BadShap
 
 -- ---- want of memory before the site is asked
 
-put_lacks : (old : Seen) (yes : Bool) (body id : List ℕ) (status : StatusCode) (before after : List ℕ)
+put_lacks : (old : SiteView) (yes : Bool) (body id : List ℕ) (status : StatusCode) (before after : List ℕ)
     → is_utf8 body ≡ yes → status ≡ (fault_reply fault.NoMemory).0
     → after ≡ before ++ (fault_reply fault.NoMemory).1
     → Deals old (put_asked body id) status before after old
@@ -158,7 +158,7 @@ put_lacks old true body id status before after e f g =
 put_lacks old false body id status before after e f g =
     rw e (lacks old (fault.Policy (not_text id body)) status before after f g)
 
-pub unrouted : (old : Seen) (r : Route) (body : List ℕ) (status : StatusCode) (before after : List ℕ) → IsTrue (has_id r)
+pub unrouted : (old : SiteView) (r : Route) (body : List ℕ) (status : StatusCode) (before after : List ℕ) → IsTrue (has_id r)
     → status ≡ (fault_reply fault.NoMemory).0
     → after ≡ before ++ (fault_reply fault.NoMemory).1 → Deals old (asked r body) status before after old
 unrouted old (route.PutPolicy (Named id)) body status before after has f g =

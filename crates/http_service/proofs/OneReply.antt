@@ -6,7 +6,7 @@ use Rattle.http_replies.specs.site_steps.schema.Schemas.{StatedSchema, IsSchemaO
 use Rattle.http_replies.specs.site_steps.schema.Views.{schema_view, IsStated}
 use Rattle.http_replies.specs.site_steps.schema.SchemaEntries.{SchemaEntries}
 use Rattle.http_replies.specs.site_steps.stamped_store.Store.{Store}
-use Rattle.http_replies.specs.site_steps.Seen.{Seen, schema_of, store_in, IsSameSite}
+use Rattle.http_replies.specs.site_steps.SiteViews.{SiteView, schema_of, store_in, IsSameSite}
 use Rattle.http_replies.specs.site_steps.declared.fault.SiteFault.{SiteFault}
 use Rattle.http_replies.specs.site_steps.declared.fault.SiteFault.TheVariants as fault
 use Rattle.http_replies.specs.Replies.{fault_reply}
@@ -101,14 +101,14 @@ told_whole : (r : Reply) (line : Line) → line ≡ told r → line.0 ≢ 503 �
 told_whole r line is h = is_whole r (λ e. h (ap (λ (l : Line). l.0) is ∙ e))
 
 -- a step of the one site is a step of the other
-step_of : (a b : Seen) (i : Input) (r : Reply) (t : Store) → IsSameSite a b → store_in b ≡ store_in a
+step_of : (a b : SiteView) (i : Input) (r : Reply) (t : Store) → IsSameSite a b → store_in b ≡ store_in a
     → Step (schema_of b) b.name (store_in b) i r t → Step (schema_of a) a.name (store_in a) i r t
 step_of a b i r t same store h =
     subst (λ (s : Store). Step (schema_of a) a.name s i r t) store
     (subst (λ (n : List ℕ). Step (schema_of a) n (store_in b) i r t) same.1
     (subst (λ (k : StatedSchema). Step k b.name (store_in b) i r t) (ap schema_view same.0) h))
 
-still_alike : (old old2 new new2 : Seen) → IsAlike old old2 → IsSameSite old new → IsSameSite old2 new2
+still_alike : (old old2 new new2 : SiteView) → IsAlike old old2 → IsSameSite old new → IsSameSite old2 new2
     → store_in new ≡ store_in new2 → IsAlike new new2
 still_alike old old2 new new2 alike one two stores = (
   subst (λ (k : SchemaEntries). IsStated k) (sym one.0) alike.0,
@@ -116,10 +116,10 @@ still_alike old old2 new new2 alike one two stores = (
   sym stores,
 )
 
-unchanged : (old new : Seen) → new ≡ old → IsSameSite old new
-unchanged old new h = (ap (λ (a : Seen). a.schema) h, ap (λ (a : Seen). a.name) h)
+unchanged : (old new : SiteView) → new ≡ old → IsSameSite old new
+unchanged old new h = (ap (λ (a : SiteView). a.schema) h, ap (λ (a : SiteView). a.name) h)
 
-alike_after : (old old2 new new2 : Seen) → IsAlike old old2 → new ≡ old → new2 ≡ old2 → IsAlike new new2
+alike_after : (old old2 new new2 : SiteView) → IsAlike old old2 → new ≡ old → new2 ≡ old2 → IsAlike new new2
 alike_after old old2 new new2 alike one two =
     still_alike old old2 new new2 alike (unchanged old new one) (unchanged old2 new2 two)
     (ap store_in one ∙ sym alike.2 ∙ sym (ap store_in two))
@@ -129,7 +129,7 @@ refused_line : (f : SiteFault) (line : Line) → (line ≡ fault_reply f) ⊎ (l
 refused_line f line (inl is) h = is
 refused_line f line (inr is) h = absurd (h (ap (λ (l : Line). l.0) is))
 
-one_of : HaveOneOutcome → (a : Asked) (old old2 : Seen) (st st2 : StatusCode) (x x2 : List ℕ) (new new2 : Seen)
+one_of : HaveOneOutcome → (a : Asked) (old old2 : SiteView) (st st2 : StatusCode) (x x2 : List ℕ) (new new2 : SiteView)
     → IsAlike old old2 → Replies old a st x new → st ≢ 503
     → Replies old2 a st2 x2 new2 → st2 ≢ 503 → (line st x ≡ line st2 x2) × IsAlike new new2
 one_of law (hands i) old old2 st st2 x x2 new new2 alike h some k some2 =

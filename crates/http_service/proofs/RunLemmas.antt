@@ -6,7 +6,7 @@ use Rattle.http_streams.specs.Stream.{Closes, Ends, Exchanges, Halts, Rests, Ser
 use Rattle.http_replies.specs.site_steps.schema.Schemas.{StatedSchema}
 use Rattle.http_replies.specs.site_steps.schema.Views.{schema_view}
 use Rattle.http_replies.specs.site_steps.stamped_store.Store.{Store, store_of, updates}
-use Rattle.http_replies.specs.site_steps.Seen.{Seen, schema_of, store_in, IsSameSite}
+use Rattle.http_replies.specs.site_steps.SiteViews.{SiteView, schema_of, store_in, IsSameSite}
 use Rattle.http_replies.specs.site_steps.Runs.{Run, took}
 use Rattle.http_replies.specs.site_steps.Inputs.{Input}
 use Rattle.http_replies.specs.site_steps.declared.reply.Reply.{Reply}
@@ -16,25 +16,25 @@ use Rattle.http_service.specs.Answered.{answers, Replies}
 use Rattle.http_service.specs.Streams.{inputs_of, AskFor, LeavesRun}
 
 -- the run of some requests, its store not yet told
-pub record Goes (n : ℕ) (old : Seen) (bytes rest : List ℕ) (new : Seen) : Type 0 where
+pub record Goes (n : ℕ) (old : SiteView) (bytes rest : List ℕ) (new : SiteView) : Type 0 where
   pub inputs : List Input
   pub replies : List Reply
   pub asks : AskFor n bytes rest inputs
   pub run : Run (schema_of old) old.name (store_in old) inputs replies (store_in new)
   pub same : IsSameSite old new
 
-unchanged : (old new : Seen) → new ≡ old → IsSameSite old new
-unchanged old new h = (ap (λ (a : Seen). a.schema) h, ap (λ (a : Seen). a.name) h)
+unchanged : (old new : SiteView) → new ≡ old → IsSameSite old new
+unchanged old new h = (ap (λ (a : SiteView). a.schema) h, ap (λ (a : SiteView). a.name) h)
 
 -- a site that is the same runs the same
-same_run : (a b : Seen) (s : Store) (is : List Input) (rs : List Reply) (t : Store) → IsSameSite a b
+same_run : (a b : SiteView) (s : Store) (is : List Input) (rs : List Reply) (t : Store) → IsSameSite a b
     → Run (schema_of b) b.name s is rs t → Run (schema_of a) a.name s is rs t
 same_run a b s is rs t same h =
     subst (λ k. Run (schema_of a) k s is rs t) same.1
     (subst (λ (c : StatedSchema). Run c b.name s is rs t) (ap schema_view same.0) h)
 
 -- a request, and then some more
-before : (a : Asked) (old mid new : Seen) (status : StatusCode) (line : List ℕ) (is : List Input) (rs : List Reply)
+before : (a : Asked) (old mid new : SiteView) (status : StatusCode) (line : List ℕ) (is : List Input) (rs : List Reply)
     → Replies old a status line mid → IsSameSite mid new
     → Run (schema_of mid) mid.name (store_in mid) is rs (store_in new)
     → (all : List Reply) × Run (schema_of old) old.name (store_in old) (inputs_of a ++ is) all (store_in new)
@@ -59,10 +59,10 @@ before (unserved u) old mid new status line is rs h same run =
       (same.0 ∙ e.0, same.1 ∙ e.1),
     )
 
-goes_none : (old : Seen) (bytes : List ℕ) → Goes zero old bytes bytes old
+goes_none : (old : SiteView) (bytes : List ℕ) → Goes zero old bytes bytes old
 goes_none old bytes = record { inputs = []; replies = []; asks = (refl, refl); run = refl; same = (refl, refl) }
 
-goes_more : (n : ℕ) (old mid new : Seen) (bytes after rest : List ℕ) (last : Bool) (out : List ℕ)
+goes_more : (n : ℕ) (old mid new : SiteView) (bytes after rest : List ℕ) (last : Bool) (out : List ℕ)
     → Exchanges answers old bytes last out mid after → Goes n mid after rest new → Goes (suc n) old bytes rest new
 goes_more n old mid new bytes after rest last out h g =
     let a = asked (route_stated h.head.method h.head.target) h.body in
@@ -76,12 +76,12 @@ goes_more n old mid new bytes after rest last out h g =
     }
 
 -- requests that go on, and then what comes of the rest
-goes_then : (n m : ℕ) (old mid new : Seen) (bytes rest out last : List ℕ) → Serves answers n old bytes rest out mid
+goes_then : (n m : ℕ) (old mid new : SiteView) (bytes rest out last : List ℕ) → Serves answers n old bytes rest out mid
     → Goes m mid rest last new → (k : ℕ) × Goes k old bytes last new
 goes_then zero m old mid new bytes rest out last h g = (
   m,
   subst (λ (b : List ℕ). Goes m old b last new) (sym h.0)
-      (subst (λ (s : Seen). Goes m s rest last new) h.2 g),
+      (subst (λ (s : SiteView). Goes m s rest last new) h.2 g),
 )
 goes_then (suc n) m old mid new bytes rest out last h g =
     let more = goes_then n m h.0 mid new h.1 rest h.3 last h.5 g in
@@ -92,7 +92,7 @@ abbrev pub RunsTake : Type 0
 RunsTake = (schema : StatedSchema) (n : List ℕ) (s : Store) (is : List Input) (rs : List Reply) (t : Store)
     → Run schema n s is rs t → t ≡ store_of (updates s ++ took schema is rs)
 
-left : RunsTake → (old new : Seen) (bytes last : List ℕ) → (n : ℕ) × Goes n old bytes last new → LeavesRun old bytes new
+left : RunsTake → (old new : SiteView) (bytes last : List ℕ) → (n : ℕ) × Goes n old bytes last new → LeavesRun old bytes new
 left law old new bytes last (n, g) = record {
   count = n;
   rest = last;
@@ -104,37 +104,37 @@ left law old new bytes last (n, g) = record {
   same = g.same;
 }
 
-one : (old new : Seen) (bytes after : List ℕ) (last : Bool) (out : List ℕ)
+one : (old new : SiteView) (bytes after : List ℕ) (last : Bool) (out : List ℕ)
     → Exchanges answers old bytes last out new after → Goes 1 old bytes after new
 one old new bytes after last out h = goes_more 0 old new new bytes after after last out h (goes_none new after)
 
-none : (old new : Seen) (bytes : List ℕ) → new ≡ old → Goes 0 old bytes bytes new
-none old new bytes h = subst (λ (s : Seen). Goes 0 old bytes bytes s) (sym h) (goes_none old bytes)
+none : (old new : SiteView) (bytes : List ℕ) → new ≡ old → Goes 0 old bytes bytes new
+none old new bytes h = subst (λ (s : SiteView). Goes 0 old bytes bytes s) (sym h) (goes_none old bytes)
 
-pub rests_run : RunsTake → (old new : Seen) (bytes out : List ℕ) → Rests answers old bytes out new
+pub rests_run : RunsTake → (old new : SiteView) (bytes out : List ℕ) → Rests answers old bytes out new
     → LeavesRun old bytes new
 rests_run law old new bytes out h =
     left law old new bytes h.rest
     (goes_then h.count 0 old new new bytes h.rest out h.rest h.serves (goes_none new h.rest))
 
-closes_run : (old new : Seen) (bytes out : List ℕ) → Closes answers old bytes out new
+closes_run : (old new : SiteView) (bytes out : List ℕ) → Closes answers old bytes out new
     → (n : ℕ) × (rest : List ℕ) × Goes n old bytes rest new
 closes_run old new bytes out (inl h) = (1, h.0, one old new bytes h.0 true out h.1)
 closes_run old new bytes out (inr h) = (0, bytes, none old new bytes h.3)
 
-halts_run : (old new : Seen) (bytes out : List ℕ) → Halts answers old bytes out new
+halts_run : (old new : SiteView) (bytes out : List ℕ) → Halts answers old bytes out new
     → (n : ℕ) × (rest : List ℕ) × Goes n old bytes rest new
 halts_run old new bytes out (back, some, inl h) = (1, h.0, one old new bytes h.0 h.1 (out ++ back) h.2)
 halts_run old new bytes out (back, some, inr h) = (0, bytes, none old new bytes h.3)
 
-pub ends_run : RunsTake → (old new : Seen) (bytes out : List ℕ) → Ends answers old bytes out new
+pub ends_run : RunsTake → (old new : SiteView) (bytes out : List ℕ) → Ends answers old bytes out new
     → LeavesRun old bytes new
 ends_run law old new bytes out h =
     let last = closes_run h.mid new h.rest h.last h.closes in
     left law old new bytes last.1
     (goes_then h.count last.0 old h.mid new bytes h.rest h.before last.1 h.serves last.2)
 
-pub stops_run : RunsTake → (old new : Seen) (bytes out : List ℕ) → Stops answers old bytes out new
+pub stops_run : RunsTake → (old new : SiteView) (bytes out : List ℕ) → Stops answers old bytes out new
     → LeavesRun old bytes new
 stops_run law old new bytes out h =
     let last = halts_run h.mid new h.rest h.last h.halts in

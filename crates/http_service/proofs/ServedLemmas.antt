@@ -8,7 +8,7 @@ use Rattle.http_streams.specs.Serving.{EndsAs, IsAnswered}
 use Rattle.http_streams.specs.declared.serve.StreamFault.{StreamFault}
 use Rattle.http_streams.specs.declared.serve.StreamFault.TheVariants as fault
 use Rattle.http_streams.proofs.Simulated.{answered}
-use Rattle.http_replies.specs.site_steps.Seen.{Seen}
+use Rattle.http_replies.specs.site_steps.SiteViews.{SiteView}
 use Rattle.http_replies.specs.site_steps.Inputs.{Input}
 use Rattle.http_routes.specs.Routes.{route_stated}
 use Rattle.http_service.specs.Asked.{Asked, asked, hands, refused, unserved}
@@ -25,11 +25,11 @@ replied (hands i) v w status line h = (h.0, h.1, h.2, h.3)
 replied (refused f) v w status line h = h.0
 replied (unserved s) v w status line h = h.0
 
-one_answer : (v w : Served) (s : Seen) (m t body : List ℕ) (status : StatusCode) (line : List ℕ) → v.site ≡ s
-    → continues_run v m t body status line w → (u : Seen) × answers s m t body status line u × (w.site ≡ u)
+one_answer : (v w : Served) (s : SiteView) (m t body : List ℕ) (status : StatusCode) (line : List ℕ) → v.site ≡ s
+    → continues_run v m t body status line w → (u : SiteView) × answers s m t body status line u × (w.site ≡ u)
 one_answer v w s m t body status line is h =
     let a = asked (route_stated m t) body in
-    (w.site, subst (λ (x : Seen). Replies x a status line w.site) is (replied a v w status line h), refl)
+    (w.site, subst (λ (x : SiteView). Replies x a status line w.site) is (replied a v w status line h), refl)
 
 -- ---- the inputs are those that the requests ask for
 
@@ -101,22 +101,22 @@ asks_stops v w bytes out h =
 module _ {R W : Type 0} (left : R → Option (List ℕ)) (read_failures : R → ℕ) (reads : R → ℕ → List ℕ → R → Type 0)
     (read_fails : R → R → Type 0) (holds : W → Option (List ℕ)) (write_failures : W → ℕ)
     (write_fails : W → W → Type 0) where
-  abbrev Called : R → R → W → W → Seen → Seen → Result (Unit {0}) StreamFault → Type 0
+  abbrev Called : R → R → W → W → SiteView → SiteView → Result (Unit {0}) StreamFault → Type 0
   Called = IsServed left read_failures reads read_fails holds write_failures write_fails
 
-  pub site_answers : (first last : R) (before after : W) (old new : Seen) (result : Result (Unit {0}) StreamFault)
+  pub site_answers : (first last : R) (before after : W) (old new : SiteView) (result : Result (Unit {0}) StreamFault)
       → Called first last before after old new result
       → IsAnswered answers left read_failures reads read_fails holds write_failures write_fails first last before after
       old new result
   site_answers first last before after old new result h =
       let v : Served = record { site = new; inputs = h.inputs; replies = h.replies } in
-      let all = answered continues_run answers (λ (x : Served) (s : Seen). x.site ≡ s) one_answer left read_failures reads
+      let all = answered continues_run answers (λ (x : Served) (s : SiteView). x.site ≡ s) one_answer left read_failures reads
       read_fails holds write_failures write_fails first last before after (unasked old) v old result refl h.answered
       in
-      subst (λ (s : Seen). IsAnswered answers left read_failures reads read_fails holds write_failures write_fails first
+      subst (λ (s : SiteView). IsAnswered answers left read_failures reads read_fails holds write_failures write_fails first
       last before after old s result) (sym all.2) all.1
 
-  leaves_as : RunsTake → (first last : R) (before after : W) (old new : Seen) (bytes out : List ℕ)
+  leaves_as : RunsTake → (first last : R) (before after : W) (old new : SiteView) (bytes out : List ℕ)
       (result : Result (Unit {0}) StreamFault)
       → EndsAs answers left read_failures reads read_fails holds write_failures write_fails first last before after old
       new bytes out result
@@ -129,7 +129,7 @@ module _ {R W : Type 0} (left : R → Option (List ℕ)) (read_failures : R → 
   leaves_as law first last before after old new bytes out (Err fault.NoMemory) h = rests_run law old new bytes out h.0
   leaves_as law first last before after old new bytes out (Err fault.Write) h = stops_run law old new bytes out h.0
 
-  pub run_left : RunsTake → (first last : R) (before after : W) (old new : Seen)
+  pub run_left : RunsTake → (first last : R) (before after : W) (old new : SiteView)
       (result : Result (Unit {0}) StreamFault) → Called first last before after old new result
       → (bytes : List ℕ) × Consumes (left first) (left last) bytes × LeavesRun old bytes new
   run_left law first last before after old new result h =
@@ -150,7 +150,7 @@ module _ {R W : Type 0} (left : R → Option (List ℕ)) (read_failures : R → 
   asks_as first last before after v w bytes out (Err fault.NoMemory) h = asks_rests v w bytes out h.0
   asks_as first last before after v w bytes out (Err fault.Write) h = asks_stops v w bytes out h.0
 
-  pub inputs_asked : (first last : R) (before after : W) (old new : Seen) (result : Result (Unit {0}) StreamFault)
+  pub inputs_asked : (first last : R) (before after : W) (old new : SiteView) (result : Result (Unit {0}) StreamFault)
       (h : Called first last before after old new result)
       → (count : ℕ) × (rest : List ℕ) × AskFor count h.answered.bytes rest h.inputs
   inputs_asked first last before after old new result h =

@@ -2,7 +2,7 @@
 use Rattle.std.specs.Prelude.{◌≡◌, ◌⊎◌, ℕ, List, Ok, Err, option_map}
 use Rattle.http.specs.declared.status.StatusCode.{StatusCode}
 use Rattle.http_replies.specs.site_steps.schema.Views.{IsStated}
-use Rattle.http_replies.specs.site_steps.Seen.{Seen, schema_of, store_in, IsSameSite}
+use Rattle.http_replies.specs.site_steps.SiteViews.{SiteView, schema_of, store_in, IsSameSite}
 use Rattle.http_replies.specs.site_steps.declared.fault.SiteFault.TheVariants as fault
 use Rattle.http_replies.specs.site_steps.Runs.{Step}
 use Rattle.http_replies.specs.site_steps.declared.reply.Reply.{Reply}
@@ -28,7 +28,7 @@ told (reply.Written r) = message_reply r
 
 -- an input is one step of the site, and its reply is told; what is refused before changes nothing, and may meet want of
 -- memory first
-abbrev pub Replies : Seen → Asked → StatusCode → List ℕ → Seen → Type 0
+abbrev pub Replies : SiteView → Asked → StatusCode → List ℕ → SiteView → Type 0
 Replies old (hands i) status line new =
     (r : Reply) × Step (schema_of old) old.name (store_in old) i r (store_in new) × IsSameSite old new
     × ((status, line) ≡ told r)
@@ -37,7 +37,7 @@ Replies old (refused f) status line new =
 Replies old (unserved s) status line new = ((status, line) ≡ status_reply s) × (new ≡ old)
 
 -- a request with this method, this target and this body may be answered so
-abbrev pub answers : Seen → List ℕ → List ℕ → List ℕ → StatusCode → List ℕ → Seen → Type 0
+abbrev pub answers : SiteView → List ℕ → List ℕ → List ℕ → StatusCode → List ℕ → SiteView → Type 0
 answers old method target body status line new =
     Replies old (asked (route_stated method target) body) status line new
 
@@ -47,5 +47,5 @@ answers_over old method target body status line new =
     answers old.site.now method target body status line new.site.now × (new.site.ghost_name ≡ old.site.ghost_name)
 
 -- sites of one schema, which some bytes state, and of one name, with equal stores: requests tell no difference
-abbrev pub IsAlike : Seen → Seen → Type 0
+abbrev pub IsAlike : SiteView → SiteView → Type 0
 IsAlike a b = IsStated a.schema × IsSameSite a b × (store_in b ≡ store_in a)

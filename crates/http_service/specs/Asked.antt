@@ -20,7 +20,7 @@ use Rattle.http_routes.specs.declared.route.PolicyId.TheVariants.{Named, NotUtf8
 use Rattle.http_routes.specs.declared.route.Route.{Route}
 use Rattle.http_routes.specs.declared.route.Route.TheVariants as route
 
--- the site is handed an input; or it is handed nothing, since a fault is seen before, or no deed is asked for
+-- the site is handed an input; or it is handed nothing, since a fault is seen before, or no operation is asked for
 pub data Asked : Type 0 where
   hands : Input → Asked
   refused : SiteFault → Asked
@@ -35,10 +35,10 @@ abbrev pub not_text : List ℕ → List ℕ → ReadFault
 not_text id body =
     if is_policy_id id then if nat_le (length body) most_policy_bytes then BadToken 0 else TooLong else BadId
 
--- a deed upon the policy of this id
+-- an operation upon the policy of this id
 abbrev pub upon : PolicyId → (List ℕ → Asked) → Asked
-upon (Named id) deed = deed id
-upon NotUtf8 deed = refused (fault.Policy BadId)
+upon (Named id) operation = operation id
+upon NotUtf8 operation = refused (fault.Policy BadId)
 
 -- a body is put under an id
 abbrev pub put_asked : List ℕ → List ℕ → Asked

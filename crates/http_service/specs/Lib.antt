@@ -8,3 +8,5 @@ pub use Rattle.http_replies.specs.answer_lines
 pub use Rattle.http_replies.specs.entity_data
 pub use Rattle.http_replies.specs.policy_grammar
 pub use Rattle.http_replies.specs.site_steps
+pub use Rattle.http_replies.specs as http_replies
+pub use Rattle.http_replies.specs.site

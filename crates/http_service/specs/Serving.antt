@@ -6,7 +6,7 @@ use Rattle.http.specs.declared.status.StatusCode.{StatusCode}
 use Rattle.http_streams.specs.Serving.{IsAnswered}
 use Rattle.http_streams.specs.declared.serve.StreamFault.{StreamFault}
 use Rattle.http_replies.specs.site_steps.stamped_store.Store.{store_of, updates}
-use Rattle.http_replies.specs.site_steps.Seen.{Seen, schema_of, store_in, IsSameSite}
+use Rattle.http_replies.specs.site_steps.SiteViews.{SiteView, schema_of, store_in, IsSameSite}
 use Rattle.http_replies.specs.site_steps.Runs.{Step, Run, took}
 use Rattle.http_replies.specs.site_steps.Inputs.{Input}
 use Rattle.http_replies.specs.site_steps.declared.reply.Reply.{Reply}
@@ -16,16 +16,16 @@ use Rattle.http_service.specs.Answered.{Replies, told}
 
 -- a site in the midst of a stream: the inputs that the requests so far have handed to it, and its reply to each
 pub record Served : Type 0 where
-  pub site : Seen
+  pub site : SiteView
   pub inputs : List Input
   pub replies : List Reply
 
 -- no request has come
-abbrev pub unasked : Seen → Served
+abbrev pub unasked : SiteView → Served
 unasked site = record { site = site; inputs = []; replies = [] }
 
 -- One request. An input is one step of the site, whose reply is told and is the next of the run's; what is refused
--- before, and what no deed is asked by, is told as ever and is no part of the run.
+-- before, and what no operation is asked by, is told as ever and is no part of the run.
 abbrev pub Continues : Served → Asked → StatusCode → List ℕ → Served → Type 0
 Continues old (hands i) status line new =
     (r : Reply) × Step (schema_of old.site) old.site.name (store_in old.site) i r (store_in new.site)
@@ -49,10 +49,10 @@ module _ {R W : Type 0} (left : R → Option (List ℕ)) (read_failures : R → 
   -- their order; what was written are the replies to the requests, among them those of the site to these inputs; and
   -- the site went on from old to new by the run of these inputs with these replies. How the stream ended the result
   -- says, and so which requests are answered: all, or up to a reply of which a first part went out.
-  -- An example: `PUT /policies/a` and `GET /nowhere` were read, and then the end. The one input is that text put under
-  -- `a`, and its reply a stamp; what was written is the reply 200 that tells the stamp, and then the reply 404; the new
-  -- store is that of the updates that the site had and of this one.
-  pub record IsServed (first last : R) (before after : W) (old new : Seen) (result : Result (Unit {0}) StreamFault)
+  -- An example: `PUT /v1/policies/a` and `GET /nowhere` were read, and then the end. The one input is that text put
+  -- under `a`, and its reply a stamp; what was written is the reply 200 that tells the stamp, and then the reply 404;
+  -- the new store is that of the updates that the site had and of this one.
+  pub record IsServed (first last : R) (before after : W) (old new : SiteView) (result : Result (Unit {0}) StreamFault)
       : Type 0 where
     pub inputs : List Input
     pub replies : List Reply

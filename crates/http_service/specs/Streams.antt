@@ -4,7 +4,7 @@ use Rattle.std.specs.Prelude.{◌≡◌, ℕ, suc, zero, List, [], ◌∷◌, �
 use Rattle.httparse.specs.Grammar.{RequestHead}
 use Rattle.http_streams.specs.http_framing.Request.{ReadsWhole}
 use Rattle.http_replies.specs.site_steps.stamped_store.Store.{store_of, updates}
-use Rattle.http_replies.specs.site_steps.Seen.{Seen, schema_of, store_in, IsSameSite}
+use Rattle.http_replies.specs.site_steps.SiteViews.{SiteView, schema_of, store_in, IsSameSite}
 use Rattle.http_replies.specs.site_steps.Runs.{Run, took}
 use Rattle.http_replies.specs.site_steps.Inputs.{Input}
 use Rattle.http_replies.specs.site_steps.declared.reply.Reply.{Reply}
@@ -27,7 +27,7 @@ AskFor (suc n) bytes rest is =
 -- the first requests of bytes ask for inputs, and the site goes on by a run of these: its store is that of the updates
 -- that it had and of those that it took. It may be that no request is served, by a count of 0: then the site is as it
 -- was.
-pub record LeavesRun (old : Seen) (bytes : List ℕ) (new : Seen) : Type 0 where
+pub record LeavesRun (old : SiteView) (bytes : List ℕ) (new : SiteView) : Type 0 where
   pub count : ℕ
   pub rest : List ℕ
   pub inputs : List Input

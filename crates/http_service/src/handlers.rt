@@ -4,7 +4,7 @@ ghost use Rattle.std.specs.Str.{is_utf8};
 ghost use Rattle.std.specs.Vec.{vec_capacity};
 ghost use Rattle.json_words.specs.Json.{json_of};
 ghost use Rattle.http_replies.specs.entity_uids.Uids.{uid_in};
-ghost use Rattle.http_replies.specs.site_steps.Seen.{schema_of, store_in, IsSameSite};
+ghost use Rattle.http_replies.specs.site_steps.SiteViews.{schema_of, store_in, IsSameSite};
 ghost use Rattle.http_replies.specs.site_steps.Steps.{Answers, PutsEntity};
 ghost use Rattle.http_streams.specs.declared.TheConstants.{REPLY_ROOM};
 ghost use Rattle.http_routes.specs.Routes.{route_stated};

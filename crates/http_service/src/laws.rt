@@ -5,7 +5,7 @@ ghost use Rattle.http.specs.declared.status.StatusCode.{StatusCode};
 ghost use Rattle.http_streams.specs.Laws.{AgreeOn, AnswersAll, BeginsAnswer, HasOneAnswer, StopsIn, in_memory};
 ghost use Rattle.http_streams.specs.Serving.{IsAnswered};
 ghost use Rattle.http_streams.specs.Stream.{Ends, Rests, Stops};
-ghost use Rattle.http_replies.specs.site_steps.Seen.{Seen};
+ghost use Rattle.http_replies.specs.site_steps.SiteViews.{SiteView};
 ghost use Rattle.http_replies.specs.site_steps.Inputs.{Input};
 ghost use Rattle.http_replies.specs.site_steps.declared.reply.Reply.{Reply};
 ghost use Rattle.http_replies.specs.site_steps.schema.Views.{IsStated};
@@ -16,7 +16,7 @@ ghost use Rattle.http_service.specs.Serving.{IsServed};
 ghost use Rattle.http_service.specs.Streams.{AskFor, LeavesRun};
 
 use crate::site_service::Stated;
-use http_replies::{inputs_have_one_outcome, runs_go_right, runs_leave_what_they_took};
+use http_replies::{inputs_have_one_outcome, runs_are_sound, runs_leave_what_they_took};
 use http_streams::laws::{begins_answer, one_answer};
 use http_streams::serve::StreamFault;
 use http_streams::{Sink, Source};
@@ -24,9 +24,12 @@ use http_streams::{Sink, Source};
 /// However a stream of requests ends, the site goes on by a run of the inputs that the requests ask for, in their
 /// order: so its store is that of the updates that it had and of those that it took.
 pub fn streams_leave_runs()
-    ensures rests { (old new : Seen) (bytes out : List ℕ) → Rests answers old bytes out new → LeavesRun old bytes new }
-    ensures ends { (old new : Seen) (bytes out : List ℕ) → Ends answers old bytes out new → LeavesRun old bytes new }
-    ensures stops { (old new : Seen) (bytes out : List ℕ) → Stops answers old bytes out new → LeavesRun old bytes new }
+    ensures rests { (old new : SiteView) (bytes out : List ℕ) → Rests answers old bytes out new
+        → LeavesRun old bytes new }
+    ensures ends { (old new : SiteView) (bytes out : List ℕ) → Ends answers old bytes out new
+        → LeavesRun old bytes new }
+    ensures stops { (old new : SiteView) (bytes out : List ℕ) → Stops answers old bytes out new
+        → LeavesRun old bytes new }
 {
     runs_leave_what_they_took();
 }
@@ -36,14 +39,14 @@ pub fn streams_leave_runs()
 /// the inputs of the run are those that the first requests of what was read ask for. `run`: so the site's store is that
 /// of the updates that it had and of those that it took.
 pub fn served_streams_are_answered<R: Source, W: Sink>()
-    ensures answered { (first last : R) (before after : W) (old new : Seen) (result : Result (Unit {0}) StreamFault)
+    ensures answered { (first last : R) (before after : W) (old new : SiteView) (result : Result (Unit {0}) StreamFault)
         → IsServed R.left R.failed R.reads R.fails W.holds W.failed W.fails first last before after old new result
         → IsAnswered answers R.left R.failed R.reads R.fails W.holds W.failed W.fails first last before after old new
         result }
-    ensures asked { (first last : R) (before after : W) (old new : Seen) (result : Result (Unit {0}) StreamFault)
+    ensures asked { (first last : R) (before after : W) (old new : SiteView) (result : Result (Unit {0}) StreamFault)
         (h : IsServed R.left R.failed R.reads R.fails W.holds W.failed W.fails first last before after old new result)
         → (count : ℕ) × (rest : List ℕ) × AskFor count h.answered.bytes rest h.inputs }
-    ensures run { (first last : R) (before after : W) (old new : Seen) (result : Result (Unit {0}) StreamFault)
+    ensures run { (first last : R) (before after : W) (old new : SiteView) (result : Result (Unit {0}) StreamFault)
         → IsServed R.left R.failed R.reads R.fails W.holds W.failed W.fails first last before after old new result
         → (bytes : List ℕ) × Consumes (R.left first) (R.left last) bytes × LeavesRun old bytes new }
 {
@@ -63,10 +66,10 @@ pub fn requests_have_one_reply()
 /// these bytes. The one corner: a stream that ends inside a request target whose bytes are no UTF-8 may get the reply
 /// 400 or nothing. That an answer is one in memory, or a 503 stands in it, is `http_streams::laws::in_memory_or_503`.
 pub fn cuts_make_no_difference()
-    ensures whole { (old old2 new new2 : Seen) (stream out more : List ℕ) → IsAlike old old2
+    ensures whole { (old old2 new new2 : SiteView) (stream out more : List ℕ) → IsAlike old old2
         → AnswersAll (in_memory answers) old stream out new → AnswersAll (in_memory answers) old2 stream more new2
         → AgreeOn (in_memory answers) IsAlike old old2 stream out more new new2 }
-    ensures broken { (old old2 new new2 : Seen) (stream out more : List ℕ) → IsAlike old old2
+    ensures broken { (old old2 new new2 : SiteView) (stream out more : List ℕ) → IsAlike old old2
         → StopsIn (in_memory answers) old stream out new → AnswersAll (in_memory answers) old2 stream more new2
         → BeginsAnswer (in_memory answers) old2 stream out more new2 }
 {
@@ -78,10 +81,10 @@ pub fn cuts_make_no_difference()
 /// What a request that is handed to a site is replied tells of no error of type, of attribute or of an extension
 /// function: it is the reply of one step, in whose answer a policy errs since an entity is not stored, or since a
 /// number leaves its bounds.
-pub fn served_answers_go_right()
-    ensures { (old new : Seen) (input : Input) (status : StatusCode) (line : List ℕ) → IsStated old.schema
+pub fn served_answers_are_sound()
+    ensures { (old new : SiteView) (input : Input) (status : StatusCode) (line : List ℕ) → IsStated old.schema
         → Replies old (hands input) status line new
         → (reply : Reply) × IsHarmlessReply reply × ((status, line) ≡ told reply) }
 {
-    runs_go_right();
+    runs_are_sound();
 }

@@ -11,13 +11,17 @@ mod serving;
 mod site_service;
 
 pub use http_replies::{
-    Answer, Refusal, Site, SiteFault, Taken, answer_line, error_line, take_bytes,
+    Answer, Event, EventReply, Found, Input, LINE_ROOM, Operation, Put, Refusal, Reply, Site,
+    SiteFault, SiteName, Stamp, Taken, World, answer_line, error_line, report_fault, report_put,
+    report_stamp, report_taken, run, simulate, take_bytes,
 };
 pub use http_streams::fetch::{FetchFault, fetch};
 pub use http_streams::serve::StreamFault;
-pub use http_streams::{Ask, Counted, Fed, Kept, Sink, Source};
+pub use http_streams::{
+    Ask, Counted, Fed, Kept, Plan, Sink, Source, is_host, is_method, is_target,
+};
 pub use laws::{
-    cuts_make_no_difference, requests_have_one_reply, served_answers_go_right,
+    cuts_make_no_difference, requests_have_one_reply, served_answers_are_sound,
     served_streams_are_answered, streams_leave_runs,
 };
 pub use serving::serve;

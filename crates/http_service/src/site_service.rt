@@ -30,10 +30,10 @@ pub struct Stated {
 }
 
 impl Model for Stated {
-    ghost use Rattle.http_replies.specs.site_steps.Seen.{Seen};
+    ghost use Rattle.http_replies.specs.site_steps.SiteViews.{SiteView};
     ghost use Rattle.http_replies.specs.site_steps.contracts.site.Site as row;
 
-    ghost Value = { Seen };
+    ghost Value = { SiteView };
 
     ghost coded = { row.the_row.coded };
 

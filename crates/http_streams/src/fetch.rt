@@ -37,6 +37,9 @@ pub enum FetchFault {
 }
 
 /// Writes one request, and reads the reply to it: its status and its body. What comes behind the reply is not judged.
+///
+/// Within the limits of `cut_request`, the bytes written parse as exactly what `ask` says (`requests_read_back` of
+/// `http_framing`).
 pub fn fetch<R: Source, W: Sink>(
     alloc: Global,
     reader: &mut R,

@@ -12,7 +12,7 @@ pub mod service;
 
 pub use http_devices::devices::{Counted, Sink, Source};
 pub use http_devices::memory::{Fed, Kept, Plan};
-pub use http_framing::Ask;
+pub use http_framing::{Ask, is_host, is_method, is_target};
 
 /// The most bytes that one read takes.
 pub const MAX_READ: usize = 16_384;

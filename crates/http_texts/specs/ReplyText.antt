@@ -1,28 +1,30 @@
--- The text of a reply (RFC 9112, sections 4 and 5; the fields are those of RFC 9110, sections 8.3, 8.6 and 7.6.1).
+-- Defines the bytes of a reply (RFC 9112, sections 4 and 5; the fields are those of RFC 9110, sections 8.3, 8.6 and
+-- 7.6.1).
 use Rattle.std.specs.Prelude.{ℕ, Bool, List, [], ◌++◌, length, if◌then◌else◌, codes, decimal, unwrap_or}
 use Rattle.http.specs.StatusCode.{reason_phrase}
 use Rattle.http.specs.declared.status.StatusCode.{StatusCode}
 
--- the reason phrase of a status, empty if it has none; that of 413 is RFC 7231's, and that of 422 RFC 4918's
+-- `phrase status` is the reason phrase of `status`, empty if it has none; that of 413 is RFC 7231's, and that of 422
+-- RFC 4918's.
 unfoldable pub phrase : StatusCode → List ℕ
 phrase status = unwrap_or (reason_phrase status) []
 
--- HTTP/1.1, the digits and the phrase
+-- `status_line status` is HTTP/1.1, the digits and the phrase of `status`.
 unfoldable pub status_line : StatusCode → List ℕ
 status_line status = codes "HTTP/1.1 " ++ decimal status ++ codes " " ++ phrase status
 
--- what the body is, and how long
+-- `length_lines size` is the fields Content-Type and Content-Length.
 unfoldable pub length_lines : ℕ → List ℕ
 length_lines size = codes "\r\nContent-Type: application/json\r\nContent-Length: " ++ decimal size
 
--- what ends the head: on the last reply of a stream a field says so
+-- `ending last` is the end of the head: on the last reply of a stream, with a field that says so.
 unfoldable pub ending : Bool → List ℕ
 ending last = if last then codes "\r\nConnection: close\r\n\r\n" else codes "\r\n\r\n"
 
--- a whole reply
+-- `reply_text last status body` is a whole reply.
 unfoldable pub reply_text : Bool → StatusCode → List ℕ → List ℕ
 reply_text last status body = status_line status ++ length_lines (length body) ++ ending last ++ body
 
--- the line that tells of an error (a rule of this product)
+-- `error_line number` is the line of an error with this code (a rule of this product).
 unfoldable pub error_line : ℕ → List ℕ
 error_line number = codes "{\"error\":{\"code\":" ++ decimal number ++ codes ",\"place\":null,\"within\":null}}"

@@ -1,17 +1,16 @@
-//! Replies, as bytes. Each is put together from its end to its front, in room that is there already: no memory is
-//! asked for.
+//! Writes replies as bytes, from the end to the front of a given buffer. Does not allocate.
 ghost use Rattle.std.specs.Prelude.{◌≡◌, ◌≤◌, ◌+◌, ◌++◌, true, length, drop, decimal};
 ghost use Rattle.http_texts.specs.ReplyText.{ending, error_line, length_lines, phrase, reply_text, status_line};
 
 use http::StatusCode;
 
-/// Room for the head of any reply.
+/// The bytes that the head of any reply fits in.
 pub const HEAD_ROOM: usize = 160;
 
-/// Room for a whole reply to a head that is refused.
+/// The bytes that a whole reply to a rejected head fits in.
 pub const REFUSAL_ROOM: usize = 256;
 
-/// Puts the piece right before `end`, and answers where it begins.
+/// Writes the piece right before `end`; returns where it begins.
 fn put_piece(room: &mut [u8], end: usize, piece: &[u8]) -> usize
     requires fits { length piece.now ≤ end }
     requires inside { end ≤ length room.old }
@@ -23,7 +22,7 @@ fn put_piece(room: &mut [u8], end: usize, piece: &[u8]) -> usize
     start
 }
 
-/// Puts the number's digits right before `end`, and answers where they begin.
+/// Writes the number's digits right before `end`; returns where they begin.
 fn put_number(room: &mut [u8], end: usize, number: usize) -> usize
     requires fits { 20 ≤ end }
     requires inside { end ≤ length room.old }
@@ -34,7 +33,7 @@ fn put_number(room: &mut [u8], end: usize, number: usize) -> usize
     itoa::write_digits(number as u64, room, end)
 }
 
-/// Returns what ends the head of a reply.
+/// Returns the end of the head of a reply.
 #[tactic(auto, unfolding(crate::specs::ReplyText::ending))]
 fn ending(last: bool) -> &'static str
     ensures text { result.now ≡ ending last }
@@ -47,7 +46,7 @@ fn ending(last: bool) -> &'static str
     }
 }
 
-/// Puts the line that says how long the body is, and the line before it.
+/// Writes the fields Content-Type and Content-Length right before `end`; returns where they begin.
 #[tactic(auto, unfolding(crate::specs::ReplyText::length_lines))]
 fn put_length(room: &mut [u8], end: usize, size: usize) -> usize
     requires fits { 80 ≤ end }
@@ -72,7 +71,7 @@ fn phrase(status: StatusCode) -> &'static str
     status.canonical_reason().unwrap_or("")
 }
 
-/// Puts the status line.
+/// Writes the status line right before `end`; returns where it begins.
 #[tactic(auto, unfolding(crate::specs::ReplyText::status_line))]
 fn put_status(room: &mut [u8], end: usize, status: StatusCode) -> usize
     requires fits { 56 ≤ end }
@@ -87,8 +86,8 @@ fn put_status(room: &mut [u8], end: usize, status: StatusCode) -> usize
     put_piece(room, digits, b"HTTP/1.1 ")
 }
 
-/// Puts the head of a reply before its body, which reaches from `body` to the end of the room, and answers where the
-/// reply begins.
+/// Writes the head of a reply right before its body, which extends from `body` to the end of `room`; returns where
+/// the reply begins.
 #[tactic(auto, unfolding(crate::specs::ReplyText::reply_text))]
 pub fn put_head(room: &mut [u8], body: usize, last: bool, status: StatusCode) -> usize
     requires fits { HEAD_ROOM ≤ body }
@@ -102,7 +101,7 @@ pub fn put_head(room: &mut [u8], body: usize, last: bool, status: StatusCode) ->
     put_status(room, lines, status)
 }
 
-/// Puts the line that tells of an error.
+/// Writes the line of an error right before `end`; returns where it begins.
 #[tactic(auto, unfolding(crate::specs::ReplyText::error_line))]
 fn put_error(room: &mut [u8], end: usize, code: u16) -> usize
     requires fits { 96 ≤ end }
@@ -116,7 +115,7 @@ fn put_error(room: &mut [u8], end: usize, code: u16) -> usize
     put_piece(room, digits, b"{\"error\":{\"code\":")
 }
 
-/// Puts a whole reply that ends the stream at the end of the room, and answers where it begins.
+/// Writes a whole reply that ends the stream at the end of `room`; returns where it begins.
 pub fn put_refusal(room: &mut [u8], status: StatusCode) -> usize
     requires fits { length room.old ≡ REFUSAL_ROOM }
     ensures order { result ≤ length room.new }

@@ -1,21 +1,12 @@
-//! The text of a request.
+//! Writes requests.
 ghost use Rattle.std.specs.Prelude.{◌≡◌, ◌++◌, IfOk, OnOk, decimal};
 ghost use Rattle.http_texts.specs.RequestText.{body_bytes, length_field, request_start, request_text};
 
-use http::Method;
+use crate::parts::Ask;
 use itoa::Buffer;
 use std::alloc::{AllocError, Global};
 
-/// A request that is to be sent. `host` is what the field `Host` says, `path` the target.
-#[derive(Clone, Copy)]
-pub struct Ask<'a> {
-    pub method: &'a Method,
-    pub host: &'a [u8],
-    pub path: &'a [u8],
-    pub body: Option<&'a [u8]>,
-}
-
-/// Returns the request's first line, up to the host.
+/// Returns the request's first line, and the next up to the host.
 #[tactic(auto, unfolding(crate::specs::RequestText::request_start))]
 fn request_start(alloc: Global, ask: &Ask<'_>) -> Result<Vec<u8>, AllocError>
     ensures { IfOk result (λ out. out.items ≡ request_start ask.now.method.now ask.now.path.now) }
@@ -34,7 +25,7 @@ fn push_number(out: &mut Vec<u8>, number: usize) -> Result<(), AllocError>
     out.extend_from_slice(Buffer::new().format(number).as_bytes())
 }
 
-/// Appends how long the body is, where there is one.
+/// Appends the field Content-Length, if there is a body.
 #[tactic(auto, unfolding(crate::specs::RequestText::length_field))]
 fn push_length(out: &mut Vec<u8>, body: Option<&[u8]>) -> Result<(), AllocError>
     ensures { OnOk result (out.new.items ≡ out.old.items ++ length_field body.entry) }
@@ -47,7 +38,7 @@ fn push_length(out: &mut Vec<u8>, body: Option<&[u8]>) -> Result<(), AllocError>
     Ok(())
 }
 
-/// Appends the body, where there is one.
+/// Appends the body, if there is one.
 #[tactic(auto, unfolding(crate::specs::RequestText::body_bytes))]
 fn push_body(out: &mut Vec<u8>, body: Option<&[u8]>) -> Result<(), AllocError>
     ensures { OnOk result (out.new.items ≡ out.old.items ++ body_bytes body.entry) }
@@ -58,8 +49,12 @@ fn push_body(out: &mut Vec<u8>, body: Option<&[u8]>) -> Result<(), AllocError>
     }
 }
 
-/// Returns the whole request, with its body, which asks to close the connection after the reply (RFC 9112, section 3).
-/// Fails only where memory is refused.
+/// Returns the bytes of a request with its body, which asks to close the connection after the reply (RFC 9112,
+/// section 3).
+///
+/// # Errors
+///
+/// `AllocError` alone.
 #[tactic(auto, unfolding(crate::specs::RequestText::request_text))]
 pub fn request_text(alloc: Global, ask: &Ask<'_>) -> Result<Vec<u8>, AllocError>
     ensures { IfOk result (λ out. out.items ≡ request_text ask.now) }

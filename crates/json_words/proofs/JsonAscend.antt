@@ -31,19 +31,19 @@ some_same x y e = cc
 
 -- ---- a member more
 
-abbrev Above : List ℕ → List (List ℕ) → Type 0
-Above k ks = AllByRecursion (λ l. text_cmp k l ≡ Less) ks
+abbrev IsAncestor : List ℕ → List (List ℕ) → Type 0
+IsAncestor k ks = AllByRecursion (λ l. text_cmp k l ≡ Less) ks
 
-above_put : (x k : List ℕ) (d : Data) (ms : Members) → text_cmp x k ≡ Less → Above x (member_keys ms) → Above x (member_keys (put k d ms))
+above_put : (x k : List ℕ) (d : Data) (ms : Members) → text_cmp x k ≡ Less → IsAncestor x (member_keys ms) → IsAncestor x (member_keys (put k d ms))
 above_put x k d no_members lt h = (lt, tt)
 above_put x k d (member l e ms) lt h = by (text_cmp k l) (above_put x k d ms lt h.1)
   where
-    by : (r : Ordering) → Above x (member_keys (put k d ms)) → Above x (member_keys (match_ordering r (member k d (member l e ms)) (member l d ms) (member l e (put k d ms))))
+    by : (r : Ordering) → IsAncestor x (member_keys (put k d ms)) → IsAncestor x (member_keys (match_ordering r (member k d (member l e ms)) (member l d ms) (member l e (put k d ms))))
     by Less rest = (lt, h)
     by Equal rest = h
     by Greater rest = (h.0, rest)
 
-below_all : (k l : List ℕ) (ks : List (List ℕ)) → text_cmp k l ≡ Less → Above l ks → Above k ks
+below_all : (k l : List ℕ) (ks : List (List ℕ)) → text_cmp k l ≡ Less → IsAncestor l ks → IsAncestor k ks
 below_all k l [] lt h = tt
 below_all k l (m ∷ ks) lt h = (text_cmp-IsTotalOrder.trans k l m lt h.0, below_all k l ks lt h.1)
 

@@ -6,5 +6,6 @@ pub mod JsonLemmas
 pub mod KeysLemmas
 pub mod MembersLemmas
 pub mod CompactLemmas
+pub mod CompactUtf8
 pub mod JsonAscend
 pub mod Compact

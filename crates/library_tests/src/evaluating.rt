@@ -1,11 +1,11 @@
 //! What an expression gives to whoever hands in a request and stored entities, one by one or as one question.
-use crate::shared::{both, holds, uid_of};
-use entity_data::{EntityStore, NoActions, World};
+use crate::shared::{holds, uid_of};
+use entities::{EntityStore, NoActions, World};
 use evaluator::{
-    Asking, BorrowedOrOwned, EvalFault, Lookup, evaluate, evaluate_asked, evaluate_test,
+    BorrowedOrOwned, EvalFault, Lookup, RequestEnv, evaluate, evaluate_in, evaluate_test,
 };
-use grammar_core::{Binary, Expr, Literal};
-use plain::{NoMemory, Shared};
+use plain::{NoMemory, Shared, both};
+use policy_grammar::{Binary, Expr, Literal};
 use std::alloc::Global;
 use std::process::Abort;
 use values::{Record, Request};
@@ -55,8 +55,8 @@ fn evaluates<L: Lookup>(rt: &impl Abort, alloc: Global, expr: &Expr, request: &R
     holds(rt, is_true(&given), "a request and a store");
     let told = evaluate_test(alloc, expr, request, store);
     holds(rt, is_told(&told), "the same as a test");
-    let question = Asking { request, store };
-    let given = evaluate_asked(alloc, expr, &question);
+    let question = RequestEnv { request, store };
+    let given = evaluate_in(alloc, expr, &question);
     holds(rt, is_true(&given), "both as one question");
 }
 

@@ -1,8 +1,7 @@
 //! Hierarchies: questions, changes, cycles, and refused memory. Each test is of any type of hierarchy.
-use crate::shared::{both, ended, finished, holds, uid_of};
-use ancestor_closure::Closed;
-use ancestor_search::{Ancestry, Hierarchy, Searched};
-use plain::NoMemory;
+use crate::shared::{ended, finished, holds, uid_of};
+use ancestor_closure::{Ancestry, Closed, Hierarchy, Searched};
+use plain::{NoMemory, both};
 use std::alloc::Global;
 use std::process::Abort;
 use values::EntityUid;

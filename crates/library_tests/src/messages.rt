@@ -3,8 +3,6 @@ use crate::shared::holds;
 use authoriser::PolicyError;
 use evaluator::EvalFault;
 use extensions::NoMemory;
-use http_streams::fetch::FetchFault;
-use http_streams::serve::StreamFault;
 use policy_grammar::ReadFault;
 use schema::SchemaFault;
 use stamped_store::Short;
@@ -75,40 +73,6 @@ fn policy_errors_have_messages(rt: HostRuntime) -> Result<(), NoMemory> {
         (PolicyError::ExtensionError, "invalid decimal or IP address"),
     ] {
         says(&rt, rt.alloc(), error, text)?;
-    }
-    Ok(())
-}
-
-#[test]
-fn stream_errors_have_messages(rt: HostRuntime) -> Result<(), NoMemory> {
-    let alloc = rt.alloc();
-    says(&rt, alloc, &StreamFault::Read, "network 70: reading failed")?;
-    says(
-        &rt,
-        alloc,
-        &StreamFault::Write,
-        "network 71: writing failed",
-    )?;
-    says(
-        &rt,
-        alloc,
-        &StreamFault::NoMemory,
-        "network 1: out of memory",
-    )?;
-    for (error, text) in &[
-        (FetchFault::Read, "network 70: reading failed"),
-        (FetchFault::Write, "network 71: writing failed"),
-        (
-            FetchFault::BadReply,
-            "network 72: no HTTP reply of one length within the limits",
-        ),
-        (
-            FetchFault::Ended,
-            "network 73: connection closed before the end of the reply",
-        ),
-        (FetchFault::NoMemory, "network 1: out of memory"),
-    ] {
-        says(&rt, alloc, error, text)?;
     }
     Ok(())
 }

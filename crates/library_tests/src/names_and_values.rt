@@ -1,7 +1,7 @@
 //! Names and values: their orders, and copies, also where memory is refused.
-use crate::shared::{Copied, both, ended, finished, holds, is_copied, uid_of};
+use crate::shared::{Copied, ended, finished, holds, is_copied, uid_of};
 use extensions::{Decimal, IpNet};
-use plain::{NoMemory, Text};
+use plain::{NoMemory, Text, both};
 use std::alloc::{AllocError, Global};
 use std::process::Abort;
 use values::*;

@@ -1,5 +1,5 @@
 //! Each call once with ample memory, at concrete types.
-use crate::shared::{Copied, ascend, both, finished, holds, is_copied};
+use crate::shared::{Copied, ascend, finished, holds, is_copied};
 use plain::*;
 use std::alloc::Global;
 use std::process::Abort;

@@ -1,10 +1,8 @@
 //! The index of policies by their scopes: which policies a request is offered, and changes that are refused.
-use crate::shared::{both, ended, holds, uid_of};
-use ancestor_closure::Closed;
-use ancestor_search::Hierarchy;
-use grammar_core::{Expr, Literal};
-use plain::{NoMemory, Shared};
-use policy_grammar::{ActionScope, Effect, EntityScope, Policy, Scope};
+use crate::shared::{ended, holds, uid_of};
+use ancestor_closure::{Closed, Hierarchy};
+use plain::{NoMemory, Shared, both};
+use policy_grammar::{ActionScope, Effect, EntityScope, Expr, Literal, Policy, Scope};
 use scope_index::ScopeIndex;
 use std::alloc::Global;
 use std::process::Abort;

@@ -1,21 +1,10 @@
 //! What tests of several libraries share. A value that waits while another is made, or that is only let go, goes to a
 //! generic function: whatever it is made of is then one step of the proof.
-use plain::{NoMemory, beside};
+use plain::{NoMemory, both};
 use std::alloc::{AllocError, Global};
 use std::cmp::Ordering;
 use std::process::Abort;
 use values::{EntityUid, SharedText, TypeName};
-
-/// Two values, where both were made.
-pub(crate) fn both<T: Drop, U: Drop>(
-    one: Result<T, NoMemory>,
-    other: Result<U, NoMemory>,
-) -> Result<(T, U), NoMemory> {
-    match one {
-        Ok(one) => beside(one, other),
-        Err(refused) => Err(refused),
-    }
-}
 
 /// Returns a value that was worked on, where the work was done.
 pub(crate) fn finished<T: Drop>(value: T, done: Result<(), NoMemory>) -> Result<T, NoMemory> {

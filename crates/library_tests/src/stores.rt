@@ -1,13 +1,13 @@
 //! Stores: what is looked up, and how they are joined.
-use crate::shared::{both, ended, finished, holds, uid_of};
-use plain::{NoMemory, Text};
-use stamped_store::{Entry, PolicyStore, ReadText, SiteName, Stamp, Stamped, laws};
+use crate::shared::{ended, finished, holds, uid_of};
+use plain::{NoMemory, Text, both};
+use stamped_store::{Entry, ReadText, SiteName, Stamp, Stamped, StampedStore, laws};
 use std::alloc::{AllocError, Global};
 use std::collections::btree_map::Iter;
 use std::process::Abort;
 use values::EntityUid;
 
-type Store = PolicyStore<usize, usize>;
+type Store = StampedStore<usize, usize>;
 
 const PERMIT: &str = "permit (principal, action, resource);";
 
@@ -129,7 +129,7 @@ fn fill(alloc: Global, store: &mut Store, row: Row<'_>, names: &str) -> Result<(
 
 // A store that has at each of these names an entry of this stamp and text.
 fn filled(alloc: Global, row: Row<'_>, names: &str) -> Result<Store, NoMemory> {
-    let mut store = PolicyStore::new(alloc);
+    let mut store = StampedStore::new(alloc);
     let done = fill(alloc, &mut store, row, names);
     finished(store, done)
 }

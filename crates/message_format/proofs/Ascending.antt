@@ -1,4 +1,4 @@
--- Whether names ascend, told from each place on.
+-- Whether names ascend, decided from each index on.
 use Rattle.std.proofs.Common.{◌≡◌, ◌∙◌, ℕ, suc, ◌+◌, ◌-◌, ◌<◌, ◌≤◌, [], ◌∷◌, length, drop, get_or, Bool, true, false}
 use Rattle.std.proofs.Common.{refl, sym, ap, arith}
 use Prim.Native.Nat.{zero}
@@ -11,7 +11,7 @@ use Rattle.stamped_store.specs.declared.entry.Stamp.{Stamp}
 use Rattle.stamped_store.specs.Deltas.{Summary}
 use Rattle.message_format.specs.Summaries.{ascend}
 
--- at a place that has a next one
+-- at an index with a next one
 step : (m : Summary) (i : ℕ) (a b : Name × Stamp) → i + 1 < length m → a ≡ get_or m i a → b ≡ get_or m (i + 1) b
     → ascend (drop i m) ≡ (is_lt (name_cmp a.0 b.0) && ascend (drop (i + 1) m))
 step m i a b lt at next =
@@ -22,7 +22,7 @@ nothing : (i : ℕ) → ascend (drop i []) ≡ true
 nothing zero = refl
 nothing (suc i) = refl
 
--- at the last place
+-- at the last index
 last : (m : Summary) (i : ℕ) → length m ≤ i + 1 → ascend (drop i m) ≡ true
 last [] i h = nothing i
 last (a ∷ []) zero h = refl
@@ -34,7 +34,7 @@ told : (m : Summary) (p : ℕ) (a b : Name × Stamp) (test : Bool) → a ≡ get
 told m p a b test at next is =
     is ∙ ap (λ (x : Name × Stamp). is_lt (name_cmp x.0 (get_or m p b).0)) (sym at) ∙ ap (λ (x : Name × Stamp). is_lt (name_cmp a.0 x.0)) (sym next)
 
--- a place before p, and p itself
+-- an index before p, and p itself
 pub goes_on : (m : Summary) (p : ℕ) (a b : Name × Stamp) (test : Bool) → 1 ≤ p → p < length m → a ≡ get_or m (p - 1) a → b ≡ get_or m p b
     → test ≡ is_lt (name_cmp (get_or m (p - 1) a).0 (get_or m p b).0) → test ≡ true → ascend m ≡ ascend (drop (p - 1) m) → ascend m ≡ ascend (drop (p + 1 - 1) m)
 goes_on m p a b test from lt at next is yes_ so =

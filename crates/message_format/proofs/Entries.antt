@@ -6,7 +6,7 @@ use Rattle.json.specs.Written.{Written}
 use Rattle.serde_json.specs.Data.{number, unsigned, string, array, no_members, member, put}
 use Rattle.serde_json.specs.View.{items_of}
 use Rattle.stamped_store.specs.declared.entry.Stamp.{Stamp}
-use Rattle.stamped_store.specs.Deltas.{is_news}
+use Rattle.stamped_store.specs.Deltas.{is_unseen}
 use Rattle.stamped_store.specs.Store.{Update}
 use Rattle.message_format.specs.Summaries.{name_json}
 use Rattle.entity_uids.specs.Tokens.{Adds, IsReadAgain, AppendsValue, AppendsMember, AppendsAll}
@@ -38,10 +38,10 @@ entry_written {e = e} {f = f} u site same first body count name told last =
     }
 
 -- ---- if it is news
-pub no_news : (known : Option Stamp) (u : Update) (b : Bool) (w : Written) → b ≡ is_news known (Some u.1) → b ≡ false → AppendsAll w w (news_by known u)
+pub no_news : (known : Option Stamp) (u : Update) (b : Bool) (w : Written) → b ≡ is_unseen known (Some u.1) → b ≡ false → AppendsAll w w (news_by known u)
 no_news known u b w is told = subst (λ (x : Bool). AppendsAll w w (if x then entry_json u ∷ [] else [])) (sym told ∙ is) (none_written w)
 
-pub one_news : {v w : Written} (known : Option Stamp) (u : Update) (b : Bool) → b ≡ is_news known (Some u.1) → b ≡ true → AppendsValue v w (entry_json u) → AppendsAll v w (news_by known u)
+pub one_news : {v w : Written} (known : Option Stamp) (u : Update) (b : Bool) → b ≡ is_unseen known (Some u.1) → b ≡ true → AppendsValue v w (entry_json u) → AppendsAll v w (news_by known u)
 one_news {v} {w} known u b is told h = subst (λ (x : Bool). AppendsAll v w (if x then entry_json u ∷ [] else [])) (sym told ∙ is) (one_written h)
 
 -- ---- a message

@@ -84,7 +84,7 @@ module _ {U : Type 0} (entries : Data → Result (List U) MessageFault) (label :
   abbrev of_shape : Data → Result (List U) MessageFault
   of_shape d = or_fault BadShape (text_at (codes "kind") d) >>= λ kind. of_kind d kind
 
-  -- what is read behind the version are the entries
+  -- what is read after the version are the entries
   pub are_entries : (d : Data) (us : List U) → updates_by entries label d ≡ read us → entries d ≡ read us
   unfolding updates_by
   are_entries d us e =

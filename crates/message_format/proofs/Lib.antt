@@ -1,7 +1,6 @@
 pub mod Ascending
 pub mod Stamps
 pub mod RoundTrip
-pub mod CompactUtf8
 pub mod OneText
 pub mod Sound
 pub mod RaisedSummaries
@@ -14,5 +13,5 @@ pub mod Found
 pub mod Taking
 pub mod Outcomes
 pub mod Raised
--- crates below, passed on to those above
+-- Lemmas of lower crates, re-exported.
 pub use Rattle.entity_uids.proofs.Appending

@@ -1,4 +1,4 @@
--- The entries of a delta are those updates of its store that are news, in their order.
+-- The entries of a delta are the updates of its store that the summary lacks or has smaller, in their order.
 use Rattle.std.proofs.Common.{◌≡◌, ◌∙◌, ℕ, List, [], ◌∷◌, ◌++◌, map, Bool, true, false, Option, Some, None, refl, sym}
 use Rattle.std.proofs.Common.{ap, T}
 use Rattle.std.specs.Prelude.{◌&&◌, cond, codes, if◌then◌else◌}
@@ -15,7 +15,7 @@ use Rattle.serde_json.specs.Data.{Data}
 use Rattle.values.specs.declared.name.Name.{Name}
 use Rattle.values.specs.Names.{name_cmp, name_cmp-IsTotalOrder, name_cmp-IsAntisymmetric}
 use Rattle.stamped_store.specs.EntryOrder.{PlainEntry}
-use Rattle.stamped_store.specs.Deltas.{Summary, is_news, delta}
+use Rattle.stamped_store.specs.Deltas.{Summary, is_unseen, delta}
 use Rattle.stamped_store.specs.Abstraction.{abstract_entries}
 use Rattle.stamped_store.specs.Store.{Store, Update, updates, StoreEntries, abstract_store}
 use Rattle.stamped_store.specs.Store.{abstract_updates, id_name, entity_name}
@@ -89,10 +89,10 @@ filter_same p q same (u ∷ us) =
 
 delta_news : (s : Store) (m : Summary) → updates (delta s m) ≡ filter (is_new m) (updates s)
 delta_news s m =
-    entries_kept name_cmp-IsTotalOrder name_cmp-IsAntisymmetric s (λ q. is_news (value_at name_cmp m q) (get s q))
-    ∙ filter_same (λ u. is_news (value_at name_cmp m u.0) (get s u.0)) (λ u. is_news (value_at name_cmp m u.0) (find name_cmp u.0 (updates s)))
-    (λ u. ap (is_news (value_at name_cmp m u.0)) (get-entries s u.0)) (updates s)
-    ∙ filter_along (updates s) (λ q o. is_news (value_at name_cmp m q) o) (updates s) (each_at (updates s) (entries_sorted s))
+    entries_kept name_cmp-IsTotalOrder name_cmp-IsAntisymmetric s (λ q. is_unseen (value_at name_cmp m q) (get s q))
+    ∙ filter_same (λ u. is_unseen (value_at name_cmp m u.0) (get s u.0)) (λ u. is_unseen (value_at name_cmp m u.0) (find name_cmp u.0 (updates s)))
+    (λ u. ap (is_unseen (value_at name_cmp m u.0)) (get-entries s u.0)) (updates s)
+    ∙ filter_along (updates s) (λ q o. is_unseen (value_at name_cmp m q) o) (updates s) (each_at (updates s) (entries_sorted s))
 
 -- ---- what the code writes, policies and then entities
 pub store_news : {P E : Type 0} (k : StoreEntries P E) (m : Summary) → updates (abstract_store k) ≡ abstract_updates k
@@ -104,13 +104,13 @@ store_news k m order =
     ∙ ap (map entry_json) (sym (delta_news (abstract_store k) m))
 
 -- ---- a delta against nothing is the whole
-all_news : (o : Option PlainEntry) → cond (is_news None o) o None ≡ o
+all_news : (o : Option PlainEntry) → cond (is_unseen None o) o None ≡ o
 all_news None = refl
 all_news (Some e) = refl
 
 whole : (s : Store) → delta s [] ≡ s
 whole s = same_map name_cmp-IsTotalOrder name_cmp-IsAntisymmetric (delta s []) s (λ q.
-    get-retain_keys s (λ x. is_news (value_at name_cmp [] x) (get s x)) q (λ x e. ap (λ y. is_news (value_at name_cmp [] y) (get s y)) (sym (name_cmp-IsAntisymmetric q x e)))
+    get-retain_keys s (λ x. is_unseen (value_at name_cmp [] x) (get s x)) q (λ x e. ap (λ y. is_unseen (value_at name_cmp [] y) (get s y)) (sym (name_cmp-IsAntisymmetric q x e)))
     ∙ all_news (get s q))
 
 pub whole_json : (label : List ℕ) (s : Store) → message_json (codes "state") label (updates (delta s [])) ≡ state_json label s

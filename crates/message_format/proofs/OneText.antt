@@ -1,4 +1,4 @@
--- A summary's text is read as the summary, and two summaries of one text are one.
+-- A summary's text is read as the summary, and two summaries with one text are equal.
 use Rattle.std.proofs.Common.{◌≡◌, ◌∙◌, ℕ, List, [], ◌∷◌, map, Result, Ok, refl, sym, ap, arith}
 use Rattle.std.specs.Prelude.{codes}
 use Rattle.std.specs.Str.{IsUtf8}
@@ -14,7 +14,7 @@ use Rattle.stamped_store.specs.SiteNames.{SiteTestIsExact, SiteNamesAreTexts}
 use Rattle.message_format.specs.declared.fault.MessageFault.{MessageFault}
 use Rattle.message_format.specs.Summaries.{IsStamped, AreStamped, HasTexts, HaveTexts, IsWritten, name_json, stamp_json}
 use Rattle.message_format.specs.Summaries.{summary_json, summary_text, summary_in, summary_stated}
-use Rattle.message_format.proofs.CompactUtf8.{key_is_utf8, json_again}
+use Rattle.json_words.proofs.CompactUtf8.{key_is_utf8, json_again}
 use Rattle.message_format.proofs.RoundTrip.{summary_again, depth_summary, stated_back}
 
 pub plain_name : (n : Name) → HasTexts n → IsPlain (name_json n)

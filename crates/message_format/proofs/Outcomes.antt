@@ -1,4 +1,4 @@
--- Bytes are one message at most, or are refused for one fault, and one of both where each text is.
+-- Bytes are at most one message, or have at most one error; and one of both if each text is read or rejected.
 use Rattle.std.proofs.Common.{◌≡◌, ◌∙◌, ℕ, Bool, true, false, suc, List, [], ◌∷◌, Option, Some, None, Result, Ok, Err}
 use Rattle.std.proofs.Common.{refl, sym, ap, subst, inl, inr}
 use Rattle.std.specs.Prelude.{◌⊎◌, ◌&&◌, nat_le, MatchResult}
@@ -29,7 +29,7 @@ use Rattle.message_format.specs.inner.Reading.{IsReadAs, AreTaken}
 use Rattle.message_format.proofs.Found.{AreFound, stated_found}
 use Rattle.message_format.proofs.Taking.{Sound, readable, is_message}
 
--- what is in its ranges passes
+-- an update in its ranges passes the checks
 abbrev pub Passes : Type 0
 Passes = (place : ℕ) (u : Name × Stamp) → IsStamped u → judged place u ≡ Ok u
 
@@ -60,7 +60,7 @@ one_body {P} Reads one (Some s) (Some t) same h k =
     let values : s.read ≡ t.read = one t.text s.read t.read (subst (λ x. Reads x s.read) texts h) k in
     λ i. Some (record { text = texts i; read = values i })
 
--- an update without its text's reading, as it is written in full
+-- an update without its parsed text, spelled out
 module _ {P E : Type 0} (Policies : List ℕ → List ℕ → P → Type 0) (Entities : EntityUid → List ℕ → E → Type 0) where
   read_of : (n : Name) (c : ℕ) (s : List ℕ) (b : Option (List ℕ)) → IsReadable Policies Entities n b
       → (r : Update P E) × IsReadAs Policies Entities (n, record { count = c; site = s; body = b }) r

@@ -149,7 +149,7 @@ was_read : (r : Read (List NumberedUpdate)) (us : List Update) → map_read rais
 was_read (Ok ns) us h = (ns, refl)
 was_read (Err f) us h = absurd cc
 
--- and what is read of version 1 is one
+-- and a message that is read as version 1 is one
 pub message_numbered : (label bytes : List ℕ) (d : Data) (us : List Update) → json_of bytes ≡ Some d → number_at (codes "version") d ≡ Ok 1 → updates_stated label bytes ≡ Ok us
     → (ns : List NumberedUpdate) × IsVersion1Message label bytes ns
 message_numbered label bytes d us json version e =

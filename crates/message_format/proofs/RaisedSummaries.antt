@@ -1,4 +1,4 @@
--- What an object of version 1 states is what it states by number, raised.
+-- An object of version 1 states the raise of what it states by number.
 use Rattle.std.proofs.Common.{◌≡◌, ℕ, List, Result, Ok, Err, refl, subst}
 use Rattle.std.specs.Prelude.{codes}
 use Rattle.serde_json.specs.Data.{Data}
@@ -25,7 +25,7 @@ read x = Ok x
 read_is : {A : Type 0} (x y : A) → read x ≡ read y → x ≡ y
 read_is x y h = cc
 
--- what was read, changed
+-- a reading, with its value mapped
 abbrev pub map_read : {A B : Type 0} → (A → B) → Read A → Read B
 map_read f (Ok x) = Ok (f x)
 map_read f (Err e) = Err e
@@ -66,7 +66,7 @@ of_site d count site = or_fault BadShape (get (codes "name") d) >>= λ found. na
 abbrev of_count : Data → ℕ → Read NumberedStamp
 of_count d count = numbered_in d >>= λ site. of_site d count site
 
--- a number that is read is one that a site had
+-- a number that is read is that of a site
 pub stamped_number : (d : Data) (n : NumberedStamp) → stamped_by numbered_in d ≡ Ok n → IsSiteNumber n.1.site
 unfolding stamped_by
 stamped_number d n e =

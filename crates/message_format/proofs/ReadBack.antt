@@ -1,4 +1,4 @@
--- The text of a state, and that of a delta, is read as the updates that it was written of.
+-- The text of a state or delta is read as the updates that it was written from.
 use Rattle.std.proofs.Common.{◌≡◌, List, [], ◌∷◌, ℕ, map, Ok, Option, Some, None, true, refl, arith}
 use Rattle.std.specs.Prelude.{codes}
 use Rattle.std.specs.Str.{IsUtf8}
@@ -8,7 +8,7 @@ use Rattle.json_words.specs.Plain.{IsPlain, ArePlain, CompactReadsBack}
 use Rattle.stamped_store.specs.Store.{Store, Update, updates}
 use Rattle.stamped_store.specs.SiteNames.{SiteTestIsExact, SiteNamesAreTexts}
 use Rattle.message_format.specs.Summaries.{IsStamped}
-use Rattle.message_format.proofs.CompactUtf8.{key_is_utf8, json_again}
+use Rattle.json_words.proofs.CompactUtf8.{key_is_utf8, json_again}
 use Rattle.message_format.proofs.OneText.{plain_name}
 use Rattle.message_format.specs.Messages.{body_json, entry_json, message_json, state_text, delta_text, is_kind}
 use Rattle.message_format.specs.Messages.{updates_stated}
@@ -60,7 +60,7 @@ plain_message sites kind label us of_kind of_label h texts = (
   ),
 )
 
--- what the laws of lower crates say
+-- theorems of lower crates
 pub record AreLaws : Type 0 where
   pub names : NamesBack
   pub tested : SiteTestIsExact

@@ -94,7 +94,7 @@ record IsShaped (u : Name × Stamp) : Type 0 where
   name : IsSpelled u.0
   site : IsSiteName u.1.site
 
--- a number that a site had
+-- the number of a site
 pub number_in_range : (d : Data) (site : ℕ) → numbered_in d ≡ read site → IsSiteNumber site
 unfolding numbered_in
 number_in_range d site e =
@@ -104,7 +104,7 @@ number_in_range d site e =
     subst IsSiteNumber (read_is a.0 site b.2)
     (leb-true 1 a.0 (left (nat_le 1 a.0) (nat_le a.0 65535) range), leb-true a.0 65535 (right (nat_le 1 a.0) (nat_le a.0 65535) range))
 
--- a site of either kind
+-- a site of either version
 raised_sound : SiteDigitsAreNames → (d : Data) (name : List ℕ) → raised_in d ≡ read name → IsSiteName name
 unfolding raised_in
 raised_sound digits d name e =
@@ -138,7 +138,7 @@ with_site d count site = or_fault BadShape (get (codes "name") d) >>= λ found. 
 abbrev of_count : MessageVersion → Data → ℕ → Result SiteStamp MessageFault
 of_count version d count = site_in version d >>= λ site. with_site d count site
 
--- what is known of uids and of sites
+-- facts about uids and sites
 pub record AreFound : Type 0 where
   pub uids : UidsAreFound
   pub tested : SiteTestIsExact
@@ -205,7 +205,7 @@ judged_same k u v e =
     let b = bind_ok (demand (BadEntry k bad_id) (is_name_in_range u.0)) (λ named. read u) v a.2 in
     read_is u v b.2
 
--- one that was read and judged
+-- a stamp that was read and passed the checks
 pub judged_in_range : AreFound → (k : ℕ) (version : MessageVersion) (d : Data) (u v : Name × Stamp) → stamped_in version d ≡ read u → judged k u ≡ read v → IsStamped u
 judged_in_range all k version d u v e h = subst IsStamped (sym (judged_same k u v h)) (judged_stamped k u v (stamped_shaped all version d u e) h)
 

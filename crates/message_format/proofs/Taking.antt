@@ -1,4 +1,4 @@
--- Updates taken one after another, and the first that is not.
+-- Updates read one after another, up to the first error.
 use Rattle.std.proofs.Common.{◌≡◌, ◌∙◌, ℕ, suc, ◌+◌, ◌<◌, ◌≤◌, List, [], ◌∷◌, ◌++◌, map, length, take, drop, get_or}
 use Rattle.std.proofs.Common.{Option, Some, None, Result, Ok, refl, sym, ap, subst, arith, inl, inr, add-one, drop-cons}
 use Rattle.std.specs.Prelude.{MatchResult}
@@ -29,7 +29,7 @@ use Rattle.message_format.specs.Updates.{IsValid, IsMessage, IsFaultAt, IsFirstF
 use Rattle.message_format.specs.inner.Reading.{stated_update, IsReadAs, IsTaken, AreTaken, Stops}
 use Rattle.message_format.proofs.Found.{AreFound, stated_found}
 
--- a name with a stamp that was found and passed has both in their ranges
+-- a name with a stamp that was read and passed the checks has both in their ranges
 abbrev pub Sound : Type 0
 Sound = (place : ℕ) (version : MessageVersion) (d : Data) (u v : Name × Stamp) → stamped_in version d ≡ Ok u → judged place u ≡ Ok v → IsStamped u
 
@@ -66,7 +66,7 @@ module _ {P E : Type 0} (Policies : List ℕ → List ℕ → P → Type 0) (Ent
   pub valid : (u : PlainUpdate) (r : Update P E) → IsReadAs Policies Entities u r → IsValid Policies Entities u
   valid u r h = subst (IsValid Policies Entities) h.shown (readable r h.is_read)
 
-  -- one more is taken
+  -- one more is read
   push : (k : ℕ) (us : List PlainUpdate) (rs : List (Update P E)) (u : PlainUpdate) (r : Update P E)
       → AreTaken Policies Entities k us rs → IsTaken Policies Entities (k + length us) u r → AreTaken Policies Entities k (us ++ u ∷ []) (rs ++ r ∷ [])
   push k [] [] u r h one = let same : k + 0 ≡ k = omega arith in (subst (λ n. IsTaken Policies Entities n u r) same one, tt)

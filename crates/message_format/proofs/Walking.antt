@@ -72,7 +72,7 @@ apart_below Greater h = absurd cc
 not_tied : (r : Ordering) → r ≡ Less → is_eq (ordering_reverse r) ≡ false
 not_tied r h = ap (λ x. is_eq (ordering_reverse x)) h
 
--- a is before b, and b not behind c: a is before c
+-- if a is less than b, and b at most c, then a is less than c
 before_all : (a b c : Name) → name_cmp a b ≡ Less → is_le (name_cmp b c) ≡ true → name_cmp a c ≡ Less
 before_all a b c h k = by_case (name_cmp b c) refl k
   where
@@ -81,7 +81,7 @@ before_all a b c h k = by_case (name_cmp b c) refl k
     by_case Equal e i = ap (name_cmp a) (sym (name_cmp-IsAntisymmetric b c e)) ∙ h
     by_case Greater e i = absurd cc
 
--- a stamp before a name is not that of a name from there on
+-- a stamp of a smaller name is not that of a name from there on
 pub skipped : (a : Name × Stamp) (m : Summary) (name q : Name) → name_cmp a.0 name ≡ Less → is_le (name_cmp name q) ≡ true
     → value_at name_cmp m q ≡ value_at name_cmp (a ∷ m) q
 skipped a m name q h k =
@@ -100,14 +100,14 @@ from_next name known a m h from = record {
 itself : (name : Name) → is_le (name_cmp name name) ≡ true
 itself name = ap is_le (tied_itself name_cmp-IsTotalOrder name)
 
--- the stamp at the head is that of its name
+-- the first stamp is that of its name
 pub stamp_here : (name : Name) (known : Summary) (a : Name × Stamp) (m : Summary) → name_cmp a.0 name ≡ Equal → IsFrom name known (a ∷ m)
     → Some a.1 ≡ value_at name_cmp known name
 stamp_here name known a m h from =
     sym (ap (λ b. cond b (Some a.1) (value_at name_cmp m name)) (ap is_eq (name_cmp-IsTotalOrder.antisymm name a.0 ∙ ap ordering_reverse h)))
     ∙ from.same name (itself name)
 
--- where all names are behind it there is none
+-- if all names are greater, there is no stamp of the name
 none_behind : (name : Name) (a : Name × Stamp) (m : Summary) → name_cmp name a.0 ≡ Less → ascend (a ∷ m) ≡ true → value_at name_cmp (a ∷ m) name ≡ None
 none_behind name a [] h k = ap (λ r. cond (is_eq r) (Some a.1) None) h
 none_behind name a (b ∷ m) h k =
@@ -155,7 +155,7 @@ ahead_start known k h order = record {
 pub ahead_alone : (left known : Summary) (us : List Update) → IsAhead left known us → IsAhead left left us
 ahead_alone left known us h = record { ascending = h.ascending; sorted = h.sorted; same = all_same left us }
 
--- what is news by what is left is news by all
+-- what the rest of the stamps lacks, all of them lack
 pub news_left : (left known : Summary) (us : List Update) → IsAhead left known us → flat_map (news_json left) us ≡ flat_map (news_json known) us
 news_left left known us h = by_each us h.same
   where
@@ -192,7 +192,7 @@ module _ {N P : Type 0} (name : N → Name) where
         ahead_next left known from one (abstract_entries name n ++ next) at is,
       )
 
-  -- where nothing is to come, all was walked over
+  -- if nothing remains, the walk covered all
   pub walk_ends : (known left : Summary) (before after : Written) (all done iter : List (N × Entry P)) → IsWalked name known left before after all done iter
       → iter ≡ [] → done ++ iter ≡ all → IsWalked name known left before after all all []
   walk_ends known left before after all done iter walked none is =

@@ -1,4 +1,4 @@
--- A message's JSON: it nests little, is read as the updates that it was written of, and tells them apart.
+-- A message's JSON nests little, is read as the updates that it was written from, and determines them.
 use Rattle.std.proofs.Common.{◌≡◌, ◌∙◌, ℕ, suc, ◌≤◌, List, [], ◌∷◌, map, true, Ok, Option, Some, None, refl, sym, ap}
 use Rattle.std.proofs.Common.{arith}
 use Rattle.std.specs.Str.{bytes_eq}

@@ -1,9 +1,10 @@
--- The numbers of the refusals of messages: rules of this product.
+-- Defines the codes of the errors of messages. Rules of this product: the codes.
 use Rattle.std.specs.Prelude.{ℕ, Option, Some, None}
 use Rattle.message_format.specs.declared.fault.MessageFault.{MessageFault}
 use Rattle.message_format.specs.declared.fault.MessageFault.TheVariants.{NoMemory, NotJson, BadShape, OtherSchema}
 use Rattle.message_format.specs.declared.fault.MessageFault.TheVariants.{Version, CountRange, BadEntry, BodyOfOtherName}
 
+-- `code_of f` is the code of the error `f`.
 abbrev pub code_of : MessageFault → ℕ
 code_of NoMemory = 1
 code_of NotJson = 50
@@ -14,7 +15,7 @@ code_of (CountRange place) = 54
 code_of (BadEntry place within) = 55
 code_of (BodyOfOtherName place) = 56
 
--- the entry at which it shows
+-- `place_of f` is the index of the entry or stamp in error, if there is one.
 abbrev pub place_of : MessageFault → Option ℕ
 place_of NoMemory = None
 place_of NotJson = None
@@ -25,7 +26,7 @@ place_of (CountRange place) = Some place
 place_of (BadEntry place within) = Some place
 place_of (BodyOfOtherName place) = Some place
 
--- the number of the refusal inside
+-- `within_of f` is the code of the inner error, if there is one.
 abbrev pub within_of : MessageFault → Option ℕ
 within_of NoMemory = None
 within_of NotJson = None

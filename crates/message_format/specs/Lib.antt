@@ -7,7 +7,7 @@ pub mod Messages
 pub mod Updates
 pub mod Texts
 pub mod Numbered
--- crates below, passed on to those above
+-- Specifications of lower crates, re-exported.
 pub use Rattle.entity_uids.specs.Tokens
 pub use Rattle.stamped_store.specs as stamped_store
 pub use Rattle.entity_uids.specs as entity_uids

@@ -1,9 +1,9 @@
--- States and deltas as messages, written and read.
--- Rules of this product: {"entries":[{"body":text or null,"count":n,"name":N,"site":text}, ..],"kind":K,"schema":label,
--- "version":2}, K being "state" or "delta" and N {"entity":{"id":..,"type":..}} or {"policy":id}. Each key must stand,
--- `body` with null for nothing, and there are no others. They are written compact, keys and names ascending, and read
--- in any spelling of JSON, entries in any order and names as often as they stand. Version 1, with numbers of sites, is
--- read and never written.
+-- Defines states and deltas as messages, written and read.
+-- Rules of this product: a message is {"entries":[{"body":text or null,"count":n,"name":N,"site":text},
+-- ..],"kind":K,"schema":label,"version":2}, with "state" or "delta" for K, and {"entity":{"id":..,"type":..}} or
+-- {"policy":id} for N. Each key is required, `body` with null for nothing, and no others are allowed. Messages are
+-- written compact, keys and names ascending. They are read in any spelling of JSON, with entries in any order and
+-- names any number of times. Version 1, with numbers of sites, is read and never written.
 use Rattle.std.specs.Prelude.{◌||◌, Bool, ℕ, List, [], ◌∷◌, map, codes, is_some, Option, Some, None}
 use Rattle.std.specs.Prelude.{Result, Ok, if◌then◌else◌}
 use Rattle.std.specs.Str.{bytes_eq}
@@ -24,50 +24,55 @@ use Rattle.message_format.specs.Summaries.{name_json, version_in, stamped_in}
 
 -- ---- written
 
+-- `body_json body` is the JSON of `body`: a string, or null for nothing.
 abbrev pub body_json : Option (List ℕ) → Data
 body_json None = null
 body_json (Some text) = string text
 
+-- `entry_json u` is the JSON of the update `u`.
 abbrev pub entry_json : Update → Data
 entry_json u = object (member (codes "body") (body_json u.1.body)
     (member (codes "count") (number (unsigned u.1.count))
     (member (codes "name") (name_json u.0)
     (member (codes "site") (string u.1.site) no_members))))
 
--- updates as a message of this kind
+-- `message_json kind label us` is the JSON of the updates `us` as a message of this kind for the schema `label`.
 abbrev pub message_json : List ℕ → List ℕ → List Update → Data
 message_json kind label us = object (member (codes "entries") (array (items_of (map entry_json us)))
     (member (codes "kind") (string kind)
     (member (codes "schema") (string label)
     (member (codes "version") (number (unsigned 2)) no_members))))
 
--- a store whole, as its updates in the order of the names; and the part of a store that is sent as a delta
+-- `state_json label s` is the JSON of the store `s` as a state: its updates in the order of the names.
 abbrev pub state_json : List ℕ → Store → Data
 state_json label s = message_json (codes "state") label (updates s)
 
+-- `delta_json label s` is the JSON of a part `s` of a store as a delta.
 abbrev pub delta_json : List ℕ → Store → Data
 delta_json label s = message_json (codes "delta") label (updates s)
 
--- the bytes: compact, keys ascending
+-- `state_text label s` is the text of the state of `s`: compact, keys ascending.
 unfoldable pub state_text : List ℕ → Store → List ℕ
 state_text label s = compact_text (state_json label s)
 
+-- `delta_text label s` is the text of the delta of `s`: compact, keys ascending.
 unfoldable pub delta_text : List ℕ → Store → List ℕ
 delta_text label s = compact_text (delta_json label s)
 
 -- ---- read
 
--- null is no body, a text is one
+-- `text_in d` is the body that the string `d` states, or `BadShape`.
 unfoldable pub text_in : Data → Result (Option (List ℕ)) MessageFault
 text_in d = do
   text ← or_fault BadShape (as_str d)
   Ok (Some text)
 
+-- `body_in d` is the body that `d` states: nothing if it is null.
 unfoldable pub body_in : Data → Result (Option (List ℕ)) MessageFault
 body_in d = if is_some (as_null d) then Ok None else text_in d
 
--- an update: a name, a stamp, and a body whose text is not read yet; `stamped_of` tells its name and stamp, and
--- `entry_of` joins the stamp and the body
+-- `entry_by stamped_of entry_of d` is the update that the object `d` states, before its text is parsed: `stamped_of`
+-- reads its name and stamp, and `entry_of` joins the stamp and the body.
 unfoldable pub entry_by : {S E : Type 0} → (Data → Result (Name × S) MessageFault) → (S → Option (List ℕ) → E) → Data
     → Result (Name × E) MessageFault
 entry_by stamped_of entry_of d = do
@@ -77,27 +82,31 @@ entry_by stamped_of entry_of d = do
   u ← stamped_of d
   Ok (u.0, entry_of u.1 body)
 
+-- `entry_in version d` is the update that the object `d` states in the form of `version`.
 unfoldable pub entry_in : MessageVersion → Data → Result Update MessageFault
 entry_in version d = entry_by (stamped_in version) issued d
 
--- all updates, of which `entry_of` tells each
+-- `entries_of entry_of ds` is the list of the updates that `ds` state, each read by `entry_of`, or the first error.
 unfoldable pub entries_of : {U : Type 0} → (Data → Result U MessageFault) → Items → Result (List U) MessageFault
 entries_of entry_of ds = each (λ i d. entry_of d) 0 (list_of ds)
 
+-- `entries_by entry_of d` is the list of the updates of the message `d`, each read by `entry_of`.
 unfoldable pub entries_by : {U : Type 0} → (Data → Result U MessageFault) → Data → Result (List U) MessageFault
 entries_by entry_of d = do
   found ← or_fault BadShape (get (codes "entries") d)
   ds ← or_fault BadShape (as_array found)
   entries_of entry_of ds
 
+-- `entries_in version d` is the list of the updates of the message `d` in the form of `version`.
 unfoldable pub entries_in : MessageVersion → Data → Result (List Update) MessageFault
 entries_in version d = entries_by (entry_in version) d
 
--- a state or a delta: both say what updates there are
+-- `is_kind kind` is whether a message of this kind has entries: a state or a delta.
 abbrev pub is_kind : List ℕ → Bool
 is_kind kind = bytes_eq kind (codes "state") || bytes_eq kind (codes "delta")
 
--- what a message states behind its version: the whole shape, all entries included, goes before the schema
+-- `updates_by entries label d` is the updates of the message `d`, whose version is known. The whole shape, all
+-- entries included, is checked before the schema.
 unfoldable pub updates_by : {U : Type 0} → (Data → Result (List U) MessageFault) → List ℕ → Data
     → Result (List U) MessageFault
 updates_by entries label d = do
@@ -109,14 +118,14 @@ updates_by entries label d = do
   same ← demand OtherSchema (bytes_eq schema label)
   Ok us
 
--- the version goes before the rest of the shape
+-- `updates_in label d` is the updates of the message `d`. The version is checked before the rest of the shape.
 unfoldable pub updates_in : List ℕ → Data → Result (List Update) MessageFault
 updates_in label d = do
   version ← version_in d
   updates_by (entries_in version) label d
 
--- the updates that bytes state under the schema of this label, in their order, or the first fault before any entry is
--- judged
+-- `updates_stated label bytes` is the updates that `bytes` state for the schema `label`, in their order; or the first
+-- error before the checks of entries.
 unfoldable pub updates_stated : List ℕ → List ℕ → Result (List Update) MessageFault
 updates_stated label bytes = do
   d ← or_fault NotJson (json_of bytes)

@@ -1,8 +1,9 @@
--- Summaries as messages, written and read.
--- Rules of this product: {"kind":"summary","schema":label,"stamps":[{"count":n,"name":N,"site":text}, ..],"version":2},
--- N being {"entity":{"id":..,"type":..}} or {"policy":id}; each key must stand and there are no others; a number is one
--- that fits 64 bits without a sign; a site is its name; the names ascend strictly, policies first. Version 1 is read
--- and never written: there a site is a number from 1 to 65,535, and is read as the site whose name is its five digits.
+-- Defines summaries as messages, written and read.
+-- Rules of this product: a summary is {"kind":"summary","schema":label,"stamps":[{"count":n,"name":N,"site":text},
+-- ..],"version":2}, with {"entity":{"id":..,"type":..}} or {"policy":id} for N. Each key is required, and no others
+-- are allowed; a number is an unsigned 64-bit integer; a site is its name; the names ascend strictly, policies first.
+-- Version 1 is read and never written: there a site is a number from 1 to 65,535, and is read as the site whose name
+-- is its five digits.
 use Rattle.std.specs.Prelude.{◌≡◌, true, Bool, ◌&&◌, ◌==◌, ◌≤◌, nat_le, ℕ, List, [], ◌∷◌, length, map, codes}
 use Rattle.std.specs.Prelude.{option_and_then, Result, Ok, Err, if◌then◌else◌}
 use Rattle.std.specs.List.{AllByRecursion}
@@ -30,36 +31,38 @@ use Rattle.message_format.specs.declared.fault.MessageFault.{MessageFault}
 use Rattle.message_format.specs.declared.fault.MessageFault.TheVariants.{NotJson, BadShape, OtherSchema, Version}
 use Rattle.message_format.specs.declared.fault.MessageFault.TheVariants.{CountRange, BadEntry}
 
--- each name comes before the one behind it
+-- `ascend m` is whether the names of `m` ascend strictly.
 abbrev pub ascend : Summary → Bool
 ascend [] = true
 ascend (a ∷ []) = true
 ascend (a ∷ b ∷ m) = is_lt (name_cmp a.0 b.0) && ascend (b ∷ m)
 
--- a policy's id has 1 to 256 bytes, an entity's type is a Path
+-- `IsName n` holds if `n` is a policy's id of 1 to 256 bytes, or an entity's uid whose type is a Path.
 abbrev pub IsName : Name → Type 0
 IsName (Policy id) = (1 ≤ length id) × (length id ≤ 256)
 IsName (Entity uid) = IsPath uid.type_name
 
--- a name with a stamp: a count from 1 to 10^18, and a site
+-- `IsStamped u` holds if `u` is a name in its range with a stamp: a count from 1 to 10^18, and a site's name.
 pub record IsStamped (u : Name × Stamp) : Type 0 where
   pub name : IsName u.0
   pub counted : 1 ≤ u.1.count
   pub bounded : u.1.count ≤ 1_000_000_000_000_000_000
   pub site : IsSiteName u.1.site
 
+-- `AreStamped m` holds if each name and stamp of `m` is in its range.
 abbrev pub AreStamped : Summary → Type 0
 AreStamped m = AllByRecursion IsStamped m
 
--- the texts of a name are UTF-8, as all texts of the code are
+-- `HasTexts n` holds if the strings of the name `n` are UTF-8, as all strings in the code are.
 abbrev pub HasTexts : Name → Type 0
 HasTexts (Policy id) = IsUtf8 id
 HasTexts (Entity uid) = IsUtf8 uid.type_name × IsUtf8 uid.id
 
+-- `HaveTexts m` holds if the strings of each name of `m` are UTF-8.
 abbrev pub HaveTexts : Summary → Type 0
 HaveTexts m = AllByRecursion (λ u. HasTexts u.0) m
 
--- what a message may be written of: names and stamps in their ranges, texts, names ascending
+-- `IsWritten m` holds if `m` may be written: names and stamps in their ranges, strings in UTF-8, names ascending.
 pub record IsWritten (m : Summary) : Type 0 where
   pub stamped : AreStamped m
   pub texts : HaveTexts m
@@ -67,44 +70,49 @@ pub record IsWritten (m : Summary) : Type 0 where
 
 -- ---- written
 
+-- `name_json n` is the JSON of the name `n`.
 abbrev pub name_json : Name → Data
 name_json (Policy id) = object (member (codes "policy") (string id) no_members)
 name_json (Entity uid) = object (member (codes "entity") (uid_json uid) no_members)
 
+-- `stamp_json u` is the JSON of the name and stamp `u`.
 abbrev pub stamp_json : Name × Stamp → Data
 stamp_json u = object (member (codes "count") (number (unsigned u.1.count))
     (member (codes "name") (name_json u.0)
     (member (codes "site") (string u.1.site) no_members)))
 
+-- `summary_json label m` is the JSON of the summary `m` under the schema with this label.
 abbrev pub summary_json : List ℕ → Summary → Data
 summary_json label m = object (member (codes "kind") (string (codes "summary"))
     (member (codes "schema") (string label)
     (member (codes "stamps") (array (items_of (map stamp_json m)))
     (member (codes "version") (number (unsigned 2)) no_members))))
 
--- the bytes: compact, keys ascending
+-- `summary_text label m` is the text of that JSON: compact, keys ascending.
 unfoldable pub summary_text : List ℕ → Summary → List ℕ
 summary_text label m = compact_text (summary_json label m)
 
 -- ---- read
 
--- a stamp, its site in whatever form a message has it
+-- A `StampAt Site` is a stamp whose site has the form `Site` of a version.
 pub record StampAt (Site : Type 0) : Type 0 where
   pub count : ℕ
   pub site : Site
 
--- the whole number at a key
+-- `number_at k d` is the unsigned 64-bit integer at the key `k` of `d`, or `BadShape`.
 abbrev pub number_at : List ℕ → Data → Result ℕ MessageFault
 number_at k d = do
   found ← or_fault BadShape (get k d)
   or_fault BadShape (option_and_then as_u64 (as_number found))
 
+-- `policy_in d` is the name of a policy that the object `d` states, or `BadShape`.
 unfoldable pub policy_in : Data → Result Name MessageFault
 policy_in d = do
   id ← or_fault BadShape (text_at (codes "policy") d)
   Ok (Policy id)
 
--- of the two spellings of a uid the plain one alone
+-- `entity_name_in d` is the name of an entity that the object `d` states, or `BadShape`. Of the two spellings of a
+-- uid only {"id":..,"type":..} is allowed.
 unfoldable pub entity_name_in : Data → Result Name MessageFault
 entity_name_in d = do
   alone ← demand BadShape (has_only (codes "entity" ∷ []) d)
@@ -113,41 +121,43 @@ entity_name_in d = do
   uid ← or_fault BadShape (uid_in found)
   Ok (Entity uid)
 
+-- `name_in d` is the name that the object `d` states, or `BadShape`.
 unfoldable pub name_in : Data → Result Name MessageFault
 name_in d = if has_only (codes "policy" ∷ []) d then policy_in d else entity_name_in d
 
--- the version of a message
+-- `version_in d` is the version of the message `d`, or its error.
 unfoldable pub version_in : Data → Result MessageVersion MessageFault
 version_in d = do
   version ← number_at (codes "version") d
   if version == 1 then Ok One else (if version == 2 then Ok Two else Err Version)
 
--- the number of a site
+-- `numbered_in d` is the number of the site that `d` states, or `BadShape`.
 unfoldable pub numbered_in : Data → Result ℕ MessageFault
 numbered_in d = do
   site ← number_at (codes "site") d
   numbered ← demand BadShape (nat_le 1 site && nat_le site 65535)
   Ok site
 
--- the name of a site
+-- `named_in d` is the name of the site that `d` states, or `BadShape`.
 unfoldable pub named_in : Data → Result (List ℕ) MessageFault
 named_in d = do
   site ← or_fault BadShape (text_at (codes "site") d)
   named ← demand BadShape (is_site_name site)
   Ok site
 
--- the name of the site that a number is of
+-- `raised_in d` is the five digits of the number of the site that `d` states, or `BadShape`.
 unfoldable pub raised_in : Data → Result (List ℕ) MessageFault
 raised_in d = do
   site ← numbered_in d
   Ok (five_digits site)
 
--- the name of the site that an object states, as the version has it
+-- `site_in version d` is the name of the site that `d` states in the form of `version`, or `BadShape`.
 abbrev pub site_in : MessageVersion → Data → Result (List ℕ) MessageFault
 site_in One d = raised_in d
 site_in Two d = named_in d
 
--- the name and the stamp that an object states, whatever other keys it has; `site_of` tells its site
+-- `stamped_by site_of d` is the name and stamp that the object `d` states, its site as `site_of` reads it; other keys
+-- are ignored.
 unfoldable pub stamped_by : {Site : Type 0} → (Data → Result Site MessageFault) → Data
     → Result (Name × StampAt Site) MessageFault
 stamped_by site_of d = do
@@ -157,21 +167,23 @@ stamped_by site_of d = do
   name ← name_in found
   Ok (name, record { count = count; site = site })
 
+-- `stamped_in version d` is the name and stamp that the object `d` states in the form of `version`.
 unfoldable pub stamped_in : MessageVersion → Data → Result (Name × Stamp) MessageFault
 stamped_in version d = do
   u ← stamped_by (site_in version) d
   Ok (u.0, record { count = u.1.count; site = u.1.site })
 
--- a name with its stamp, and nothing else
+-- `stamp_in version d` is the name and stamp that the object `d` states, if it has no other keys.
 unfoldable pub stamp_in : MessageVersion → Data → Result (Name × Stamp) MessageFault
 stamp_in version d = do
   shape ← demand BadShape (has_only (codes "count" ∷ codes "name" ∷ codes "site" ∷ []) d)
   stamped_in version d
 
+-- `stamps_of version ds` is the list of the names and stamps that `ds` state, or the first error.
 unfoldable pub stamps_of : MessageVersion → Items → Result Summary MessageFault
 stamps_of version ds = each (λ i d. stamp_in version d) 0 (list_of ds)
 
--- the stamps of a summary, its names ascending
+-- `stamps_in version d` is the stamps of the summary `d`, if their names ascend.
 unfoldable pub stamps_in : MessageVersion → Data → Result Summary MessageFault
 stamps_in version d = do
   found ← or_fault BadShape (get (codes "stamps") d)
@@ -180,23 +192,25 @@ stamps_in version d = do
   ascending ← demand BadShape (ascend stamps)
   Ok stamps
 
--- a policy's id has 1 to 256 bytes
+-- `is_name_in_range n` is whether `n` is an entity's uid, or a policy's id of 1 to 256 bytes.
 abbrev pub is_name_in_range : Name → Bool
 is_name_in_range (Policy id) = nat_le 1 (length id) && nat_le (length id) 256
 is_name_in_range (Entity uid) = true
 
--- the refusal of an id: its number
+-- `bad_id` is the code of the error of an id.
 abbrev pub bad_id : ℕ
 bad_id = 19
 
--- the stamp at a place: its count, then its name
+-- `judged place u` is `u` if its count and its name are in their ranges, else the error of the first that is not, at
+-- the index `place`.
 unfoldable pub judged : ℕ → Name × Stamp → Result (Name × Stamp) MessageFault
 judged place u = do
   counted ← demand (CountRange place) (nat_le 1 u.1.count && nat_le u.1.count 1_000_000_000_000_000_000)
   named ← demand (BadEntry place bad_id) (is_name_in_range u.0)
   Ok u
 
--- the version goes before the rest of the shape, the whole shape before the schema, and this before each stamp
+-- `summary_in label d` is the summary that `d` states. The version is checked before the rest of the shape, the whole
+-- shape before the schema, and this before each stamp.
 unfoldable pub summary_in : List ℕ → Data → Result Summary MessageFault
 summary_in label d = do
   version ← version_in d
@@ -208,7 +222,8 @@ summary_in label d = do
   same ← demand OtherSchema (bytes_eq schema label)
   each judged 0 stamps
 
--- the summary that bytes are, under the schema of this label, or the first fault
+-- `summary_stated label bytes` is the summary that `bytes` state under the schema with this label, or the first
+-- error.
 unfoldable pub summary_stated : List ℕ → List ℕ → Result Summary MessageFault
 summary_stated label bytes = do
   d ← or_fault NotJson (json_of bytes)

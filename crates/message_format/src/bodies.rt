@@ -1,4 +1,4 @@
-//! What stands in updates, read as texts of policies and of entities.
+//! Parsing of the bodies of updates: texts of policies and of entities.
 ghost use Rattle.std.specs.Prelude.{◌≡◌, List, ℕ, IfOk, IfErr};
 ghost use Rattle.values.specs.declared.entity_uid.EntityUid.{EntityUid};
 ghost use Rattle.message_format.specs.declared.bodies.BodyFault.{BodyFault};
@@ -11,16 +11,16 @@ use std::alloc::Global;
 use thiserror::Error;
 use values::EntityUid;
 
-/// Why the text of a body is not read.
+/// The error of a body's text.
 #[derive(Clone, Copy, Debug, Error)]
 pub enum BodyFault {
-    /// An allocation was refused.
+    /// An allocation failed.
     #[error("message 1: out of memory")]
     NoMemory,
-    /// It is refused by this number.
+    /// The text is rejected with this code.
     #[error("message 55: body refused with code {0}")]
     Refused(u8),
-    /// It is the text of an entity of another name. (Never of a policy.)
+    /// The text is that of an entity with another uid. (Never of a policy.)
     #[error("message 56: body of another entity")]
     OtherName,
 }
@@ -33,25 +33,33 @@ impl From<plain::NoMemory> for BodyFault {
     }
 }
 
-/// Reads the texts of bodies: of policies by their id, as a P, and of entities by their uid, as an E.
+/// A parser of bodies: texts of policies, by id, into `P`, and texts of entities, by uid, into `E`.
 ///
-/// Who implements it says what a text may be read as (the members of [`Readings`]) and for what it is refused. Where
-/// each text is read as one value or refused for one fault, and never both, messages have one outcome too
-/// ([`crate::messages_have_one_outcome`], which takes this as its premise).
+/// An implementation states what a text is parsed as (the members of [`Readings`]), and with which errors it is
+/// rejected. If each text is parsed as one value or rejected with one error, and never both, then messages have one
+/// outcome too: [`crate::messages_have_one_outcome`], which has this as its premise.
 pub trait Bodies<P, E>: Readings<P, E> {
-    /// For what the text (the second) of the policy with this id (the first) is refused.
+    /// The errors of the text (the second) of the policy with this id (the first).
     ghost refuses_policy: { Self → List ℕ → List ℕ → BodyFault → Type 0 };
 
-    /// For what the text of the entity with this uid is refused.
+    /// The errors of the text of the entity with this uid.
     ghost refuses_entity: { Self → EntityUid → List ℕ → BodyFault → Type 0 };
 
-    /// Returns what the text of the policy with this id is read as. Fails for memory too.
+    /// Parses the text of the policy with this id.
+    ///
+    /// # Errors
+    ///
+    /// An error of the text by `refuses_policy`, or `NoMemory`.
     fn read_policy(&self, alloc: Global, id: &str, text: &str) -> Result<P, BodyFault>
         ensures read { IfOk result (Self.reads_policy self.now id.now text.now) }
         ensures refused { IfErr result (OrNoMemory BodyFault.NoMemory (refuses_policy self.now id.now text.now)) };
 
-    /// Returns what the text of the entity with this uid is read as. The scratch is kept from text to text, and what it
-    /// held before plays no part. Fails for memory too.
+    /// Parses the text of the entity with this uid. `scratch` is reused from text to text; its content does not
+    /// matter.
+    ///
+    /// # Errors
+    ///
+    /// An error of the text by `refuses_entity`, or `NoMemory`.
     fn read_entity(
         &self,
         alloc: Global,

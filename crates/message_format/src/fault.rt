@@ -1,4 +1,4 @@
-//! Why bytes are no message.
+//! The errors of messages.
 ghost use Rattle.std.specs.Prelude.{◌≡◌};
 ghost use Rattle.message_format.specs.declared.fault.MessageFault.TheVariants.{NoMemory};
 ghost use Rattle.message_format.specs.Faults.{code_of, place_of, within_of};
@@ -6,37 +6,37 @@ ghost use Rattle.message_format.specs.Faults.{code_of, place_of, within_of};
 use std::alloc::AllocFailed;
 use thiserror::Error;
 
-/// Why a message is not read. Each place is that of an entry, or of a summary's stamp, counted from 0.
+/// The first error of a message. An index is that of an entry, or of a summary's stamp, from 0.
 #[derive(Clone, Copy, PartialEq, Eq, Debug, Error)]
 pub enum MessageFault {
-    /// An allocation was refused.
+    /// An allocation failed.
     #[error("message 1: out of memory")]
     NoMemory,
-    /// The bytes are no JSON.
+    /// The bytes are not JSON.
     #[error("message 50: not JSON")]
     NotJson,
-    /// JSON of another shape than a message of this kind has.
+    /// The JSON does not have the shape of such a message.
     #[error("message 51: JSON without the form of such a message")]
     BadShape,
-    /// A message of another schema.
+    /// The message is of another schema.
     #[error("message 52: schema label of another schema")]
     OtherSchema,
-    /// A version other than 1 and 2.
+    /// The version is neither 1 nor 2.
     #[error("message 53: version other than 1 and 2")]
     Version,
-    /// A count of 0, or over 10^18.
+    /// The count of the entry at this index is 0, or over 10^18.
     #[error("message 54: count of 0, or over 10^18, at entry {0}")]
     CountRange(usize),
-    /// An entry whose name or body is refused, with the number of the refusal inside.
+    /// The name or the body of the entry at this index is rejected, with this code.
     #[error("message 55: entry {0} refused with code {1}")]
     BadEntry(usize, u8),
-    /// An entry of an entity whose body is another entity's.
+    /// The entry at this index is of an entity, and its body states another uid.
     #[error("message 56: body of another entity at entry {0}")]
     BodyOfOtherName(usize),
 }
 
 impl MessageFault {
-    /// Returns the number by which the refusal is told.
+    /// Returns the error's code.
     pub fn code(self) -> u8
         ensures { result ≡ code_of self }
     {
@@ -52,7 +52,7 @@ impl MessageFault {
         }
     }
 
-    /// Returns the entry, or the stamp, at which it shows; None where the message as a whole is refused.
+    /// Returns the index of the entry or stamp in error; `None` if the message as a whole is rejected.
     pub fn place(self) -> Option<usize>
         ensures { result ≡ place_of self }
     {
@@ -64,7 +64,7 @@ impl MessageFault {
         }
     }
 
-    /// Returns the number of the refusal inside, where one stands in another.
+    /// Returns the code of the inner error, if there is one.
     pub fn within(self) -> Option<u8>
         ensures { result ≡ within_of self }
     {

@@ -1,4 +1,4 @@
-//! Laws of messages, by the contracts of functions that do nothing.
+//! Theorems about messages; their functions do nothing.
 ghost use Rattle.std.specs.Prelude.{◌≡◌, ◌⊎◌, true, Ok, Some, List, ℕ, codes};
 ghost use Rattle.std.specs.Str.{IsUtf8};
 ghost use Rattle.json_words.specs.Json.{json_of};
@@ -25,9 +25,11 @@ use crate::summary_laws::stamps_read_back;
 use json_words::compact_texts_read_back;
 use stamped_store::laws::site_names_are_told;
 
-/// The JSON of a state, and that of a delta, is read as the updates that it was written of, where their names and
-/// stamps are in their ranges, and so is its text, where texts are UTF-8; and no bytes are the state of two stores, or
-/// a delta of two contents.
+/// Proves the round trip of states and deltas.
+///
+/// If the names and stamps of the updates are in their ranges, the JSON of a state or delta is read as the updates
+/// that it was written from; and so is its text, if its texts are UTF-8. No bytes are the state of two stores, or the
+/// delta of two contents. No-op.
 pub fn messages_read_back()
     ensures states { (label : List ℕ) (s : Store) → AreInRange (updates s)
         → updates_in label (state_json label s) ≡ Ok (updates s) }
@@ -47,9 +49,11 @@ pub fn messages_read_back()
     compact_texts_read_back();
 }
 
-/// Bytes have one outcome, where each text has one: they are a message of one list of updates at most, or are refused
-/// for one fault at most, and never both. They are the one or the other where each text is read or refused. No message
-/// is refused for a policy of another name, where no text is.
+/// Proves that bytes have one outcome as a message.
+///
+/// If each text has at most one outcome, bytes are a message of at most one list of updates, or have at most one
+/// error, and never both. If each text is also parsed or rejected, bytes are a message or have an error. If no
+/// policy's text is rejected as of another name, no policy's entry is. No-op.
 pub fn messages_have_one_outcome<P: Drop, E: Drop, B: Bodies<P, E>>()
     ensures updates { (b : B)
         → TextsHaveOneOutcome (B.reads_policy b) (B.refuses_policy b) (B.reads_entity b) (B.refuses_entity b)
@@ -83,9 +87,11 @@ pub fn messages_have_one_outcome<P: Drop, E: Drop, B: Bodies<P, E>>()
     stamps_read_back();
 }
 
-/// A message of version 1 is read as the raise of its updates: each number of a site, which is one from 1 to 65,535, is
-/// replaced by its five digits. Bytes of version 1 that are read as updates are such a message; and the JSON of
-/// numbered updates in their ranges, as version 1 has it, is read as their raise.
+/// Proves that a message of version 1 is read as the raise of its updates: each site's number, from 1 to 65,535, is
+/// replaced by its five digits.
+///
+/// Bytes of version 1 that are read as updates are such a message; the version 1 JSON of numbered updates in their
+/// ranges is read as their raise. No-op.
 pub fn messages_are_raised()
     ensures raised { (label bytes : List ℕ) (ns : List NumberedUpdate) → IsVersion1Message label bytes ns
         → updates_stated label bytes ≡ Ok (raise ns) }
@@ -100,7 +106,8 @@ pub fn messages_are_raised()
     stamps_read_back();
 }
 
-/// Bytes that state updates in their ranges are a message of these exactly where each of them is valid.
+/// Proves that bytes that state updates in their ranges are a message of these if and only if each of them is valid.
+/// No-op.
 pub fn valid_messages_are_read<P: Drop, E: Drop, B: Bodies<P, E>>()
     ensures read { (b : B) (label bytes : List ℕ) (us : List PlainUpdate) → updates_stated label bytes ≡ Ok us
         → AreInRange us → AreValid (B.reads_policy b) (B.reads_entity b) us

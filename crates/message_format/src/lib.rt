@@ -1,10 +1,10 @@
-//! Messages between sites: what a store is written as, and what is read from another site.
+//! Messages between sites, written and read.
 //!
-//! A summary has the names of a store with the stamps of their entries, by which another site tells what is news to
-//! this one. A state is a store whole, a delta the part of it that is news to whoever has a summary.
+//! A summary has the names of a store with the stamps of their entries. A state is a whole store. A delta holds the
+//! entries whose names a summary lacks or has with a smaller stamp.
 //!
-//! What the texts of a message may be read as is not this crate's business: a type that implements [`Bodies`] reads
-//! them, and says what they are and why they are refused.
+//! This crate does not know the texts in a message: a type that implements [`Bodies`] parses them, and states their
+//! values and errors.
 #![tactic(auto)]
 
 mod bodies;
@@ -31,7 +31,7 @@ pub use laws::{
 pub use members::{Lent, write_number, write_text};
 pub use reading::read_message;
 pub use stamped_store::laws::updates_have_one_store;
-pub use stamped_store::{PolicyStore, Readings};
+pub use stamped_store::{Readings, StampedStore};
 pub use summary::Summary;
 pub use summary_laws::{stamps_read_back, summaries_read_back};
 pub use summary_reading::{judge_stamp, read_stamped, read_summary, read_version};

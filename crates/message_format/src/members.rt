@@ -1,6 +1,6 @@
-//! Members of objects, written token by token behind what was written before: no value is built, and no text copied.
+//! Members of objects, written token by token after what was written before: no value is built, and no string copied.
 //!
-//! The caller writes the brackets around them. RFC 8259, section 4, has the members of an object.
+//! The caller writes the brackets around them. RFC 8259, section 4, defines the members of an object.
 ghost use Rattle.std.specs.Prelude.{◌≡◌, OnOk, codes};
 ghost use Rattle.std.specs.declared.cmp.Ordering.{Ordering};
 ghost use Rattle.serde_json.specs.Data.{number, unsigned, string};
@@ -16,8 +16,11 @@ use plain::NoMemory;
 use std::cmp::Ordering;
 use values::{EntityUid, Name};
 
-/// Writes a member of an object whose value is a text. Fails for memory alone; what was written by then
-/// is for nobody to read.
+/// Writes a member of an object whose value is a string.
+///
+/// # Errors
+///
+/// `NoMemory`; the partial output must then be discarded.
 pub fn write_text(out: &mut Writer, key: &str, text: &str) -> Result<(), NoMemory>
     ensures { OnOk result (AppendsMember out.old out.new key.now (string text.now)) }
 {
@@ -25,8 +28,11 @@ pub fn write_text(out: &mut Writer, key: &str, text: &str) -> Result<(), NoMemor
     out.string(text)
 }
 
-/// Writes a member of an object whose value is a whole number, in decimal. Fails for memory alone; what was
-/// written by then is for nobody to read.
+/// Writes a member of an object whose value is a whole number, in decimal.
+///
+/// # Errors
+///
+/// `NoMemory`; the partial output must then be discarded.
 pub fn write_number(out: &mut Writer, key: &str, value: u64) -> Result<(), NoMemory>
     ensures { OnOk result (AppendsMember out.old out.new key.now (number (unsigned value))) }
 {
@@ -34,17 +40,21 @@ pub fn write_number(out: &mut Writer, key: &str, value: u64) -> Result<(), NoMem
     out.u64(value)
 }
 
-/// How a name is lent by a store: a policy's id or an entity's uid. It is compared and written as the name that it is,
-/// and no [`Name`] is made of it.
+/// A name borrowed from a store: a policy's id or an entity's uid. It is compared and written as that name, without
+/// making a [`Name`] from it.
 pub trait Lent {
     /// The name.
     ghost named: { Self → Name };
 
-    /// Returns how a name compares with this one. Takes no memory.
+    /// Returns how `other` compares with this name. Does not allocate.
     fn compare(&self, other: &Name) -> Ordering
         ensures { result ≡ name_cmp other.now (named self.now) };
 
-    /// Writes the member `name` of an entry or a stamp. Fails for memory alone.
+    /// Writes the member `name` of an entry or a stamp.
+    ///
+    /// # Errors
+    ///
+    /// `NoMemory`; the partial output must then be discarded.
     fn write(&self, out: &mut Writer) -> Result<(), NoMemory>
         ensures { OnOk result (AppendsMember out.old out.new (codes "name") (name_json (named self.now))) };
 }

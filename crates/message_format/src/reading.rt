@@ -1,4 +1,4 @@
-//! Reading a state or a delta, with the first fault.
+//! Reads a state or a delta; the first error is returned.
 ghost use Rattle.std.specs.Prelude.{◌≡◌, List, IfOk, IfErr, map};
 ghost use Rattle.stamped_store.specs.Store.{issued, policy_name, entity_name};
 ghost use Rattle.stamped_store.specs.Raised.{NumberedUpdate, raise};
@@ -23,7 +23,7 @@ use std::alloc::Global;
 use std::collections::VecDeque;
 use values::{EntityUid, Name};
 
-/// Returns the body of a policy: nothing, or a text that is read.
+/// Returns the body of a policy: nothing, or a parsed text.
 fn policy_body<P: Drop, E: Drop, B: Bodies<P, E>>(
     alloc: Global,
     bodies: &B,
@@ -41,7 +41,7 @@ fn policy_body<P: Drop, E: Drop, B: Bodies<P, E>>(
     Ok(Some(ReadText { text, read }))
 }
 
-/// Returns the body of an entity: nothing, or a text that is read.
+/// Returns the body of an entity: nothing, or a parsed text.
 fn entity_body<P: Drop, E: Drop, B: Bodies<P, E>>(
     alloc: Global,
     bodies: &B,
@@ -95,7 +95,7 @@ fn read_entity<P: Drop, E: Drop, B: Bodies<P, E>>(
     Ok(Update::Entity { uid, entry })
 }
 
-/// Returns an update, its text read.
+/// Returns an update, its text parsed.
 fn read_update<P: Drop, E: Drop, B: Bodies<P, E>>(
     alloc: Global,
     bodies: &B,
@@ -115,7 +115,7 @@ fn read_update<P: Drop, E: Drop, B: Bodies<P, E>>(
     }
 }
 
-/// Returns the fault of a message for that of a body at a place.
+/// Returns the message's error for the body's error at an index.
 fn fault_at(place: usize, fault: BodyFault) -> MessageFault
     ensures { result ≡ message_fault place fault }
 {
@@ -126,7 +126,7 @@ fn fault_at(place: usize, fault: BodyFault) -> MessageFault
     }
 }
 
-/// Returns the update at a place: judged, and then its text read.
+/// Returns the update at an index: its ranges are checked, then its text is parsed.
 fn read_at<P: Drop, E: Drop, B: Bodies<P, E>>(
     alloc: Global,
     bodies: &B,
@@ -147,7 +147,7 @@ fn read_at<P: Drop, E: Drop, B: Bodies<P, E>>(
     }
 }
 
-/// Returns the updates, each in turn, up to the first fault.
+/// Returns the updates, parsed in turn, or the first error.
 fn read_all<P: Drop, E: Drop, B: Bodies<P, E>>(
     alloc: Global,
     bodies: &B,
@@ -173,13 +173,24 @@ fn read_all<P: Drop, E: Drop, B: Bodies<P, E>>(
     Ok(updates)
 }
 
-/// Returns the updates of a state or a delta, in their order, under the schema of this label, each with what its text
-/// was read as; names may stand in any order, and more than once. Or the first fault, in this order: bytes that are no
-/// JSON; no object with a whole-number `version`; a version other than 1 and 2; the rest of the shape, all entries
-/// included; another schema; then entry by entry a count out of range, a policy's id that has not 1 to 256 bytes or a
-/// body that is refused (both with the number of the refusal inside), and a body of another entity. A message with any
-/// fault is refused whole. In version 1 each number of a site is read as the site whose name is its five digits. Fails
-/// for memory too.
+/// Reads a state or a delta of the schema with this label; returns its updates in their order, each text parsed.
+///
+/// Names may be in any order, and more than once. In version 1, each site's number is read as the site whose name is
+/// its five digits.
+///
+/// # Errors
+///
+/// The first of these, in this order; the message is then rejected whole:
+///
+/// - `NotJson` (50): the bytes are not JSON.
+/// - `BadShape` (51): not an object with a whole-number `version`.
+/// - `Version` (53): the version is neither 1 nor 2.
+/// - `BadShape` (51): the rest of the shape, all entries included.
+/// - `OtherSchema` (52): the label is another one.
+/// - Then entry by entry: `CountRange` (54), the count is out of range; `BadEntry` (55), a policy's id does not have
+///   1 to 256 bytes, or the body is rejected, with the code of the inner error; `BodyOfOtherName` (56), the body is
+///   of another entity.
+/// - `NoMemory` (1): an allocation failed; possible at any point.
 pub fn read_message<P: Drop, E: Drop, B: Bodies<P, E>>(
     alloc: Global,
     label: &str,

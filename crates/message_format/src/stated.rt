@@ -1,4 +1,4 @@
-//! What a message states, before any entry is judged and any text is read.
+//! Reads the entries of a message; their ranges and texts are checked later.
 ghost use Rattle.std.specs.Prelude.{◌≡◌, ◌||◌, map};
 ghost use Rattle.serde_json.specs.View.{view, items_view};
 ghost use Rattle.json_words.specs.ReadsAs.{ReadsAs};
@@ -18,14 +18,14 @@ use stamped_store::Stamp;
 use std::alloc::Global;
 use values::Name;
 
-/// What an entry states: a name with a stamp, and a body that is nothing or a text.
+/// An entry as stated: a name with a stamp, and a body that is nothing or a text.
 #[derive(Drop)]
 pub struct Stated {
     pub(crate) stamped: (Name, Stamp),
     pub(crate) body: Option<Text>,
 }
 
-/// Returns a text, or null for nothing.
+/// Returns a body: a string, or nothing for null.
 #[tactic(auto, unfolding(crate::specs::Messages::body_in, crate::specs::Messages::text_in))]
 fn read_body(alloc: Global, value: &Value) -> Result<Option<Text>, MessageFault>
     ensures { ReadsAs MessageFault.NoMemory (λ b. b) result (body_in (view value.now)) }
@@ -88,7 +88,7 @@ fn read_entries(
     read_each(alloc, version, list)
 }
 
-/// Returns whether a message of this kind states updates.
+/// Returns whether a message of this kind has entries.
 fn is_kind(kind: &str) -> bool
     ensures { result ≡ names_kind kind.now }
 {
@@ -121,8 +121,8 @@ fn read_value(alloc: Global, label: &str, value: &Value) -> Result<Vec<Stated>, 
     Ok(entries)
 }
 
-/// Returns the updates that bytes state under the schema of this label, in their order, or the first fault before any
-/// entry is judged. The JSON is given up before any text is read.
+/// Returns the updates that bytes state under the schema with this label, in their order; or the first error before
+/// the checks of entries. The JSON is dropped before any text is parsed.
 #[tactic(auto, unfolding(crate::specs::Messages::updates_stated))]
 pub(crate) fn read_stated(
     alloc: Global,

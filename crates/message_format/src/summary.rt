@@ -1,4 +1,4 @@
-//! Summaries: the greatest stamp of each name.
+//! Summaries: a per-name version vector of a store.
 ghost use Rattle.std.specs.Prelude.{◌≡◌, true};
 ghost use Rattle.message_format.specs.Summaries.{ascend};
 
@@ -26,7 +26,7 @@ impl Model for Summary {
 }
 
 impl Summary {
-    /// Returns the names with their stamps, ascending.
+    /// Returns the names with their stamps, in ascending order.
     pub fn stamps(&self) -> &[(Name, Stamp)]
         ensures all { result.now ≡ self.now }
         ensures ascending { ascend result.now ≡ true }

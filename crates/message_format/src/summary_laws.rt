@@ -1,4 +1,4 @@
-//! Laws of messages, by the contracts of functions that do nothing.
+//! Theorems about summaries; their functions do nothing.
 ghost use Rattle.std.specs.Prelude.{◌≡◌, true, Ok, List, ℕ};
 ghost use Rattle.std.specs.Str.{IsUtf8};
 ghost use Rattle.serde_json.specs.Data.{Data};
@@ -18,10 +18,12 @@ use json_words::compact_texts_read_back;
 use stamped_store::laws::site_names_are_told;
 use values::paths_are_told;
 
-/// The JSON of a summary is read as this summary, and the JSON of a summary of version 1 as the summary in which each
-/// site's number is replaced by its five digits; what is read as a summary has names and stamps in their ranges, its
-/// names ascending; so have the names of a store's summary; the text of a summary that may be written is read as this
-/// summary, and two summaries that are written alike are one.
+/// Proves the round trip of summaries.
+///
+/// The JSON of a summary is read as that summary; the JSON of a summary of version 1 as the summary in which each
+/// site's number is replaced by its five digits. What is read as a summary has names and stamps in their ranges, and
+/// its names ascend. So do the names of a store's summary. The text of a summary that may be written is read as that
+/// summary, and two summaries with one text are equal. No-op.
 pub fn summaries_read_back()
     ensures back { (label : List ℕ) (m : Summary) → AreStamped m → ascend m ≡ true
         → summary_in label (summary_json label m) ≡ Ok m }
@@ -42,8 +44,10 @@ pub fn summaries_read_back()
     names_read_back();
 }
 
-/// The JSON of a name is read as this name; a name with a stamp in their ranges is judged so; and what is read as a
-/// name with a stamp, and is judged so, has both in their ranges.
+/// Proves the round trip of names and stamps.
+///
+/// The JSON of a name is read as that name. A name and a stamp in their ranges pass [`judge_stamp`]'s checks; a name
+/// and a stamp that are read and pass them are in their ranges. No-op.
 pub fn stamps_read_back()
     ensures names { (n : Name) → IsName n → name_in (name_json n) ≡ Ok n }
     ensures judged { (place : ℕ) (u : Name × Stamp) → IsStamped u → judged place u ≡ Ok u }

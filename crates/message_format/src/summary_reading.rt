@@ -1,4 +1,4 @@
-//! Reading a summary, with the first fault.
+//! Reads a summary; the first error is returned.
 ghost use Rattle.std.specs.Prelude.{◌≡◌, true, IfOk};
 ghost use Rattle.std.specs.Ordering.{is_lt};
 ghost use Rattle.serde_json.specs.View.{view, items_view};
@@ -21,8 +21,8 @@ use stamped_store::{COUNT_MAX, SiteName, Stamp, is_site_name};
 use std::alloc::Global;
 use values::Name;
 
-/// Returns the whole number that an object has at a key, where it fits 64 bits without a sign; else the value has a bad
-/// shape. Takes no memory.
+/// Returns the whole number that an object has at a key, if it is an unsigned 64-bit number; else `BadShape`. Does
+/// not allocate.
 fn number_at(value: &Value, key: &str) -> Result<u64, MessageFault>
     ensures { AlwaysReadsAs (λ n. n) result (number_of key.now (view value.now)) }
 {
@@ -75,8 +75,12 @@ fn read_name(alloc: Global, value: &Value) -> Result<Name, MessageFault>
     read_entity(alloc, value)
 }
 
-/// Returns the version of a message. Another than 1 and 2 is refused for it, and a message without a whole number for a
-/// version has a bad shape. Takes no memory.
+/// Returns the version of a message. Does not allocate.
+///
+/// # Errors
+///
+/// - `BadShape` (51): there is no `version`, or it is not a whole number.
+/// - `Version` (53): it is neither 1 nor 2.
 #[tactic(auto, unfolding(crate::specs::Summaries::version_in))]
 pub fn read_version(value: &Value) -> Result<MessageVersion, MessageFault>
     ensures { AlwaysReadsAs (λ v. v) result (version_in (view value.now)) }
@@ -91,7 +95,7 @@ pub fn read_version(value: &Value) -> Result<MessageVersion, MessageFault>
     Err(MessageFault::Version)
 }
 
-/// Returns the number of a site, which is one from 1 to 65,535.
+/// Returns the number of a site, from 1 to 65,535.
 #[tactic(auto, unfolding(crate::specs::Summaries::numbered_in))]
 fn read_number(value: &Value) -> Result<u16, MessageFault>
     ensures { AlwaysReadsAs (λ n. n) result (numbered_in (view value.now)) }
@@ -103,7 +107,7 @@ fn read_number(value: &Value) -> Result<u16, MessageFault>
     Ok(site as u16)
 }
 
-/// Returns the site whose number stands there.
+/// Returns the site whose number an object states.
 #[tactic(auto, unfolding(crate::specs::Summaries::raised_in))]
 fn read_numbered(value: &Value) -> Result<SiteName, MessageFault>
     ensures { AlwaysReadsAs (λ n. n) result (raised_in (view value.now)) }
@@ -112,7 +116,7 @@ fn read_numbered(value: &Value) -> Result<SiteName, MessageFault>
     Ok(SiteName::from_number(number))
 }
 
-/// Returns the site whose name stands there.
+/// Returns the site whose name an object states.
 #[tactic(auto, unfolding(crate::specs::Summaries::named_in))]
 fn read_named(value: &Value) -> Result<SiteName, MessageFault>
     ensures { AlwaysReadsAs (λ n. n) result (named_in (view value.now)) }
@@ -126,7 +130,7 @@ fn read_named(value: &Value) -> Result<SiteName, MessageFault>
     Ok(SiteName::new(site))
 }
 
-/// Returns the site that an object states, as the version of its message has it.
+/// Returns the site that an object states, in the form of the message's version.
 fn read_site(version: MessageVersion, value: &Value) -> Result<SiteName, MessageFault>
     ensures { AlwaysReadsAs (λ n. n) result (site_in version (view value.now)) }
 {
@@ -136,10 +140,15 @@ fn read_site(version: MessageVersion, value: &Value) -> Result<SiteName, Message
     }
 }
 
-/// Returns the name and the stamp that an object states at its keys `count`, `name` and `site`, whatever other keys it
-/// has: a count of 64 bits without a sign, a site as the message's version has it, and a policy's id or an entity's
-/// uid. In version 1 a site is a number from 1 to 65,535, whose five digits are the site's name; in version 2 it is its
-/// name. Else the value has a bad shape. Fails for memory too.
+/// Returns the name and the stamp that an object states at its keys `count`, `name` and `site`; other keys are
+/// ignored.
+///
+/// A count is an unsigned 64-bit number, a name a policy's id or an entity's uid. In version 1 a site is a number
+/// from 1 to 65,535, whose five digits are the site's name; in version 2 it is its name.
+///
+/// # Errors
+///
+/// `BadShape` (51) for any other value, or `NoMemory` (1).
 #[tactic(auto, unfolding(crate::specs::Summaries::stamped_in, crate::specs::Summaries::stamped_by))]
 pub fn read_stamped(
     alloc: Global,
@@ -158,7 +167,7 @@ pub fn read_stamped(
     Ok((name, stamp))
 }
 
-/// Returns a name with its stamp.
+/// Returns a name with its stamp, of an object with no other keys.
 #[tactic(auto, unfolding(crate::specs::Summaries::stamp_in))]
 fn read_stamp(
     alloc: Global,
@@ -188,14 +197,14 @@ fn read_each(
     Ok(stamps)
 }
 
-/// Returns whether a name comes before another.
+/// Returns whether a name is less than another.
 fn comes_before(first: &Name, second: &Name) -> bool
     ensures { result ≡ is_lt (name_cmp first.now second.now) }
 {
     first.cmp(second).is_lt()
 }
 
-/// Returns whether each name comes before the one behind it.
+/// Returns whether the names ascend strictly.
 fn ascend(stamps: &[(Name, Stamp)]) -> bool
     ensures { result ≡ ascends stamps.now }
 {
@@ -207,7 +216,7 @@ fn ascend(stamps: &[(Name, Stamp)]) -> bool
     true
 }
 
-/// Stamps whose names ascend.
+/// Returns the stamps of a summary, whose names ascend.
 #[tactic(auto, unfolding(crate::specs::Summaries::stamps_in))]
 fn read_stamps(
     alloc: Global,
@@ -240,8 +249,12 @@ fn has_id(name: &Name) -> bool
     }
 }
 
-/// Judges the name and the stamp at a place: the count is one from 1 to 10^18, and then a policy's id has 1 to 256
-/// bytes. Takes no memory.
+/// Checks the ranges of the name and the stamp at an index. Does not allocate.
+///
+/// # Errors
+///
+/// - `CountRange` (54): the count is not from 1 to 10^18.
+/// - `BadEntry` (55), with code 19: a policy's id does not have 1 to 256 bytes.
 #[tactic(auto, unfolding(crate::specs::Summaries::judged))]
 pub fn judge_stamp(place: usize, stamp: &(Name, Stamp)) -> Result<(), MessageFault>
     ensures { AlwaysReadsAs (λ u. stamp.now) result (judged place stamp.now) }
@@ -264,7 +277,7 @@ fn judge_all(stamps: &[(Name, Stamp)]) -> Result<(), MessageFault>
     Ok(())
 }
 
-/// Returns the summary that a value is.
+/// Returns the summary that a value states.
 #[tactic(auto, unfolding(crate::specs::Summaries::summary_in))]
 fn read_summary_value(alloc: Global, label: &str, value: &Value) -> Result<Summary, MessageFault>
     ensures { ReadsAs MessageFault.NoMemory (λ m. m) result (summary_in label.now (view value.now)) }
@@ -290,11 +303,21 @@ fn read_summary_value(alloc: Global, label: &str, value: &Value) -> Result<Summa
     Ok(Summary { stamps })
 }
 
-/// Returns the summary that bytes are, under the schema of this label, or the first fault, in this order: bytes that
-/// are no JSON; no object with a whole-number `version`; a version other than 1 and 2; the rest of the shape, all
-/// stamps and the order of their names included; another schema; then stamp by stamp a count out of range, and a
-/// policy's id that has not 1 to 256 bytes. In version 1 each number of a site is read as the site whose name is its
-/// five digits. Fails for memory too.
+/// Reads a summary of the schema with this label. In version 1, each site's number is read as the site whose name is
+/// its five digits.
+///
+/// # Errors
+///
+/// The first of these, in this order:
+///
+/// - `NotJson` (50): the bytes are not JSON.
+/// - `BadShape` (51): not an object with a whole-number `version`.
+/// - `Version` (53): the version is neither 1 nor 2.
+/// - `BadShape` (51): the rest of the shape, all stamps and the order of their names included.
+/// - `OtherSchema` (52): the label is another one.
+/// - Then stamp by stamp: `CountRange` (54), the count is out of range; `BadEntry` (55), with code 19, a policy's id
+///   does not have 1 to 256 bytes.
+/// - `NoMemory` (1): an allocation failed; possible at any point.
 #[tactic(auto, unfolding(crate::specs::Summaries::summary_stated))]
 pub fn read_summary(alloc: Global, label: &str, bytes: &[u8]) -> Result<Summary, MessageFault>
     ensures { ReadsAs MessageFault.NoMemory (λ m. m) result (summary_stated label.now bytes.now) }

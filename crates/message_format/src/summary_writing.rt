@@ -1,4 +1,4 @@
-//! Writing a summary.
+//! Writes a summary.
 ghost use Rattle.std.specs.Prelude.{◌≡◌, IfOk, OnOk, Ok, map};
 ghost use Rattle.serde_json.specs.Data.{array};
 ghost use Rattle.serde_json.specs.View.{items_of};
@@ -12,7 +12,7 @@ use crate::summary_laws::summaries_read_back;
 use crate::{Lent, write_number, write_text};
 use json::Writer;
 use plain::NoMemory;
-use stamped_store::{Entry, PolicyStore, Stamp};
+use stamped_store::{Entry, Stamp, StampedStore};
 use std::alloc::Global;
 use std::collections::btree_map::Iter;
 
@@ -26,7 +26,7 @@ fn write_stamp<N: Lent>(out: &mut Writer, name: &N, stamp: Stamp) -> Result<(), 
     out.end_object()
 }
 
-/// Returns the stamps of these entries, in their order.
+/// Writes the stamps of these entries, in their order.
 fn write_each<N: Lent + Drop, P: Drop>(
     out: &mut Writer,
     entries: Iter<'_, N, Entry<P>>,
@@ -39,10 +39,10 @@ fn write_each<N: Lent + Drop, P: Drop>(
     Ok(())
 }
 
-/// Returns the stamps of a store, in the order of the names: those of policies, and behind them those of entities.
+/// Writes the stamps of a store in the order of the names: policies, then entities.
 fn write_stamps<P: Drop, E: Drop>(
     out: &mut Writer,
-    store: &PolicyStore<P, E>,
+    store: &StampedStore<P, E>,
 ) -> Result<(), NoMemory>
     ensures { OnOk result (AppendsValue out.old out.new
         (array (items_of (map stamp_json (summary_of (abstract_store store.now)))))) }
@@ -56,7 +56,7 @@ fn write_stamps<P: Drop, E: Drop>(
 fn write_whole<P: Drop, E: Drop>(
     out: &mut Writer,
     label: &str,
-    store: &PolicyStore<P, E>,
+    store: &StampedStore<P, E>,
 ) -> Result<(), NoMemory>
     ensures { OnOk result (AppendsValue out.old out.new
         (summary_json label.now (summary_of (abstract_store store.now)))) }
@@ -70,15 +70,18 @@ fn write_whole<P: Drop, E: Drop>(
     out.end_object()
 }
 
-/// Returns the summary of a store, as a message under the schema of this label: compact, keys and names ascending.
-/// Where each name and stamp is one that a message may have, it is read back as what it was written of. Fails for
-/// memory alone.
+/// Returns the summary of a store, as a message of the schema with this label: compact, keys and names ascending.
 ///
-/// The bytes are written straight from the store, and take no memory but their own.
+/// If each name and stamp is in its range, the message is read back as the summary that it was written from.
+/// Allocates only the bytes returned: they are written directly from the store.
+///
+/// # Errors
+///
+/// `NoMemory` alone.
 pub fn write_summary<P: Drop, E: Drop>(
     alloc: Global,
     label: &str,
-    store: &PolicyStore<P, E>,
+    store: &StampedStore<P, E>,
 ) -> Result<Vec<u8>, NoMemory>
     ensures text { IfOk result (λ b. b.items ≡ summary_text label.now (summary_of (abstract_store store.now))) }
     ensures reads_back { IfOk result (λ b. AreStamped (summary_of (abstract_store store.now))

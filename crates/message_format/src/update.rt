@@ -1,24 +1,25 @@
-//! Updates: a name and its entry.
+//! Updates: names with their entries.
 use plain::Text;
 use stamped_store::Entry;
 use values::EntityUid;
 
-/// An update that was read from a message: a name, and an entry that holds, beside the text, what this was read as. So
-/// a store takes it and nothing is read again; the id of a policy gives its `String` without memory.
+/// An update that was read from a message: a name with an entry, whose body holds the text and its parsed form.
+///
+/// A store applies it without parsing the text again; the id of a policy gives its `String` without an allocation.
 #[derive(Drop)]
 pub enum Update<P, E> {
-    /// Of a policy.
+    /// An update of a policy.
     Policy {
-        /// Its id.
+        /// The policy's id.
         id: Text,
-        /// Its stamp and its body.
+        /// The stamp and the body.
         entry: Entry<P>,
     },
-    /// Of an entity.
+    /// An update of an entity.
     Entity {
-        /// Its uid.
+        /// The entity's uid.
         uid: EntityUid,
-        /// Its stamp and its body.
+        /// The stamp and the body.
         entry: Entry<E>,
     },
 }

@@ -1,11 +1,11 @@
-//! Writing a state or a delta.
+//! Writes a state or a delta.
 ghost use Rattle.std.specs.Prelude.{◌≡◌, [], true, Some, Ok, IfOk, OnOk, codes, map};
 ghost use Rattle.serde_json.specs.Data.{array};
 ghost use Rattle.serde_json.specs.View.{items_of};
 ghost use Rattle.serde_json.specs.Written.{compact_text};
 ghost use Rattle.json_words.specs.Json.{json_of};
 ghost use Rattle.values.specs.Names.{name_cmp};
-ghost use Rattle.stamped_store.specs.Deltas.{delta, is_news as is_news_where};
+ghost use Rattle.stamped_store.specs.Deltas.{delta, is_unseen as is_news_where};
 ghost use Rattle.stamped_store.specs.EntryOrder.{plain_entry, body_bytes};
 ghost use Rattle.stamped_store.specs.Store.{abstract_store, updates};
 ghost use Rattle.stamped_store.specs.Stored.{value_at};
@@ -22,13 +22,13 @@ use crate::members::{Lent, write_number, write_text};
 use crate::summary::Summary;
 use json::Writer;
 use plain::NoMemory;
-use stamped_store::{Entry, PolicyStore, ReadText, Stamp};
+use stamped_store::{Entry, ReadText, Stamp, StampedStore};
 use std::alloc::Global;
 use std::cmp::Ordering;
 use std::collections::btree_map::Iter;
 use values::Name;
 
-/// Returns the member `body`: a text, or null.
+/// Writes the member `body`: a string, or null.
 fn write_body<P>(out: &mut Writer, body: &Option<ReadText<P>>) -> Result<(), NoMemory>
     ensures { OnOk result (AppendsMember out.old out.new (codes "body") (body_json (body_bytes body.now))) }
 {
@@ -52,7 +52,7 @@ fn write_entry<N: Lent, P>(out: &mut Writer, name: &N, entry: &Entry<P>) -> Resu
     out.end_object()
 }
 
-/// Returns what is left of ascending stamps from a name on, and the stamp of this name.
+/// Returns the rest of ascending stamps from a name on, and the stamp of this name.
 fn from_name<'a, N: Lent>(
     known: &'a [(Name, Stamp)],
     name: &N,
@@ -72,8 +72,8 @@ fn from_name<'a, N: Lent>(
     (left, None)
 }
 
-/// Returns whether an entry is news where this stamp is known.
-fn is_news<P>(known: Option<Stamp>, entry: &Entry<P>) -> bool
+/// Returns whether an entry is missing where this stamp is known: there is none, or a smaller one.
+fn is_unseen<P>(known: Option<Stamp>, entry: &Entry<P>) -> bool
     ensures { result ≡ is_news_where known (Some (plain_entry entry.now)) }
 {
     match known {
@@ -82,7 +82,7 @@ fn is_news<P>(known: Option<Stamp>, entry: &Entry<P>) -> bool
     }
 }
 
-/// Writes an entry if it is news where this stamp is known.
+/// Writes an entry if it is missing where this stamp is known.
 fn push_news<N: Lent, P>(
     out: &mut Writer,
     known: Option<Stamp>,
@@ -91,13 +91,14 @@ fn push_news<N: Lent, P>(
 ) -> Result<(), NoMemory>
     ensures { OnOk result (AppendsAll out.old out.new (news_by known (N.named name.now, plain_entry entry.now))) }
 {
-    if !is_news(known, entry) {
+    if !is_unseen(known, entry) {
         return Ok(());
     }
     write_entry(out, name, entry)
 }
 
-/// Writes those of ascending entries that are news, and tells what is left of the stamps behind their names.
+/// Writes those of ascending entries that the stamps lack or have smaller; returns the rest of the stamps after their
+/// names.
 fn push_all<'a, N: Lent + Drop, P: Drop>(
     out: &mut Writer,
     entries: Iter<'_, N, Entry<P>>,
@@ -117,10 +118,11 @@ fn push_all<'a, N: Lent + Drop, P: Drop>(
     Ok(left)
 }
 
-/// Returns the entries of a store that are news, in the order of the names: one walk over the names of both.
+/// Writes the entries of a store that the stamps lack or have smaller, in the order of the names: one walk over the
+/// names of both.
 fn write_entries<P: Drop, E: Drop>(
     out: &mut Writer,
-    store: &PolicyStore<P, E>,
+    store: &StampedStore<P, E>,
     known: &[(Name, Stamp)],
 ) -> Result<(), NoMemory>
     requires { ascend known.now ≡ true }
@@ -137,7 +139,7 @@ fn write_whole<P: Drop, E: Drop>(
     out: &mut Writer,
     kind: &str,
     label: &str,
-    store: &PolicyStore<P, E>,
+    store: &StampedStore<P, E>,
     known: &[(Name, Stamp)],
 ) -> Result<(), NoMemory>
     requires { ascend known.now ≡ true }
@@ -158,7 +160,7 @@ fn write_message<P: Drop, E: Drop>(
     alloc: Global,
     kind: &str,
     label: &str,
-    store: &PolicyStore<P, E>,
+    store: &StampedStore<P, E>,
     known: &[(Name, Stamp)],
 ) -> Result<Vec<u8>, NoMemory>
     requires { ascend known.now ≡ true }
@@ -172,15 +174,18 @@ fn write_message<P: Drop, E: Drop>(
     Ok(out.into_inner())
 }
 
-/// Returns a store whole, as a state under the schema of this label: compact, keys and names ascending. Where each name
-/// and stamp is one that a message may have, it is read back as the updates that it was written of. Fails for memory
-/// alone.
+/// Returns a whole store, as a state of the schema with this label: compact, keys and names ascending.
 ///
-/// The bytes are written straight from the store, and take no memory but their own.
+/// If each name and stamp is in its range, the message is read back as the updates that it was written from.
+/// Allocates only the bytes returned: they are written directly from the store.
+///
+/// # Errors
+///
+/// `NoMemory` alone.
 pub fn write_state<P: Drop, E: Drop>(
     alloc: Global,
     label: &str,
-    store: &PolicyStore<P, E>,
+    store: &StampedStore<P, E>,
 ) -> Result<Vec<u8>, NoMemory>
     ensures text { IfOk result (λ b. b.items ≡ state_text label.now (abstract_store store.now)) }
     ensures json { IfOk result (λ b. json_of b.items ≡ Some (state_json label.now (abstract_store store.now))) }
@@ -191,13 +196,18 @@ pub fn write_state<P: Drop, E: Drop>(
     write_message(alloc, "state", label, store, &[])
 }
 
-/// Returns the part of a store that is news to whoever has this summary, as a delta under the schema of this label: the
-/// entries whose names have no stamp there or a smaller one. Written, and read back, as a state is. One walk over the
-/// names of both, which takes memory for what is news alone. Fails for memory alone.
+/// Returns a delta of the schema with this label: the entries whose names `since` lacks or has with a smaller stamp.
+///
+/// It is written, and read back, as [`write_state`] does. One walk over the names of both; allocates only the bytes
+/// returned.
+///
+/// # Errors
+///
+/// `NoMemory` alone.
 pub fn write_delta<P: Drop, E: Drop>(
     alloc: Global,
     label: &str,
-    store: &PolicyStore<P, E>,
+    store: &StampedStore<P, E>,
     since: &Summary,
 ) -> Result<Vec<u8>, NoMemory>
     ensures text { IfOk result (λ b. b.items ≡ delta_text label.now (delta (abstract_store store.now) since.now)) }

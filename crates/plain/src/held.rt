@@ -14,3 +14,18 @@ pub fn beside<T: Drop, U, E>(kept: T, made: Result<U, E>) -> Result<(T, U), E>
         Err(why) => Err(why),
     }
 }
+
+/// Returns both values, or the first error.
+///
+/// It is generic for the same reason as [`beside`].
+pub fn both<A: Drop, B: Drop, E: Drop>(
+    first: Result<A, E>,
+    second: Result<B, E>,
+) -> Result<(A, B), E>
+    ensures first { IfOk result (λ pair. first ≡ Ok pair.0) }
+    ensures second { IfOk result (λ pair. second ≡ Ok pair.1) }
+{
+    let first = first?;
+    let second = second?;
+    Ok((first, second))
+}

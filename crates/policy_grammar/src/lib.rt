@@ -19,8 +19,10 @@ mod verdict;
 
 pub use annotations::repeated_annotation;
 pub use fault::ReadFault;
-pub use grammar_core::{Expr, Pattern};
-pub use grammar_desugaring::tokens;
+pub use grammar_core::{
+    Binary, BinaryCall, Expr, Literal, Named, Pattern, Unary, UnaryCall, Variable,
+};
+pub use grammar_desugaring::{LexFault, Token, TokenKind, tokens};
 pub use laws::{file_names_differ, texts_have_one_reading, told_fault_is_least};
 pub use limits::{MOST_ID_BYTES, heads_are_small};
 pub use policy::{ActionScope, Effect, EntityScope, Policy, Scope};

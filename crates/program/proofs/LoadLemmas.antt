@@ -1,13 +1,13 @@
 -- The state of a site that took files, and why there is none.
 use Rattle.std.proofs.Common.{◌≡◌, ℕ, List, Option, Result, Ok, Err, IfOk, IfErr, subst}
-use Rattle.http_service.specs.answer_lines.declared.refusal.Refusal.{Refusal}
-use Rattle.http_service.specs.answer_lines.Refusals.{no_memory}
-use Rattle.site_loading.specs.site_steps.Seen.{Seen, schema_of, store_in}
+use Rattle.program_drills.specs.http_service.answer_lines.declared.refusal.Refusal.{Refusal}
+use Rattle.program_drills.specs.http_service.answer_lines.Refusals.{no_memory}
+use Rattle.site_loading.specs.site_steps.SiteViews.{SiteView, schema_of, store_in}
 use Rattle.site_loading.specs.Loads as loads
-use Rattle.program.specs.Beginning.{IsBegun}
+use Rattle.program.specs.Beginning.{IsInitialSite}
 use Rattle.program.specs.Loading.{IsLoaded, IsLoadRefused, by_load}
 
-module _ (schema name : List ℕ) (state policies entities : Option (List ℕ)) (site : Seen) (begun : IsBegun schema name state site) where
+module _ (schema name : List ℕ) (state policies entities : Option (List ℕ)) (site : SiteView) (begun : IsInitialSite schema name state site) where
   pub loaded_as : {A : Type 0} (bytes : A → List ℕ) (result : Result A Refusal)
       → IfOk result (λ b. loads.IsLoadedState (schema_of site) site.name (store_in site) policies entities (bytes b))
       → IfOk result (λ b. IsLoaded schema name state policies entities (bytes b))

@@ -3,8 +3,8 @@ use Rattle.std.proofs.Common.{◌≡◌, ◌≢◌, ◌⊎◌, inl, inr, ℕ, Li
 use Rattle.site_loading.specs.schema.Schemas.{StatedSchema}
 use Rattle.program_lines.specs.declared.line.PullOptions.{PullOptions}
 use Rattle.program_lines.specs.stamped_store.Store.{Store}
-use Rattle.http_service.specs.answer_lines.declared.refusal.Refusal.{Refusal}
-use Rattle.http_service.specs.answer_lines.Refusals.{no_memory}
+use Rattle.program_drills.specs.http_service.answer_lines.declared.refusal.Refusal.{Refusal}
+use Rattle.program_drills.specs.http_service.answer_lines.Refusals.{no_memory}
 use Rattle.state_exchanges.specs.http_devices.declared.devices.Source.{Ghosts as Source}
 use Rattle.state_exchanges.specs.http_devices.declared.devices.Sink.{Ghosts as Sink}
 use Rattle.state_exchanges.specs.Messages.{IsMessageRefused}

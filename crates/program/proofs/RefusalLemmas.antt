@@ -1,7 +1,7 @@
 -- Want of memory among the refusals.
 use Rattle.std.proofs.Common.{◌≡◌, ◌⊎◌, inl, inr, ℕ, zero, suc, List, Option, None, Some, refl}
-use Rattle.http_service.specs.answer_lines.declared.refusal.Refusal.{Refusal}
-use Rattle.http_service.specs.answer_lines.Refusals.{no_memory}
+use Rattle.program_drills.specs.http_service.answer_lines.declared.refusal.Refusal.{Refusal}
+use Rattle.program_drills.specs.http_service.answer_lines.Refusals.{no_memory}
 use Rattle.program.specs.Events.{Event}
 use Rattle.program.specs.Reports.{IsRefusalReported, IsMemoryReported}
 use Rattle.program.specs.Courses.{IsRefusedFor, IsLineOrRefusal}

@@ -6,8 +6,8 @@ use Rattle.std.proofs.Common.{IfOk, IfErr, refl, sym, ap, subst, arith, append_a
 use Rattle.state_exchanges.specs.http_devices.declared.devices.Source.{Ghosts as Source}
 use Rattle.state_exchanges.specs.http_devices.declared.devices.Sink.{Ghosts as Sink}
 use Rattle.state_exchanges.specs.http_streams.declared.serve.StreamFault.{StreamFault}
-use Rattle.http_service.specs.answer_lines.declared.refusal.Refusal.{Refusal}
-use Rattle.http_service.specs.answer_lines.Refusals.{no_memory}
+use Rattle.program_drills.specs.http_service.answer_lines.declared.refusal.Refusal.{Refusal}
+use Rattle.program_drills.specs.http_service.answer_lines.Refusals.{no_memory}
 use Rattle.site_loading.specs.schema.Schemas.{StatedSchema, IsSchemaOf}
 use Rattle.site_loading.specs.schema.Views.{schema_view}
 use Rattle.std.specs.FinMap.{len-empty, len-entries}
@@ -15,19 +15,19 @@ use Rattle.values.specs.Names.{name_cmp}
 use Rattle.program_lines.specs.stamped_store.EntryOrder.{PlainEntry}
 use Rattle.program_lines.specs.stamped_store.Store.{store_of, updates}
 use Rattle.state_exchanges.specs.message_format.Updates.{plain_updates}
-use Rattle.site_loading.specs.site_steps.Seen.{Seen, schema_of, store_in}
+use Rattle.site_loading.specs.site_steps.SiteViews.{SiteView, schema_of, store_in}
 use Rattle.site_loading.specs.site_steps.declared.fault.SiteFault.{SiteFault}
 use Rattle.site_loading.specs.site_steps.declared.fault.SiteFault.TheVariants.{NoMemory, Policy, Check as Unfit, Entity}
 use Rattle.site_loading.specs.site_steps.declared.fault.SiteFault.TheVariants.{Message, NotThere, WouldCycle, ClockFull}
 use Rattle.site_loading.specs.site_steps.declared.fault.SiteFault.TheVariants.{Request}
-use Rattle.http_service.specs.site_steps.Runs.{IsNoMessageOf}
-use Rattle.http_service.specs.site_steps.sync_messages.Messages.{IsMessageOf}
+use Rattle.program_drills.specs.http_service.site_steps.Runs.{IsNoMessageOf}
+use Rattle.program_drills.specs.http_service.site_steps.sync_messages.Messages.{IsMessageOf}
 use Rattle.program.specs.declared.device.Link.{Link}
 use Rattle.program.specs.declared.device.NetworkFailed.{NetworkFailed}
 use Rattle.program.specs.declared.device.Stream.TheVariants.{Faults}
 use Rattle.program.specs.Events.{Event, accepted, closed, paused, served, wrote, Does, Runs}
 use Rattle.program.specs.Reports.{ended, IsFailureReported}
-use Rattle.program.specs.Beginning.{BeginsWith, IsBegun, IsNotBegun, IsStateRefused, site_refusal}
+use Rattle.program.specs.Beginning.{BeginsWith, IsInitialSite, IsNotBegun, IsStateRefused, site_refusal}
 use Rattle.program.specs.Serving.{failing_line, pause_after, IsFailure, AreFailures, IsGivenUp, IsServedOver}
 use Rattle.program.specs.Serving.{IsNextServed, AreServed, AreCutShort, AreAllServed}
 use Rattle.program.specs.inner.Begun.{TakesState}
@@ -36,14 +36,14 @@ use Rattle.program.specs.inner.Served.{IsFailureNoted, IsTried, IsAwaited, AreSe
 -- ---- connections
 
 module _ {R W : Type 0} (reader : Source R) (writer : Sink W) where
-  served_on : (address : List ℕ) (n : ℕ) (old mid new : Seen) (events more : List (Event (Link R W)))
+  served_on : (address : List ℕ) (n : ℕ) (old mid new : SiteView) (events more : List (Event (Link R W)))
       → AreServed reader writer address n old events mid → IsNextServed reader writer address mid more new
       → AreServed reader writer address (suc n) old (events ++ more) new
   served_on address zero old mid new events more so next = (
     more,
     [],
     new,
-    subst (λ (s : Seen). IsNextServed reader writer address s more new) so.1 next,
+    subst (λ (s : SiteView). IsNextServed reader writer address s more new) so.1 next,
     (refl, refl),
     ap (λ (es : List (Event (Link R W))). es ++ more) so.0 ∙ sym (append-nil more),
   )
@@ -128,11 +128,11 @@ module _ {L H : Type 0} (does : H → Event L → H → Type 0) where
 
 module _ {R W H : Type 0} (does : H → Event (Link R W) → H → Type 0) (reader : Source R) (writer : Sink W) where
   -- so many connections were served, from one site to another
-  abbrev pub IsServedSoFar : List ℕ → H → H → Seen → Seen → ℕ → Type 0
+  abbrev pub IsServedSoFar : List ℕ → H → H → SiteView → SiteView → ℕ → Type 0
   IsServedSoFar address old new before after n = Runs does old new (λ events. AreServed reader writer address n before events after)
 
   -- a connection came, was served and let go
-  pub next_served : (address : List ℕ) (old mid last new : H) (before after : Seen) (link left : Link R W)
+  pub next_served : (address : List ℕ) (old mid last new : H) (before after : SiteView) (link left : Link R W)
       (end : Result (Unit {0}) StreamFault) → Runs does old mid (λ events. IsAwaited address (Ok link) events)
       → IsServedOver reader writer before link end left after → does mid (closed left) last → does last (served end) new
       → Runs does old new (λ events. IsNextServed reader writer address before events after)
@@ -153,11 +153,11 @@ module _ {R W H : Type 0} (does : H → Event (Link R W) → H → Type 0) (read
   )
 
   -- none yet
-  pub none_served : (address : List ℕ) (old : H) (site : Seen) → IsServedSoFar address old old site site 0
+  pub none_served : (address : List ℕ) (old : H) (site : SiteView) → IsServedSoFar address old old site site 0
   none_served address old site = ([], refl, (refl, refl))
 
   -- one more
-  pub one_served : (address : List ℕ) (old mid new : H) (before between after : Seen) (n : ℕ)
+  pub one_served : (address : List ℕ) (old mid new : H) (before between after : SiteView) (n : ℕ)
       → IsServedSoFar address old mid before between n
       → Runs does mid new (λ events. IsNextServed reader writer address between events after)
       → IsServedSoFar address old new before after (n + 1)
@@ -169,13 +169,13 @@ module _ {R W H : Type 0} (does : H → Event (Link R W) → H → Type 0) (read
   )
 
   -- all of them
-  pub all_served : (address : List ℕ) (old new : H) (before after : Seen) (n most : ℕ) → n ≡ most
+  pub all_served : (address : List ℕ) (old new : H) (before after : SiteView) (n most : ℕ) → n ≡ most
       → IsServedSoFar address old new before after n → IsServedSoFar address old new before after most
   all_served address old new before after n most is so =
       subst (λ (k : ℕ). IsServedSoFar address old new before after k) is so
 
   -- fewer, and then it was given up
-  pub fewer_served : (address : List ℕ) (old mid new : H) (before between after : Seen) (n most : ℕ) (r : Result (Unit {0}) NetworkFailed)
+  pub fewer_served : (address : List ℕ) (old mid new : H) (before between after : SiteView) (n most : ℕ) (r : Result (Unit {0}) NetworkFailed)
       → IsErr r → n < most → IsServedSoFar address old mid before between n
       → Runs does mid new (λ events. IsGivenUp address events × (after ≡ between))
       → Runs does old new (λ events. AreServedOrFewer reader writer address most before r events after)
@@ -188,19 +188,19 @@ module _ {R W H : Type 0} (does : H → Event (Link R W) → H → Type 0) (read
       so.0,
       next.0,
       less,
-      subst (λ (s : Seen). AreServed reader writer address n before so.0 s) (sym next.2.1) so.2,
+      subst (λ (s : SiteView). AreServed reader writer address n before so.0 s) (sym next.2.1) so.2,
       next.2.0,
       refl,
     ),
   )
 
   -- either is all of a run that serves
-  pub serving_done : (address : List ℕ) (old new : H) (before after : Seen) (most end : ℕ)
+  pub serving_done : (address : List ℕ) (old new : H) (before after : SiteView) (most end : ℕ)
       → Runs does old new (λ events. AreServed reader writer address most before events after) → end ≡ 0
       → Runs does old new (λ events. AreAllServed reader writer address most before events end)
   serving_done address old new before after most end so is = (so.0, so.1, inl ((after, so.2), is))
 
-  pub serving_cut : (address : List ℕ) (old mid new : H) (before after : Seen) (most end : ℕ)
+  pub serving_cut : (address : List ℕ) (old mid new : H) (before after : SiteView) (most end : ℕ)
       → Runs does old mid (λ events. AreCutShort reader writer address most before events after)
       → Runs does mid new (λ events. IsFailureReported address events end)
       → Runs does old new (λ events. AreAllServed reader writer address most before events end)
@@ -236,8 +236,8 @@ refused_as_told s bytes fault r is none other =
 none_of_empty : updates (store_of []) ≡ []
 none_of_empty = none_long (updates (store_of [])) (sym (len-entries (store_of [])) ∙ len-empty name_cmp PlainEntry)
 
-begun_by : (schema name bytes : List ℕ) (before after : Seen) → IsSchemaOf schema (schema_of before) → before.name ≡ name
-    → store_in before ≡ store_of [] → TakesState before bytes after → IsBegun schema name (Some bytes) after
+begun_by : (schema name bytes : List ℕ) (before after : SiteView) → IsSchemaOf schema (schema_of before) → before.name ≡ name
+    → store_in before ≡ store_of [] → TakesState before bytes after → IsInitialSite schema name (Some bytes) after
 begun_by schema name bytes before after schema_is name_is store_is takes =
     let same : schema_of before ≡ schema_of after = sym (ap schema_view takes.3.0) in
     record {
@@ -251,23 +251,23 @@ begun_by schema name bytes before after schema_is name_is store_is takes =
     }
 
 -- over a result
-pub begun_over : (schema name : List ℕ) (state : Option (List ℕ)) (bytes : List ℕ) (before : Seen) (r : Result Seen Refusal) → state ≡ Some bytes
-    → IsSchemaOf schema (schema_of before) → before.name ≡ name → store_in before ≡ store_of [] → IfOk r (TakesState before bytes) → IfOk r (IsBegun schema name state)
+pub begun_over : (schema name : List ℕ) (state : Option (List ℕ)) (bytes : List ℕ) (before : SiteView) (r : Result SiteView Refusal) → state ≡ Some bytes
+    → IsSchemaOf schema (schema_of before) → before.name ≡ name → store_in before ≡ store_of [] → IfOk r (TakesState before bytes) → IfOk r (IsInitialSite schema name state)
 begun_over schema name state bytes before (Ok after) state_is schema_is name_is store_is takes =
-    subst (λ (o : Option (List ℕ)). IsBegun schema name o after) (sym state_is) (begun_by schema name bytes before after schema_is name_is store_is takes)
+    subst (λ (o : Option (List ℕ)). IsInitialSite schema name o after) (sym state_is) (begun_by schema name bytes before after schema_is name_is store_is takes)
 begun_over schema name state bytes before (Err r) state_is schema_is name_is store_is takes = tt
 
 -- with none
-pub begun_empty : (schema name : List ℕ) (state : Option (List ℕ)) (before after : Seen) → state ≡ None → after ≡ before
-    → IsSchemaOf schema (schema_of before) → before.name ≡ name → store_in before ≡ store_of [] → IsBegun schema name state after
+pub begun_empty : (schema name : List ℕ) (state : Option (List ℕ)) (before after : SiteView) → state ≡ None → after ≡ before
+    → IsSchemaOf schema (schema_of before) → before.name ≡ name → store_in before ≡ store_of [] → IsInitialSite schema name state after
 begun_empty schema name state before after state_is same schema_is name_is store_is =
-    subst (IsBegun schema name state) (sym same) (record {
+    subst (IsInitialSite schema name state) (sym same) (record {
       schema_is = schema_is;
       name_is = name_is;
       begins = subst (λ (o : Option (List ℕ)). BeginsWith (schema_of before) o (store_in before)) (sym state_is) store_is;
     })
 
-pub not_begun_over : (schema : List ℕ) (state : Option (List ℕ)) (bytes : List ℕ) (before : Seen) (r : Result Seen Refusal) → state ≡ Some bytes
+pub not_begun_over : (schema : List ℕ) (state : Option (List ℕ)) (bytes : List ℕ) (before : SiteView) (r : Result SiteView Refusal) → state ≡ Some bytes
     → IsSchemaOf schema (schema_of before) → IfErr r (λ f. (f ≡ no_memory → ⊥) → IsStateRefused (schema_of before) (Some bytes) f)
     → IfErr r (λ f. (f ≡ no_memory → ⊥) → IsNotBegun schema state f)
 not_begun_over schema state bytes before (Ok site) state_is schema_is refused = tt

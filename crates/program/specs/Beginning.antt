@@ -1,21 +1,21 @@
 -- What a site begins with. A rule of this product: the schema is judged first; then a message, a state or a delta, is
 -- refused whole, or the site takes its updates.
 use Rattle.std.specs.Prelude.{◌≡◌, ◌⊎◌, ℕ, List, [], Option, None, Some}
-use Rattle.http_service.specs.policy_grammar.declared.policy.Policy.{Policy}
+use Rattle.program_drills.specs.http_service.policy_grammar.declared.policy.Policy.{Policy}
 use Rattle.site_loading.specs.schema.Schemas.{StatedSchema, IsSchemaOf}
-use Rattle.http_service.specs.entity_data.declared.entity.Entity.{Entity}
+use Rattle.program_drills.specs.http_service.entity_data.declared.entity.Entity.{Entity}
 use Rattle.program_lines.specs.stamped_store.Store.{Store, store_of}
 use Rattle.state_exchanges.specs.message_format.declared.fault.MessageFault.{MessageFault}
 use Rattle.state_exchanges.specs.message_format.declared.update.Update.{Update as SentUpdate}
 use Rattle.state_exchanges.specs.message_format.Updates.{plain_updates}
-use Rattle.http_service.specs.answer_lines.declared.refusal.Refusal.{Refusal}
+use Rattle.program_drills.specs.http_service.answer_lines.declared.refusal.Refusal.{Refusal}
 use Rattle.program_drills.specs.schema_decisions.Checks.{IsSchemaRefused}
 use Rattle.site_loading.specs.site_steps.Faults.{code_of, place_of, within_of}
-use Rattle.site_loading.specs.site_steps.Seen.{Seen, schema_of, store_in}
+use Rattle.site_loading.specs.site_steps.SiteViews.{SiteView, schema_of, store_in}
 use Rattle.site_loading.specs.site_steps.declared.fault.SiteFault.{SiteFault}
 use Rattle.site_loading.specs.site_steps.declared.fault.SiteFault.TheVariants.{Message}
-use Rattle.http_service.specs.site_steps.Runs.{IsNoMessageOf}
-use Rattle.http_service.specs.site_steps.sync_messages.Messages.{IsMessageOf}
+use Rattle.program_drills.specs.http_service.site_steps.Runs.{IsNoMessageOf}
+use Rattle.program_drills.specs.http_service.site_steps.sync_messages.Messages.{IsMessageOf}
 
 -- the fault of a site as it is told
 abbrev pub site_refusal : SiteFault → Refusal
@@ -28,7 +28,7 @@ BeginsWith s (Some bytes) m = (us : List (SentUpdate Policy Entity)) × IsMessag
     × (m ≡ store_of (plain_updates us))
 
 -- the site of this name and this schema, with the updates of the state, if there is one
-pub record IsBegun (schema : List ℕ) (name : List ℕ) (state : Option (List ℕ)) (site : Seen) : Type 0 where
+pub record IsInitialSite (schema : List ℕ) (name : List ℕ) (state : Option (List ℕ)) (site : SiteView) : Type 0 where
   pub schema_is : IsSchemaOf schema (schema_of site)
   pub name_is : site.name ≡ name
   pub begins : BeginsWith (schema_of site) state (store_in site)

@@ -1,7 +1,7 @@
 -- How a run goes on, step by step: it reads files, writes one, opens a connection, and tells what came of it.
 -- A rule of this product.
 use Rattle.std.specs.Prelude.{◌≡◌, ◌⊎◌, ℕ, Bool, true, false, List, [], ◌∷◌, Option, None, Some, Result, Ok, Err}
-use Rattle.http_service.specs.answer_lines.declared.refusal.Refusal.{Refusal}
+use Rattle.program_drills.specs.http_service.answer_lines.declared.refusal.Refusal.{Refusal}
 use Rattle.program.specs.declared.device.FileFault.{FileFault}
 use Rattle.program.specs.declared.device.FileFault.TheVariants as file
 use Rattle.program.specs.Events.{Event, read, stored, wrote, connected, listened}

@@ -2,7 +2,7 @@
 -- A rule of this product; what texts come to is defined where they are checked, decided, merged and pulled.
 use Rattle.std.specs.Prelude.{◌≡◌, ◌⊎◌, ℕ, Bool, List, [], Option, None, Some, option_map}
 use Rattle.clap.specs.Words.{Text, fault_of}
-use Rattle.http_service.specs.answer_lines.declared.refusal.Refusal.{Refusal}
+use Rattle.program_drills.specs.http_service.answer_lines.declared.refusal.Refusal.{Refusal}
 use Rattle.site_loading.specs.decision_texts.BareReading.{bare_reading}
 use Rattle.site_loading.specs.decision_texts.Decisions as bare
 use Rattle.site_loading.specs.schema_decisions.Decisions as typed

@@ -8,14 +8,14 @@ use Rattle.state_exchanges.specs.http_devices.declared.devices.Sink.{Ghosts as S
 use Rattle.state_exchanges.specs.http_streams.declared.serve.StreamFault.{StreamFault}
 use Rattle.program_lines.specs.declared.line.ServeOptions.{ServeOptions}
 use Rattle.program_lines.specs.stamped_store.Stamping.{has_stamps_of}
-use Rattle.site_loading.specs.site_steps.Seen.{Seen, store_in}
-use Rattle.http_service.specs.Serving.{IsServed}
+use Rattle.site_loading.specs.site_steps.SiteViews.{SiteView, store_in}
+use Rattle.program_drills.specs.http_service.Serving.{IsServed}
 use Rattle.program.specs.declared.device.Link.{Link}
 use Rattle.program.specs.declared.device.Stream.TheVariants.{Faults}
 use Rattle.program.specs.Events.{Event, accepted, closed, paused, served, wrote}
 use Rattle.program.specs.Reports.{ended, IsFailureReported}
 use Rattle.program.specs.Courses.{Course, Reads, ReadsIfNamed, Listens, Announces, WarnsIf, IsRefusedFor}
-use Rattle.program.specs.Beginning.{IsBegun, IsNotBegun}
+use Rattle.program.specs.Beginning.{IsInitialSite, IsNotBegun}
 
 -- the number of connections that is given; where none is, no run comes to the end of it
 abbrev pub most_of : Option ℕ → ℕ
@@ -55,50 +55,51 @@ module _ {L : Type 0} where
 
 module _ {R W : Type 0} (reader : Source R) (writer : Sink W) where
   -- a connection that came was served by the site: what was read was answered, and its serving ended so
-  abbrev pub IsServedOver : Seen → Link R W → Result (Unit {0}) StreamFault → Link R W → Seen → Type 0
+  abbrev pub IsServedOver : SiteView → Link R W → Result (Unit {0}) StreamFault → Link R W → SiteView → Type 0
   IsServedOver old link end left new = IsServed reader.left reader.failed reader.reads reader.fails writer.holds
       writer.failed writer.fails link.reader left.reader link.writer left.writer old new end
 
   -- one connection came, behind as many failures as there were, was served, over itself, and let go
-  abbrev pub IsNextServed : List ℕ → Seen → List (Event (Link R W)) → Seen → Type 0
+  abbrev pub IsNextServed : List ℕ → SiteView → List (Event (Link R W)) → SiteView → Type 0
   IsNextServed address old events new = (number : ℕ) × (failures : List (Event (Link R W))) × (link left : Link R W)
       × (end : Result (Unit {0}) StreamFault) × AreFailures address number failures
       × (events ≡ failures ++ accepted (Some link) ∷ closed left ∷ served end ∷ [])
       × IsServedOver old link end left new
 
   -- so many connections one after another, each served from the site that the one before left
-  abbrev pub AreServed : List ℕ → ℕ → Seen → List (Event (Link R W)) → Seen → Type 0
+  abbrev pub AreServed : List ℕ → ℕ → SiteView → List (Event (Link R W)) → SiteView → Type 0
   AreServed address zero old events new = (events ≡ []) × (new ≡ old)
-  AreServed address (suc n) old events new = (first rest : List (Event (Link R W))) × (mid : Seen)
+  AreServed address (suc n) old events new = (first rest : List (Event (Link R W))) × (mid : SiteView)
       × IsNextServed address old first mid × AreServed address n mid rest new × (events ≡ first ++ rest)
 
   -- fewer were served, and then none could be accepted, as often as that is tried
-  abbrev pub AreCutShort : List ℕ → ℕ → Seen → List (Event (Link R W)) → Seen → Type 0
+  abbrev pub AreCutShort : List ℕ → ℕ → SiteView → List (Event (Link R W)) → SiteView → Type 0
   AreCutShort address most old events new = (n : ℕ) × (first rest : List (Event (Link R W))) × (n < most)
       × AreServed address n old first new × IsGivenUp address rest × (events ≡ first ++ rest)
 
   -- so many are served, nothing else is done, and then the run ends with 0; or none could be accepted any more, which
   -- is told as a failure of the network is
-  abbrev pub AreAllServed : List ℕ → ℕ → Seen → Course (Link R W)
-  AreAllServed address most site events end = (((last : Seen) × AreServed address most site events last) × (end ≡ 0))
-      ⊎ ((last : Seen) × (first rest : List (Event (Link R W))) × AreCutShort address most site first last
+  abbrev pub AreAllServed : List ℕ → ℕ → SiteView → Course (Link R W)
+  AreAllServed address most site events end =
+      (((last : SiteView) × AreServed address most site events last) × (end ≡ 0))
+      ⊎ ((last : SiteView) × (first rest : List (Event (Link R W))) × AreCutShort address most site first last
       × IsFailureReported address rest end × (events ≡ first ++ rest))
 
   -- a site that listens says where, and serves
-  abbrev pub IsServedListening : ServeOptions → Seen → Course (Link R W)
+  abbrev pub IsServedListening : ServeOptions → SiteView → Course (Link R W)
   IsServedListening options site = Announces (codes "listening " ++ options.listen.now)
       (AreAllServed options.listen.now (most_of options.connections) site)
 
   -- a site that has begun listens, for connections that are idle for so long at most, if that is given, and where it
   -- begins with stamps of its name, warns of that first
-  abbrev pub IsServedAt : ServeOptions → Seen → Course (Link R W)
+  abbrev pub IsServedAt : ServeOptions → SiteView → Course (Link R W)
   IsServedAt options site = WarnsIf (has_stamps_of options.site (store_in site)) (own_stamps_line options.site)
       (Listens options.listen.now options.idle (IsServedListening options site))
 
   -- the site begins and is served, or the texts are refused
   abbrev pub IsServedFrom : ServeOptions → List ℕ → Option (List ℕ) → Course (Link R W)
   IsServedFrom options schema state events end =
-      ((site : Seen) × IsBegun schema options.site state site × IsServedAt options site events end)
+      ((site : SiteView) × IsInitialSite schema options.site state site × IsServedAt options site events end)
       ⊎ IsRefusedFor (IsNotBegun schema state) events end
 
   -- first the schema, then the state, if one is named

@@ -1,12 +1,12 @@
 //! A site that begins with a state, or empty.
 ghost use Rattle.std.specs.Prelude.{◌≡◌, IfOk, IfErr, Some, option_map};
-ghost use Rattle.http_service.specs.answer_lines.Refusals.{no_memory};
-ghost use Rattle.site_loading.specs.site_steps.Seen.{schema_of};
-ghost use Rattle.program.specs.Beginning.{IsBegun, IsNotBegun, IsStateRefused, site_refusal};
+ghost use Rattle.program_drills.specs.http_service.answer_lines.Refusals.{no_memory};
+ghost use Rattle.site_loading.specs.site_steps.SiteViews.{schema_of};
+ghost use Rattle.program.specs.Beginning.{IsInitialSite, IsNotBegun, IsStateRefused, site_refusal};
 ghost use Rattle.program.specs.inner.Begun.{TakesState};
 
-use http_service::{Refusal, Site, SiteFault, Taken, take_bytes};
 use plain::{NoMemory, Shared};
+use program_drills::{Refusal, Site, SiteFault, Taken, take_bytes};
 use program_lines::SiteName;
 use site_loading::schema_in;
 use std::alloc::Global;
@@ -43,7 +43,7 @@ pub(crate) fn begin(
     name: SiteName,
     state: Option<&[u8]>,
 ) -> Result<Site, Refusal>
-    ensures begun { IfOk result (IsBegun schema.now name (option_map (λ s. s.now) state.entry)) }
+    ensures begun { IfOk result (IsInitialSite schema.now name (option_map (λ s. s.now) state.entry)) }
     ensures refused { IfErr result (λ r. (r ≡ no_memory → ⊥)
         → IsNotBegun schema.now (option_map (λ s. s.now) state.entry) r) }
 {

@@ -2,14 +2,14 @@
 ghost use Rattle.std.specs.Prelude.{IfOk, IfErr, option_map};
 ghost use Rattle.std.specs.Process.{exit_status};
 ghost use Rattle.plain.specs.Refused.{OrNoMemory};
-ghost use Rattle.http_service.specs.answer_lines.Refusals.{no_memory};
+ghost use Rattle.program_drills.specs.http_service.answer_lines.Refusals.{no_memory};
 ghost use Rattle.program.specs.Events.{Runs};
 ghost use Rattle.program.specs.Runs.{IsDecided, IsNotDecided, IsDecideRun, IsCheckRun};
 
 use crate::host::Host;
 use crate::reading::{lent, read_file, read_if_named};
 use crate::report::{report_answer, report_lines, report_refusal};
-use http_service::Refusal;
+use program_drills::Refusal;
 use program_lines::{CheckOptions, DecideOptions};
 use site_loading::{check_texts, decide_texts, decide_under};
 use std::alloc::Global;

@@ -1,7 +1,7 @@
 //! Files of policies and entities that are put into a site, whose state is told.
 ghost use Rattle.std.specs.Prelude.{◌≡◌, option_map, IfOk, IfErr};
 ghost use Rattle.std.specs.Process.{exit_status};
-ghost use Rattle.http_service.specs.answer_lines.Refusals.{no_memory};
+ghost use Rattle.program_drills.specs.http_service.answer_lines.Refusals.{no_memory};
 ghost use Rattle.program.specs.Events.{Runs};
 ghost use Rattle.program.specs.Loading.{IsLoaded, IsLoadRefused, IsLoadRun};
 
@@ -9,7 +9,7 @@ use crate::begin::begin;
 use crate::host::Host;
 use crate::reading::{lent, read_file, read_if_named};
 use crate::report::{report_answer, report_refusal};
-use http_service::Refusal;
+use program_drills::Refusal;
 use program_lines::{LoadOptions, SiteName};
 use site_loading::loaded_state;
 use std::alloc::Global;

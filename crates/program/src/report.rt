@@ -1,7 +1,7 @@
 //! What a run writes at its end, and the status that it ends with.
 ghost use Rattle.std.specs.Prelude.{◌≡◌, ◌⊎◌, ◌++◌, is_ok};
 ghost use Rattle.std.specs.Process.{exit_status};
-ghost use Rattle.http_service.specs.answer_lines.Refusals.{error_line};
+ghost use Rattle.program_drills.specs.http_service.answer_lines.Refusals.{error_line};
 ghost use Rattle.program.specs.Events.{Runs};
 ghost use Rattle.program.specs.Reports.{IsReported, IsAnswerReported, IsRefusalReported, IsMemoryReported};
 ghost use Rattle.program.specs.Reports.{IsFileReported};
@@ -10,7 +10,7 @@ ghost use Rattle.program.specs.Reports.{status_after};
 
 use crate::device::{FileFault, Stream, StreamFailed};
 use crate::host::Host;
-use http_service::{Refusal, error_line};
+use program_drills::{Refusal, error_line};
 use program_lines::LineFault;
 use std::alloc::Global;
 use std::process::ExitCode;

@@ -2,7 +2,7 @@
 ghost use Rattle.std.specs.Prelude.{◌≡◌, ◌*◌, min};
 ghost use Rattle.std.specs.Process.{exit_status};
 ghost use Rattle.program_lines.specs.stamped_store.Stamping.{has_stamps_of};
-ghost use Rattle.site_loading.specs.site_steps.Seen.{store_in};
+ghost use Rattle.site_loading.specs.site_steps.SiteViews.{store_in};
 ghost use Rattle.program.specs.Events.{Runs};
 ghost use Rattle.program.specs.Serving.{IsServedAt, IsServeRun, most_of, own_stamps_line, pause_after};
 ghost use Rattle.program.specs.inner.Served.{AreServedOrFewer, IsAwaited, IsFailureNoted, IsNextOrNone};
@@ -13,7 +13,7 @@ use crate::device::{Link, NetworkFailed, Stream, StreamFailed};
 use crate::host::Host;
 use crate::reading::{lent, read_file, read_if_named};
 use crate::report::{ANSWERED, FAILED, report_failure, report_refusal};
-use http_service::{Site, serve};
+use program_drills::{Site, serve};
 use program_lines::{ServeOptions, SiteName};
 use std::alloc::Global;
 use std::process::ExitCode;

@@ -5,10 +5,10 @@ use Rattle.std.specs.Option.{option_to_list, IsSome}
 use Rattle.std.specs.List.{AllZip, join_with_byte}
 use Rattle.std.proofs.lemmas.List.{append_assoc, append-nil, length-append, map-append}
 use Rattle.serde_json.specs.Written.{has_float}
-use Rattle.http_replies.specs.site_steps.Seen.{Seen}
-use Rattle.site.specs.declared.event.EventReply.{EventReply}
+use Rattle.http_service.specs.http_replies.site_steps.SiteViews.{SiteView}
+use Rattle.http_service.specs.site.declared.event.EventReply.{EventReply}
 use Rattle.program_drills.specs.Lines.{line_end}
-use Rattle.program_drills.specs.Told.{message_json, summary_json, state_told}
+use Rattle.program_drills.specs.EventReports.{message_json, summary_json, state_told}
 use Rattle.program_drills.specs.Drills.{IsTold}
 use Rattle.program_drills.specs.inner.Ended.{ended, AreTold, IsToldOf}
 use Rattle.program_drills.proofs.ScriptSteps.{zip_more}
@@ -46,7 +46,7 @@ told_more answers answer before was now after told one end = (
       ∙ ap (λ (t : List ℕ). before ++ t) (sym (ended_more told.0 one.0)),
 )
 
-pub states_more : (sites : List Seen) (site : Seen) (before was now : List ℕ) → was ≡ before ++ ended (map state_told sites)
+pub states_more : (sites : List SiteView) (site : SiteView) (before was now : List ℕ) → was ≡ before ++ ended (map state_told sites)
     → now ≡ was ++ (state_told site ++ line_end ∷ []) → now ≡ before ++ ended (map state_told (sites ++ site ∷ []))
 states_more sites site before was now told one =
     one ∙ ap (λ (t : List ℕ). t ++ (state_told site ++ line_end ∷ [])) told
@@ -107,7 +107,7 @@ last_taken [] text last e some = front_empty text last e
 last_taken (l ∷ ls) text last e some = by_last l ls text last e (some (some_ended l ls))
 
 -- all lines of a world
-pub world_told : (answers : List EventReply) (sites : List Seen) (none first second text : List ℕ) (last : Option ℕ) → none ≡ []
+pub world_told : (answers : List EventReply) (sites : List SiteView) (none first second text : List ℕ) (last : Option ℕ) → none ≡ []
     → AreTold answers none first → second ≡ first ++ ended (map state_told sites) → second ≡ text ++ option_to_list last
     → (0 < length second → IsSome last)
     → (lines : List (List ℕ)) × AllZip IsTold answers lines × (text ≡ join_with_byte line_end (lines ++ map state_told sites))

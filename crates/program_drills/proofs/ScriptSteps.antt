@@ -6,43 +6,43 @@ use Rattle.std.proofs.lemmas.List.{append_assoc, append-nil, length-append}
 use Rattle.json_words.specs.ReadsAs.{◌>>=◌}
 use Rattle.schema_decisions.specs.answer_lines.declared.refusal.Refusal.{Refusal}
 use Rattle.schema_decisions.specs.answer_lines.Refusals.{bad_shape}
-use Rattle.site.specs.declared.event.Deed.{Deed}
-use Rattle.site.specs.declared.event.Deed.TheVariants as deed
-use Rattle.site.specs.declared.event.Event.{Event}
+use Rattle.http_service.specs.site.declared.event.Operation.{Operation}
+use Rattle.http_service.specs.site.declared.event.Operation.TheVariants as operation
+use Rattle.http_service.specs.site.declared.event.Event.{Event}
 use Rattle.program_drills.specs.declared.made.Made.{Made}
 use Rattle.program_drills.specs.Lines.{lines}
-use Rattle.program_drills.specs.Said.{Asked, plain, put_entity, authorize, Said, said_of, after_deed, after_asked}
-use Rattle.program_drills.specs.Said.{IsDeedOf, IsEventOf}
+use Rattle.program_drills.specs.ScriptLines.{Asked, plain, put_entity, authorize, ScriptLine, said_of, after_operation, after_asked}
+use Rattle.program_drills.specs.ScriptLines.{IsOperationOf, IsEventOf}
 use Rattle.program_drills.specs.Scripts.{said_from, none_made, script_of, AreEventsOf, IsScriptRefused}
 use Rattle.program_drills.specs.inner.Reading.{IsLineRead, onto, IsReadUpTo}
 
--- what is made once a deed is done is what is made once it is asked for
-after_same : (made : Made) (asked : Asked) (d : Deed) → IsDeedOf asked d → after_deed made d ≡ after_asked made asked
-after_same made (plain asked) d is = ap (after_deed made) is
-after_same made (put_entity json) d is = ap (after_deed made) is.1
-after_same made (authorize json) d is = ap (after_deed made) is.1
+-- what is made once an operation is done is what is made once it is asked for
+after_same : (made : Made) (asked : Asked) (d : Operation) → IsOperationOf asked d → after_operation made d ≡ after_asked made asked
+after_same made (plain asked) d is = ap (after_operation made) is
+after_same made (put_entity json) d is = ap (after_operation made) is.1
+after_same made (authorize json) d is = ap (after_operation made) is.1
 
-messages_after : (made : Made) (d : Deed) → (after_deed made d).messages ≤ made.messages + 1
-messages_after made (deed.PutPolicy id text) = omega arith
-messages_after made (deed.DeletePolicy id) = omega arith
-messages_after made (deed.PutEntity bytes) = omega arith
-messages_after made (deed.DeleteEntity uid) = omega arith
-messages_after made (deed.Authorize bytes) = omega arith
-messages_after made deed.Summary = omega arith
-messages_after made deed.Offer = omega arith
-messages_after made (deed.OfferDelta k) = omega arith
-messages_after made (deed.Deliver k) = omega arith
+messages_after : (made : Made) (d : Operation) → (after_operation made d).messages ≤ made.messages + 1
+messages_after made (operation.PutPolicy id text) = omega arith
+messages_after made (operation.DeletePolicy id) = omega arith
+messages_after made (operation.PutEntity bytes) = omega arith
+messages_after made (operation.DeleteEntity uid) = omega arith
+messages_after made (operation.Authorize bytes) = omega arith
+messages_after made operation.Summary = omega arith
+messages_after made operation.Offer = omega arith
+messages_after made (operation.OfferDelta k) = omega arith
+messages_after made (operation.Deliver k) = omega arith
 
-summaries_after : (made : Made) (d : Deed) → (after_deed made d).summaries ≤ made.summaries + 1
-summaries_after made (deed.PutPolicy id text) = omega arith
-summaries_after made (deed.DeletePolicy id) = omega arith
-summaries_after made (deed.PutEntity bytes) = omega arith
-summaries_after made (deed.DeleteEntity uid) = omega arith
-summaries_after made (deed.Authorize bytes) = omega arith
-summaries_after made deed.Summary = omega arith
-summaries_after made deed.Offer = omega arith
-summaries_after made (deed.OfferDelta k) = omega arith
-summaries_after made (deed.Deliver k) = omega arith
+summaries_after : (made : Made) (d : Operation) → (after_operation made d).summaries ≤ made.summaries + 1
+summaries_after made (operation.PutPolicy id text) = omega arith
+summaries_after made (operation.DeletePolicy id) = omega arith
+summaries_after made (operation.PutEntity bytes) = omega arith
+summaries_after made (operation.DeleteEntity uid) = omega arith
+summaries_after made (operation.Authorize bytes) = omega arith
+summaries_after made operation.Summary = omega arith
+summaries_after made operation.Offer = omega arith
+summaries_after made (operation.OfferDelta k) = omega arith
+summaries_after made (operation.Deliver k) = omega arith
 
 pub zip_more : {A B : Type 0} (R : A → B → Type 0) (xs : List A) (ys : List B) (x : A) (y : B) → AllZip R xs ys → R x y
     → AllZip R (xs ++ x ∷ []) (ys ++ y ∷ [])
@@ -51,11 +51,11 @@ zip_more R [] (b ∷ ys) x y all r = absurd all
 zip_more R (a ∷ xs) [] x y all r = absurd all
 zip_more R (a ∷ xs) (b ∷ ys) x y all r = (all.0, zip_more R xs ys x y all.1 r)
 
-onto_none : (r : Result (List Said) ℕ) → r ≡ onto [] r
+onto_none : (r : Result (List ScriptLine) ℕ) → r ≡ onto [] r
 onto_none (Ok more) = refl
 onto_none (Err k) = refl
 
-onto_more : (said : List Said) (s : Said) (r : Result (List Said) ℕ)
+onto_more : (said : List ScriptLine) (s : ScriptLine) (r : Result (List ScriptLine) ℕ)
     → onto said (r >>= λ more. Ok (s ∷ more)) ≡ onto (said ++ s ∷ []) r
 onto_more said s (Ok more) = ap Ok (sym (append_assoc said (s ∷ []) more))
 onto_more said s (Err k) = refl
@@ -71,7 +71,7 @@ none_read n script = record {
 }
 
 -- what the line says, then what those behind it say
-said_next : (n : ℕ) (made : Made) (k : ℕ) (line : List ℕ) (ls : List (List ℕ)) (s : Said) → said_of n made line ≡ Some s
+said_next : (n : ℕ) (made : Made) (k : ℕ) (line : List ℕ) (ls : List (List ℕ)) (s : ScriptLine) → said_of n made line ≡ Some s
     → said_from n made k (line ∷ ls) ≡ (said_from n (after_asked made s.asked) (suc k) ls >>= λ more. Ok (s ∷ more))
 unfolding said_from
 said_next n made k line ls s is = rw is refl
@@ -85,25 +85,25 @@ said_end : (n : ℕ) (made : Made) (k : ℕ) → said_from n made k (lines []) �
 unfolding said_from
 said_end n made k = refl
 
-read_said : (said : Option Said) (e : Event) → IsLineRead said (Some e) → (s : Said) × (said ≡ Some s) × IsEventOf s e
+read_said : (said : Option ScriptLine) (e : Event) → IsLineRead said (Some e) → (s : ScriptLine) × (said ≡ Some s) × IsEventOf s e
 read_said None e is = absurd is
 read_said (Some s) e is = (s, refl, is)
 
-read_never : (said : Option Said) → IsLineRead said None → said ≡ None
+read_never : (said : Option ScriptLine) → IsLineRead said None → said ≡ None
 read_never None is = refl
 read_never (Some s) is = absurd is
 
 -- one line more
 pub read_more : (n : ℕ) (script : List ℕ) (made : Made) (rest line behind : List ℕ) (events : List Event) (e : Event) (now : Made)
     → IsReadUpTo n script made rest events → lines rest ≡ line ∷ lines behind → IsLineRead (said_of n made line) (Some e)
-    → now ≡ after_deed made e.deed → IsReadUpTo n script now behind (events ++ e ∷ [])
+    → now ≡ after_operation made e.operation → IsReadUpTo n script now behind (events ++ e ∷ [])
 read_more n script made rest line behind events e now was parts read is =
     let found = read_said (said_of n made line) e read in
-    let s : Said = found.0 in
-    let after : after_asked made s.asked ≡ now = sym (after_same made s.asked e.deed found.2.1) ∙ sym is in
+    let s : ScriptLine = found.0 in
+    let after : after_asked made s.asked ≡ now = sym (after_same made s.asked e.operation found.2.1) ∙ sym is in
     let count : length (events ++ e ∷ []) ≡ suc (length events) = length-append events (e ∷ []) ∙ omega arith in
-    let more = messages_after made e.deed in
-    let sums = summaries_after made e.deed in
+    let more = messages_after made e.operation in
+    let sums = summaries_after made e.operation in
     let was_messages = was.messages in
     let was_summaries = was.summaries in
     record {
@@ -147,6 +147,6 @@ next_refused n script made rest line behind events r was parts read told = recor
 }
 
 -- what is no event is none
-pub is_unread : (said : Option Said) (o : Option Event) → IsLineRead said o → ((e : Event) → o ≡ Some e → ⊥) → IsLineRead said None
+pub is_unread : (said : Option ScriptLine) (o : Option Event) → IsLineRead said o → ((e : Event) → o ≡ Some e → ⊥) → IsLineRead said None
 is_unread said None read none = read
 is_unread said (Some e) read none = absurd (none e refl)

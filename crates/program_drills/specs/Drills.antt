@@ -6,14 +6,14 @@ use Rattle.std.specs.List.{AllZip, join_with_byte}
 use Rattle.schema_decisions.specs.answer_lines.declared.refusal.Refusal.{Refusal}
 use Rattle.schema_decisions.specs.Checks.{IsSchemaRefused}
 use Rattle.schema_decisions.specs.schema.Schemas.{StatedSchema, IsSchemaOf}
-use Rattle.http_replies.specs.site_steps.Seen.{Seen}
-use Rattle.site.specs.Sites.{first_sites}
-use Rattle.site.specs.Played.{IsPlayed}
-use Rattle.site.specs.declared.event.Event.{Event}
-use Rattle.site.specs.declared.event.EventReply.{EventReply}
+use Rattle.http_service.specs.http_replies.site_steps.SiteViews.{SiteView}
+use Rattle.http_service.specs.site.Sites.{first_sites}
+use Rattle.http_service.specs.site.Played.{IsPlayed}
+use Rattle.http_service.specs.site.declared.event.Event.{Event}
+use Rattle.http_service.specs.site.declared.event.EventReply.{EventReply}
 use Rattle.program_drills.specs.Lines.{line_end}
 use Rattle.program_drills.specs.Scripts.{AreEventsOf, IsScriptRefused}
-use Rattle.program_drills.specs.Told.{told, state_told}
+use Rattle.program_drills.specs.EventReports.{told, state_told}
 
 -- this line is told of an event that was answered so
 abbrev pub IsTold : EventReply → List ℕ → Type 0
@@ -23,7 +23,7 @@ IsTold answer line = told answer ≡ Some line
 -- each site holds at the end.
 pub record IsPlayedOut (schema : StatedSchema) (n : ℕ) (events : List Event) (text : List ℕ) : Type 0 where
   pub answers : List EventReply
-  pub sites : List Seen
+  pub sites : List SiteView
   pub messages : List (List ℕ)
   pub summaries : List (List ℕ)
   pub played : IsPlayed schema (first_sites n) events answers sites messages summaries

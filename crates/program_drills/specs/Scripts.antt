@@ -5,14 +5,14 @@ use Rattle.std.specs.List.{AllZip}
 use Rattle.json_words.specs.ReadsAs.{◌>>=◌, or_fault}
 use Rattle.schema_decisions.specs.answer_lines.declared.refusal.Refusal.{Refusal}
 use Rattle.schema_decisions.specs.answer_lines.Refusals.{bad_shape}
-use Rattle.site.specs.declared.event.Event.{Event}
+use Rattle.http_service.specs.site.declared.event.Event.{Event}
 use Rattle.program_drills.specs.declared.made.Made.{Made}
 use Rattle.program_drills.specs.Lines.{lines}
-use Rattle.program_drills.specs.Said.{Said, said_of, after_asked, IsEventOf}
+use Rattle.program_drills.specs.ScriptLines.{ScriptLine, said_of, after_asked, IsEventOf}
 
 -- What lines say, from the one with this place on, where so much was made before; or the place of the first that says
 -- nothing. Each line may name what the lines before it make.
-unfoldable pub said_from : ℕ → Made → ℕ → List (List ℕ) → Result (List Said) ℕ
+unfoldable pub said_from : ℕ → Made → ℕ → List (List ℕ) → Result (List ScriptLine) ℕ
 said_from n made place [] = Ok []
 said_from n made place (l ∷ ls) = do
   said ← or_fault place (said_of n made l)
@@ -23,12 +23,12 @@ abbrev pub none_made : Made
 none_made = record { messages = 0; summaries = 0 }
 
 -- what a script says to n sites
-abbrev pub script_of : ℕ → List ℕ → Result (List Said) ℕ
+abbrev pub script_of : ℕ → List ℕ → Result (List ScriptLine) ℕ
 script_of n script = said_from n none_made 0 (lines script)
 
 -- these are the events of the script, one for each line
 pub record AreEventsOf (n : ℕ) (script : List ℕ) (events : List Event) : Type 0 where
-  pub said : List Said
+  pub said : List ScriptLine
   pub is : script_of n script ≡ Ok said
   pub each : AllZip IsEventOf said events
 

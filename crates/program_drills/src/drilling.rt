@@ -8,9 +8,9 @@ ghost use Rattle.program_drills.specs.inner.Under.{IsDrilledUnder};
 
 use crate::reporting::world_lines;
 use crate::whole::read_script;
+use http_service::{Event, simulate};
 use plain::{NoMemory, Shared};
 use schema_decisions::{Refusal, Schema, schema_in};
-use site::{Event, simulate};
 use std::alloc::Global;
 
 /// Plays events at so many sites, and tells what came of them.

@@ -9,4 +9,5 @@ mod split;
 mod whole;
 
 pub use drilling::drill_text;
+pub use http_service::{Refusal, Site, SiteFault, Taken, error_line, serve, take_bytes};
 pub use schema_decisions::{check_texts, decide_under};

@@ -1,8 +1,8 @@
 //! What the lines of a script have made so far.
 ghost use Rattle.std.specs.Prelude.{◌≡◌, ◌<◌, ◌^◌};
-ghost use Rattle.program_drills.specs.Said.{after_deed};
+ghost use Rattle.program_drills.specs.ScriptLines.{after_operation};
 
-use site::Deed;
+use http_service::Operation;
 
 /// How many messages and summaries were made.
 #[derive(Clone, Copy)]
@@ -11,18 +11,18 @@ pub(crate) struct Made {
     pub(crate) summaries: usize,
 }
 
-/// Returns what is made once this deed is done.
-pub(crate) fn after_deed(made: Made, deed: &Deed) -> Made
+/// Returns what is made once this operation is done.
+pub(crate) fn after_operation(made: Made, operation: &Operation) -> Made
     requires messages { made.messages < 2 ^ 63 }
     requires summaries { made.summaries < 2 ^ 63 }
-    ensures { result ≡ after_deed made deed.now }
+    ensures { result ≡ after_operation made operation.now }
 {
-    match deed {
-        Deed::Offer | Deed::OfferDelta(_) => Made {
+    match operation {
+        Operation::Offer | Operation::OfferDelta(_) => Made {
             messages: made.messages + 1,
             summaries: made.summaries,
         },
-        Deed::Summary => Made {
+        Operation::Summary => Made {
             messages: made.messages,
             summaries: made.summaries + 1,
         },

@@ -6,16 +6,17 @@ ghost use Rattle.serde_json.specs.Read.{max_depth};
 ghost use Rattle.serde_json.specs.View.{view};
 ghost use Rattle.json_words.specs.Json.{json_of, text_at};
 ghost use Rattle.schema_decisions.specs.entity_uids.Uids.{uid_in};
-ghost use Rattle.program_drills.specs.Said.{asked_by, authorize, delivered, delta_offered, entity_deleted, number_in};
-ghost use Rattle.program_drills.specs.Said.{policy_deleted, policy_put, put_entity, said_in, said_of, within};
+ghost use Rattle.program_drills.specs.ScriptLines.{asked_by, authorize, delivered, delta_offered};
+ghost use Rattle.program_drills.specs.ScriptLines.{entity_deleted, number_in};
+ghost use Rattle.program_drills.specs.ScriptLines.{policy_deleted, policy_put, put_entity, said_in, said_of, within};
 ghost use Rattle.program_drills.specs.inner.Reading.{IsReadAs, IsLineRead, AreBytesOf};
 
 use crate::made::Made;
+use http_service::{Event, Operation};
 use json_words::{read_json, text_at, write_json};
 use plain::{Items, NoMemory, Text};
 use schema_decisions::read_uid;
 use serde_json::Value;
-use site::{Deed, Event};
 use std::alloc::Global;
 
 /// Returns the number, if it lies in these bounds.
@@ -54,7 +55,7 @@ fn bytes_at(alloc: Global, value: &Value, key: &str) -> Result<Option<Items<u8>>
 }
 
 /// Returns a policy to be put, if its id and its text are there.
-fn policy_put(alloc: Global, value: &Value) -> Result<Option<Deed>, NoMemory>
+fn policy_put(alloc: Global, value: &Value) -> Result<Option<Operation>, NoMemory>
     ensures { IfOk result (IsReadAs
         (policy_put (text_at (codes "id") (view value.now)) (text_at (codes "text") (view value.now)))) }
 {
@@ -66,33 +67,33 @@ fn policy_put(alloc: Global, value: &Value) -> Result<Option<Deed>, NoMemory>
     };
     let id = Text::from_str(alloc, id)?;
     let text = Text::from_str(alloc, text)?;
-    Ok(Some(Deed::PutPolicy(id, text)))
+    Ok(Some(Operation::PutPolicy(id, text)))
 }
 
 /// Returns a policy to be taken away, if its id is there.
-fn policy_deleted(alloc: Global, value: &Value) -> Result<Option<Deed>, NoMemory>
+fn policy_deleted(alloc: Global, value: &Value) -> Result<Option<Operation>, NoMemory>
     ensures { IfOk result (IsReadAs (option_map policy_deleted (text_at (codes "id") (view value.now)))) }
 {
     let Some(id) = text_at(value, "id") else {
         return Ok(None);
     };
     let id = Text::from_str(alloc, id)?;
-    Ok(Some(Deed::DeletePolicy(id)))
+    Ok(Some(Operation::DeletePolicy(id)))
 }
 
 /// Returns an entity to be put, if it is there.
-fn entity_put(alloc: Global, value: &Value) -> Result<Option<Deed>, NoMemory>
+fn entity_put(alloc: Global, value: &Value) -> Result<Option<Operation>, NoMemory>
     requires { depth (view value.now) ≤ max_depth }
     ensures { IfOk result (IsReadAs (option_map put_entity (get (codes "entity") (view value.now)))) }
 {
     match bytes_at(alloc, value, "entity")? {
-        Some(bytes) => Ok(Some(Deed::PutEntity(bytes))),
+        Some(bytes) => Ok(Some(Operation::PutEntity(bytes))),
         None => Ok(None),
     }
 }
 
 /// Returns an entity to be taken away, if there is something for its uid.
-fn entity_deleted(alloc: Global, value: &Value) -> Result<Option<Deed>, NoMemory>
+fn entity_deleted(alloc: Global, value: &Value) -> Result<Option<Operation>, NoMemory>
     ensures { IfOk result (IsReadAs
         (option_map (λ uid. entity_deleted (uid_in uid)) (get (codes "uid") (view value.now)))) }
 {
@@ -100,46 +101,51 @@ fn entity_deleted(alloc: Global, value: &Value) -> Result<Option<Deed>, NoMemory
         return Ok(None);
     };
     match read_uid(alloc, named)? {
-        Some(uid) => Ok(Some(Deed::DeleteEntity(uid))),
-        None => Ok(Some(Deed::PutEntity(Items::new(alloc)))),
+        Some(uid) => Ok(Some(Operation::DeleteEntity(uid))),
+        None => Ok(Some(Operation::PutEntity(Items::new(alloc)))),
     }
 }
 
 /// Returns a request to be decided, if it is there.
-fn authorized(alloc: Global, value: &Value) -> Result<Option<Deed>, NoMemory>
+fn authorized(alloc: Global, value: &Value) -> Result<Option<Operation>, NoMemory>
     requires { depth (view value.now) ≤ max_depth }
     ensures { IfOk result (IsReadAs (option_map authorize (get (codes "request") (view value.now)))) }
 {
     match bytes_at(alloc, value, "request")? {
-        Some(bytes) => Ok(Some(Deed::Authorize(bytes))),
+        Some(bytes) => Ok(Some(Operation::Authorize(bytes))),
         None => Ok(None),
     }
 }
 
 /// Returns a delta against a summary that was made, if the number of such a one is there.
-fn delta_offered(value: &Value, made: Made) -> Option<Deed>
+fn delta_offered(value: &Value, made: Made) -> Option<Operation>
     ensures { IsReadAs (option_map delta_offered (number_in (codes "summary") 0 made.summaries (view value.now)))
         result }
 {
     match number_in(value, "summary", 0, made.summaries) {
-        Some(number) => Some(Deed::OfferDelta(number)),
+        Some(number) => Some(Operation::OfferDelta(number)),
         None => None,
     }
 }
 
 /// Returns a message that was made, if the number of such a one is there.
-fn delivered(value: &Value, made: Made) -> Option<Deed>
+fn delivered(value: &Value, made: Made) -> Option<Operation>
     ensures { IsReadAs (option_map delivered (number_in (codes "message") 0 made.messages (view value.now))) result }
 {
     match number_in(value, "message", 0, made.messages) {
-        Some(number) => Some(Deed::Deliver(number)),
+        Some(number) => Some(Operation::Deliver(number)),
         None => None,
     }
 }
 
 /// Returns what a word asks for, with the other members of the line.
-#[tactic(auto, unfolding(crate::specs::Said::asked_by))]
-fn asked_by(alloc: Global, made: Made, word: &str, value: &Value) -> Result<Option<Deed>, NoMemory>
+#[tactic(auto, unfolding(crate::specs::ScriptLines::asked_by))]
+fn asked_by(
+    alloc: Global,
+    made: Made,
+    word: &str,
+    value: &Value,
+) -> Result<Option<Operation>, NoMemory>
     requires { depth (view value.now) ≤ max_depth }
     ensures { IfOk result (IsReadAs (asked_by made word.now (view value.now))) }
 {
@@ -159,10 +165,10 @@ fn asked_by(alloc: Global, made: Made, word: &str, value: &Value) -> Result<Opti
         return authorized(alloc, value);
     }
     if word == "summary" {
-        return Ok(Some(Deed::Summary));
+        return Ok(Some(Operation::Summary));
     }
     if word == "offer" {
-        return Ok(Some(Deed::Offer));
+        return Ok(Some(Operation::Offer));
     }
     if word == "offer_delta" {
         return Ok(delta_offered(value, made));
@@ -174,7 +180,7 @@ fn asked_by(alloc: Global, made: Made, word: &str, value: &Value) -> Result<Opti
 }
 
 /// Returns the event that a JSON value says at one of so many sites, if it says one.
-#[tactic(auto, unfolding(crate::specs::Said::said_in))]
+#[tactic(auto, unfolding(crate::specs::ScriptLines::said_in))]
 fn said_in(alloc: Global, count: u16, made: Made, value: &Value) -> Result<Option<Event>, NoMemory>
     requires { depth (view value.now) ≤ max_depth }
     ensures { IfOk result (IsLineRead (said_in count made (view value.now))) }
@@ -186,7 +192,7 @@ fn said_in(alloc: Global, count: u16, made: Made, value: &Value) -> Result<Optio
         return Ok(None);
     };
     match asked_by(alloc, made, word, value)? {
-        Some(deed) => Ok(Some(Event { site, deed })),
+        Some(operation) => Ok(Some(Event { site, operation })),
         None => Ok(None),
     }
 }

@@ -3,19 +3,22 @@ ghost use Rattle.std.specs.Prelude.{◌≡◌, ℕ, List, [], ◌∷◌, ◌++�
 ghost use Rattle.std.specs.List.{AllZip, join_with_byte};
 ghost use Rattle.serde_json.specs.View.{view};
 ghost use Rattle.schema_decisions.specs.answer_lines.Lines.{answer_line};
-ghost use Rattle.http_replies.specs.Replies.{answer_reply, fault_reply, put_reply, stamp_reply, taken_reply};
+ghost use Rattle.http_service.specs.http_replies.Replies.{answer_reply, fault_reply, put_reply, stamp_reply};
+ghost use Rattle.http_service.specs.http_replies.Replies.{taken_reply};
 ghost use Rattle.program_drills.specs.Drills.{IsTold};
 ghost use Rattle.program_drills.specs.Lines.{line_end};
-ghost use Rattle.program_drills.specs.Told.{answer_told, message_json, message_line, state_told};
-ghost use Rattle.program_drills.specs.Told.{summary_json, summary_line};
+ghost use Rattle.program_drills.specs.EventReports.{answer_told, message_json, message_line, state_told};
+ghost use Rattle.program_drills.specs.EventReports.{summary_json, summary_line};
 ghost use Rattle.program_drills.specs.inner.Ended.{AreTold, IsToldOf, ended};
 
-use http_replies::{LINE_ROOM, Stamp, report_fault, report_put, report_stamp, report_taken};
+use http_service::{
+    EventReply, LINE_ROOM, Put, Reply, Site, SiteFault, Stamp, Taken, World, report_fault,
+    report_put, report_stamp, report_taken,
+};
 use json_words::write_json;
 use plain::NoMemory;
 use schema_decisions::{Answer, answer_line};
 use serde_json::{Value, json};
-use site::{EventReply, Put, Reply, Site, SiteFault, Taken, World};
 use std::alloc::Global;
 
 // ---- one line

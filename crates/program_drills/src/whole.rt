@@ -3,11 +3,11 @@ ghost use Rattle.std.specs.Prelude.{◌≡◌, IfOk, IfErr, Some};
 ghost use Rattle.schema_decisions.specs.answer_lines.Refusals.{bad_shape, no_memory};
 ghost use Rattle.program_drills.specs.Scripts.{AreEventsOf, IsScriptRefused};
 
-use crate::made::{Made, after_deed};
+use crate::made::{Made, after_operation};
 use crate::one_line::said_of;
 use crate::split::first_line;
+use http_service::Event;
 use schema_decisions::Refusal;
-use site::Event;
 use std::alloc::Global;
 
 /// Returns the refusal of the line at this place.
@@ -39,7 +39,7 @@ pub(crate) fn read_script(alloc: Global, count: u16, script: &[u8]) -> Result<Ve
         let Some(event) = said_of(alloc, count, made, line)? else {
             return Err(unread_line(events.len()));
         };
-        made = after_deed(made, &event.deed);
+        made = after_operation(made, &event.operation);
         events.push(event)?;
         rest = behind;
     }

@@ -1,5 +1,5 @@
 //! The commands and their options, as clap knows them.
-ghost use Rattle.std.specs.Prelude.{◌≡◌, false, Ok, IfOk, codes};
+ghost use Rattle.std.specs.Prelude.{◌≡◌, false, IfOk, codes};
 ghost use Rattle.clap.specs.Words.{App, Rule, rule_of, new_app, with_rule, with_subcommand};
 ghost use Rattle.program_lines.specs.Apps.{value_option, value_word, number_option, demanded, site_option, site_app};
 ghost use Rattle.program_lines.specs.Apps.{check_app, decide_app, load_app, serve_app, pull_app};
@@ -9,7 +9,7 @@ ghost use Rattle.program_lines.specs.inner.Known.{IsApp};
 
 use clap::builder::ValueParser;
 use clap::{Arg, ArgAction, Command};
-use plain::{NoMemory, beside};
+use plain::{NoMemory, beside, both};
 use std::alloc::Global;
 
 /// The greatest number of connections that can be asked for.
@@ -20,19 +20,6 @@ pub(crate) const MOST_IDLE: u64 = 86_400;
 
 /// The greatest number of sites that a script can be played at.
 pub(crate) const MOST_SITES: u64 = 64;
-
-/// Both of two, or want of memory; generic as well.
-fn both<A: Drop, B: Drop>(
-    first: Result<A, NoMemory>,
-    second: Result<B, NoMemory>,
-) -> Result<(A, B), NoMemory>
-    ensures first { IfOk result (λ pair. first ≡ Ok pair.0) }
-    ensures second { IfOk result (λ pair. second ≡ Ok pair.1) }
-{
-    let first = first?;
-    let second = second?;
-    Ok((first, second))
-}
 
 /// Returns a command with no options yet, whose help ends with an example.
 fn bare<'a>(

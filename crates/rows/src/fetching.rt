@@ -4,7 +4,7 @@ use crate::written::shown;
 use http::Method;
 use http_devices::devices::Source;
 use http_streams::fetch::{FetchFault, fetch};
-use http_texts::request::Ask;
+use http_texts::parts::Ask;
 use plain::NoMemory;
 use std::alloc::Global;
 

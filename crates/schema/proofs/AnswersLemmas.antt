@@ -8,7 +8,7 @@ use Rattle.std.proofs.lemmas.List.Kept.{IsStrictlySortedBy-filter}
 use Rattle.std.proofs.lemmas.Map.Views.{btree_map_contains_key_iff, btree_map_get_iff}
 use Rattle.values.specs.declared.entity_uid.EntityUid.{EntityUid}
 use Rattle.values.specs.Names.{uid_cmp, text_cmp, uid_cmp-IsTotalOrder, uid_cmp-IsAntisymmetric}
-use Rattle.ancestor_search.specs.Hierarchy.{Above, IsAscending, IsAllAbove}
+use Rattle.ancestor_search.specs.Hierarchy.{IsAncestor, IsAscending, IsAllAbove}
 use Rattle.schema_types.specs.Cedar.{Cedar}
 use Rattle.schema_types.specs.CedarViews.{cedar_view}
 use Rattle.schema_types.specs.declared.cedar.CedarType.{CedarType}
@@ -26,7 +26,7 @@ use Rattle.schema.specs.Schemas.{EnvironmentOf, Answers, IsSound, IsSchemaOf, Is
 use Rattle.schema.specs.Schemas.{IsRecordOf, action_parents, type_parents, type_uid, place_cmp}
 use Rattle.schema.specs.SchemaEntries.{kept}
 use Rattle.schema.specs.Places.{environment_of}
-use Rattle.schema.specs.LookUps.{is_numbered_at, stands_below, is_above, stands_below_action, is_action_above}
+use Rattle.schema.specs.LookUps.{is_numbered_at, stands_below, is_ancestor, stands_below_action, is_action_above}
 use Rattle.schema.specs.Views.{environment_view, schema_view, above_in}
 use Rattle.schema.specs.declared.type_numbers.TypeNumbers.{TypeNumbers}
 use Rattle.schema.specs.inner.Numbering.{AreNumbers}
@@ -103,18 +103,18 @@ module _ (s : FoundSchema) (called : AreNamed s) (h : Hierarchies) (are : AreHie
   action_numbered u e a = is_none (at u) e (are.numbered u (action_listed u a))
 
   -- what is above an action is a parent of one
-  above_is_action : (u w : EntityUid) → Above (action_parents s) w u → IsAction s w
+  above_is_action : (u w : EntityUid) → IsAncestor (action_parents s) w u → IsAction s w
   above_is_action u w above =
       let last = last_edge (action_parents s) u above.0 w above.1 in
       let edge = action_edge s.actions last.0 w last.1 in
       called.parents edge.0 edge.1 w edge.2
 
-  below_at : (u w : EntityUid) (i : ℕ) → at u ≡ Some i → (o : Option ℕ) → at w ≡ o → IsTrue (is_numbered_at h.above.spans i o) ↔ Above (action_parents s) w u
+  below_at : (u w : EntityUid) (i : ℕ) → at u ≡ Some i → (o : Option ℕ) → at w ≡ o → IsTrue (is_numbered_at h.above.spans i o) ↔ IsAncestor (action_parents s) w u
   below_at u w i e None f = ((λ t. cc), (λ above. action_numbered w f (above_is_action u w above)))
   below_at u w i e (Some j) f = are.above u w i j e f
 
   above_told : (u w : EntityUid) → IsAction s u → (o : Option ℕ) → at u ≡ o
-      → IsTrue (stands_below_action h.above.numbers.entries h.above.spans o w) ↔ Above (action_parents s) w u
+      → IsTrue (stands_below_action h.above.numbers.entries h.above.spans o w) ↔ IsAncestor (action_parents s) w u
   above_told u w a None e = ((λ t. cc), (λ above. action_numbered u e a))
   above_told u w a (Some i) e = below_at u w i e (at w) refl
 
@@ -145,7 +145,7 @@ module _ (s : FoundSchema) (called : AreNamed s) (h : Hierarchies) (are : AreHie
 
 module _ (s : FoundSchema) (own : NamesItsEntityTypes s) (t : TypeNumbers) (are : AreNumbers (type_parents s) s.entity_types t) where
   abbrev IsBelow : List ℕ → List ℕ → Type 0
-  IsBelow child parent = Above (type_parents s) (type_uid parent) (type_uid child)
+  IsBelow child parent = IsAncestor (type_parents s) (type_uid parent) (type_uid child)
 
   -- a type that is declared has a number
   numbered : {G : Type 0} (n : List ℕ) → get text_cmp t.numbers n ≡ None → IsEntityType s n → G
@@ -161,7 +161,7 @@ module _ (s : FoundSchema) (own : NamesItsEntityTypes s) (t : TypeNumbers) (are 
   child_at child parent None e = ((λ h. cc), (λ h. numbered child e (below_declared s child parent h)))
   child_at child parent (Some i) e = parent_at child parent i e (get text_cmp t.numbers parent) refl
 
-  pub parents_are : (child parent : List ℕ) → IsTrue (is_above t.numbers.entries t.spans child parent) ↔ IsBelow child parent
+  pub parents_are : (child parent : List ℕ) → IsTrue (is_ancestor t.numbers.entries t.spans child parent) ↔ IsBelow child parent
   parents_are child parent = child_at child parent (get text_cmp t.numbers child) refl
 
 -- ---- environments

@@ -4,7 +4,7 @@ use Rattle.std.specs.Prelude.{Contains, ◌⊎◌}
 use Rattle.std.specs.Ordering.{is_eq}
 use Rattle.values.specs.declared.entity_uid.EntityUid.{EntityUid}
 use Rattle.values.specs.Names.{uid_cmp}
-use Rattle.ancestor_search.specs.Hierarchy.{Parents, Path, Above, no_parents, with_parents}
+use Rattle.ancestor_search.specs.Hierarchy.{Parents, Path, IsAncestor, no_parents, with_parents}
 use Rattle.ancestor_search.specs.Deciding.{Contains-here, Contains-there, Contains-cases, Contains-none, same_uid}
 use Rattle.schema_names.specs.Qualifying.{FoundEntityType, FoundAction, FoundSchema}
 use Rattle.schema_names.specs.Laws.{IsEntityType, NamesItsEntityTypes}
@@ -33,7 +33,7 @@ first_edge parents b [] a h = (a, h)
 first_edge parents b (c ∷ cs) a h = (c, h.0)
 
 -- what has something above it is declared
-pub is_declared : (es : List FoundEntityType) (b a : EntityUid) → Above (with_types no_parents es) a b → (e : FoundEntityType) × Contains es e × (type_uid e.name ≡ b)
+pub is_declared : (es : List FoundEntityType) (b a : EntityUid) → IsAncestor (with_types no_parents es) a b → (e : FoundEntityType) × Contains es e × (type_uid e.name ≡ b)
 is_declared es b a h =
     let edge = first_edge (with_types no_parents es) b h.0 a h.1 in
     elim (has_parent no_parents es b edge.0 edge.1) [
@@ -100,13 +100,13 @@ module _ (s : FoundSchema) (own : NamesItsEntityTypes s) where
   parent_declared : (e : FoundEntityType) (above : List ℕ) → Contains s.entity_types e → (x : List ℕ) × Contains e.parents x × (type_uid x ≡ type_uid above) → IsEntityType s above
   parent_declared e above here (x, there, same) = subst (λ (q : List ℕ). IsEntityType s q) (ap (λ (u : EntityUid). u.type_name) same) (own.parents e here x there)
 
-  pub above_declared : (child above : List ℕ) → Above (type_parents s) (type_uid above) (type_uid child) → IsEntityType s above
+  pub above_declared : (child above : List ℕ) → IsAncestor (type_parents s) (type_uid above) (type_uid child) → IsEntityType s above
   above_declared child above h =
       let edge = last_edge (type_parents s) (type_uid child) h.0 (type_uid above) h.1 in
       let e = type_edge s.entity_types edge.0 (type_uid above) edge.1 in
       parent_declared e.0 above e.1 (contains_map type_uid e.0.parents (type_uid above) e.2)
 
-pub below_declared : (s : FoundSchema) (child above : List ℕ) → Above (type_parents s) (type_uid above) (type_uid child) → IsEntityType s child
+pub below_declared : (s : FoundSchema) (child above : List ℕ) → IsAncestor (type_parents s) (type_uid above) (type_uid child) → IsEntityType s child
 below_declared s child above h =
     let e = is_declared s.entity_types (type_uid child) (type_uid above) h in
     (e.0, e.1, ap (λ (u : EntityUid). u.type_name) e.2)

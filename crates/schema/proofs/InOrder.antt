@@ -20,17 +20,17 @@ module _ {E K : Type 0} (cmp : K → K → Ordering) (key : E → K) where
   in_order [] = []
   in_order (x ∷ xs) = placed x (in_order xs)
 
-  abbrev Above : K → List E → Type 0
-  Above k ys = AllByRecursion (λ l. cmp k l ≡ Less) (map key ys)
+  abbrev IsAncestor : K → List E → Type 0
+  IsAncestor k ys = AllByRecursion (λ l. cmp k l ≡ Less) (map key ys)
 
   abbrev Ascends : List E → Type 0
   Ascends ys = IsStrictlySortedBy cmp (map key ys)
 
-  above_placed : (k : K) (x : E) (ys : List E) → cmp k (key x) ≡ Less → Above k ys → Above k (placed x ys)
+  above_placed : (k : K) (x : E) (ys : List E) → cmp k (key x) ≡ Less → IsAncestor k ys → IsAncestor k (placed x ys)
   above_placed k x [] lt h = (lt, tt)
   above_placed k x (y ∷ ys) lt h = by (cmp (key x) (key y)) (above_placed k x ys lt h.1)
     where
-      by : (r : Ordering) → Above k (placed x ys) → Above k (match_ordering r (x ∷ y ∷ ys) (y ∷ ys) (y ∷ placed x ys))
+      by : (r : Ordering) → IsAncestor k (placed x ys) → IsAncestor k (match_ordering r (x ∷ y ∷ ys) (y ∷ ys) (y ∷ placed x ys))
       by Less rest = (lt, h)
       by Equal rest = h
       by Greater rest = (h.0, rest)
@@ -74,7 +74,7 @@ module _ {E K : Type 0} (cmp : K → K → Ordering) (key : E → K) where
       by (inr there) rest = Contains-there x xs z (rest there)
 
   module _ (total : IsTotalOrder cmp) (exact : IsAntisymmetric cmp) where
-    below_all : (k l : K) (ys : List E) → cmp k l ≡ Less → Above l ys → Above k ys
+    below_all : (k l : K) (ys : List E) → cmp k l ≡ Less → IsAncestor l ys → IsAncestor k ys
     below_all k l [] lt h = tt
     below_all k l (y ∷ ys) lt h = (total.trans k l (key y) lt h.0, below_all k l ys lt h.1)
 

@@ -17,7 +17,7 @@ use Rattle.schema.specs.declared.spans.Span.{Span}
 use Rattle.schema.specs.Spans.{in_span, has_number}
 use Rattle.values.specs.declared.entity_uid.EntityUid.{EntityUid}
 use Rattle.values.specs.Names.{uid_cmp, text_cmp, uid_cmp-IsAntisymmetric}
-use Rattle.ancestor_search.specs.Hierarchy.{Parents, Path, Above, IsAllAbove, names}
+use Rattle.ancestor_search.specs.Hierarchy.{Parents, Path, IsAncestor, IsAllAbove, names}
 use Rattle.ancestor_search.specs.Deciding.{Contains-here, Contains-there, Contains-cases, Contains-none}
 use Rattle.schema_names.specs.Qualifying.{FoundEntityType}
 use Rattle.schema.specs.LookUps.{has_number_at}
@@ -173,10 +173,10 @@ module _ (parents : Parents) (at : Numbers) (is_apart : IsApart at) where
   module _ (reached : List (List Span)) (keeps : KeepsAbove parents at reached) where
     -- q is one of these, or above one
     abbrev IsFrom : List EntityUid → EntityUid → Type 0
-    IsFrom ps q = (p : EntityUid) × Contains ps p × ((p ≡ q) ⊎ Above parents q p)
+    IsFrom ps q = (p : EntityUid) × Contains ps p × ((p ≡ q) ⊎ IsAncestor parents q p)
 
     one_to : (p q : EntityUid) (old new : List Span) (i : ℕ) → AddsParent at reached p old new → at q ≡ Some i → IsTrue (has_number new i)
-        → IsTrue (has_number old i) ⊎ ((p ≡ q) ⊎ Above parents q p)
+        → IsTrue (has_number old i) ⊎ ((p ≡ q) ⊎ IsAncestor parents q p)
     one_to p q old new i a e h =
         let further = a.has.further in
         let whole : (has_number old i || has_number (single a.number ∷ further) i) ≡ true = sym (has_both old (single a.number ∷ further) i) ∙ ap (λ (ss : List Span). has_number ss i) (sym a.has.are) ∙ h in
@@ -188,7 +188,7 @@ module _ (parents : Parents) (at : Numbers) (is_apart : IsApart at) where
           ]
         ]
 
-    one_from : (p q : EntityUid) (old new : List Span) (i : ℕ) → AddsParent at reached p old new → at q ≡ Some i → IsTrue (has_number old i) ⊎ ((p ≡ q) ⊎ Above parents q p)
+    one_from : (p q : EntityUid) (old new : List Span) (i : ℕ) → AddsParent at reached p old new → at q ≡ Some i → IsTrue (has_number old i) ⊎ ((p ≡ q) ⊎ IsAncestor parents q p)
         → IsTrue (has_number new i)
     one_from p q old new i a e h =
         let further = a.has.further in
@@ -221,11 +221,11 @@ module _ (parents : Parents) (at : Numbers) (is_apart : IsApart at) where
     all_from [] old new a q i e (inr h) = Contains-none h.0 h.1
     all_from (p ∷ ps) old new (mid, one, rest) q i e (inl h) = all_from ps mid new rest q i e (inl (one_from p q old mid i one e (inl h)))
     all_from (p ∷ ps) old new (mid, one, rest) q i e (inr h) = elim (Contains-cases p ps h.0 h.1) [
-      | inl same ↦ all_from ps mid new rest q i e (inl (one_from p q old mid i one e (inr (subst (λ (x : EntityUid). (x ≡ q) ⊎ Above parents q x) (sym same) h.2))))
+      | inl same ↦ all_from ps mid new rest q i e (inl (one_from p q old mid i one e (inr (subst (λ (x : EntityUid). (x ≡ q) ⊎ IsAncestor parents q x) (sym same) h.2))))
       | inr later ↦ all_from ps mid new rest q i e (inr (h.0, later, h.2))
     ]
 
-    up : (u q : EntityUid) → IsFrom (parents u) q → Above parents q u
+    up : (u q : EntityUid) → IsFrom (parents u) q → IsAncestor parents q u
     up u q (p, edge, inl same) = ([], subst (λ (x : EntityUid). Contains (parents u) x) same edge)
     up u q (p, edge, inr above) = (p ∷ above.0, (edge, above.1))
 
@@ -292,7 +292,7 @@ reaches_next parents at xs x reached more spans i numbering lt is len added has 
 
 module _ (parents : Parents) (at : Numbers) (xs : List (Bor EntityUid)) (numbering : IsNumbering at (names xs)) (reached : List (List Span)) (i : ℕ) (len : length reached ≡ i) (whole : length xs ≤ i)
     (keeps : KeepsAbove parents at reached) where
-  is_at : (u q : EntityUid) (j k : ℕ) → at u ≡ Some j → at q ≡ Some k → (o : Option (List Span)) → slice_get reached j ≡ o → IsTrue (has_number_at o k) ↔ Above parents q u
+  is_at : (u q : EntityUid) (j k : ℕ) → at u ≡ Some j → at q ≡ Some k → (o : Option (List Span)) → slice_get reached j ≡ o → IsTrue (has_number_at o k) ↔ IsAncestor parents q u
   is_at u q j k e f None none =
       let lt = slice_get_within (names xs) j u (numbering u j e) in
       let names_length = length-map xs (λ (x : Bor EntityUid). x.now) in

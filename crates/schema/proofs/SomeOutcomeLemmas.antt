@@ -172,38 +172,38 @@ module _ (us : List FoundAction) where
   uids_stored : HaveAllParents edges (uids_of us)
   uids_stored b a h = let x = edge_from b a h in subst (λ (u : EntityUid). Contains (uids_of us) u) x.2 (map_to (λ y. y.uid) us x.0 x.1)
 
-  abbrev is_above : EntityUid → EntityUid → Bool
-  is_above a b = reaches edges (uids_of us) a b
+  abbrev is_ancestor : EntityUid → EntityUid → Bool
+  is_ancestor a b = reaches edges (uids_of us) a b
 
   pub above_list : EntityUid → List EntityUid
-  above_list b = in_order uid_cmp (λ u. u) (those (λ a. is_above a b) (ends_of us))
+  above_list b = in_order uid_cmp (λ u. u) (those (λ a. is_ancestor a b) (ends_of us))
 
   module _ (decided : PathsAreDecided) where
-    abbrev decides : Decides edges is_above
+    abbrev decides : Decides edges is_ancestor
     decides = decided edges (uids_of us) uids_stored
 
     pub above_ascends : (b : EntityUid) → IsAscending (above_list b)
     unfolding above_list
     above_ascends b =
-        let list = those (λ a. is_above a b) (ends_of us) in
+        let list = those (λ a. is_ancestor a b) (ends_of us) in
         subst (λ (xs : List EntityUid). IsStrictlySortedBy uid_cmp xs) (map_same (in_order uid_cmp (λ u. u) list)) (in_order_ascends uid_cmp (λ u. u) uid_cmp-IsTotalOrder uid_cmp-IsAntisymmetric list)
 
     pub above_all : (b : EntityUid) → IsAllAbove edges b (above_list b)
     unfolding above_list
     above_all b a =
-        let list = those (λ x. is_above x b) (ends_of us) in (
-          (λ h. (decides a b).0 (those_from (λ x. is_above x b) (ends_of us) a (from_in_order uid_cmp (λ u. u) list a h))),
+        let list = those (λ x. is_ancestor x b) (ends_of us) in (
+          (λ h. (decides a b).0 (those_from (λ x. is_ancestor x b) (ends_of us) a (from_in_order uid_cmp (λ u. u) list a h))),
           (λ h.
               let edge = last_edge edges b h.0 a h.1 in
               let x = edge_from edge.0 a edge.1 in
-              let inside = those_to (λ y. is_above y b) (ends_of us) a (in_ends us x.0 a x.1 x.3) ((decides a b).1 h) in
+              let inside = those_to (λ y. is_ancestor y b) (ends_of us) a (in_ends us x.0 a x.1 x.3) ((decides a b).1 h) in
               subst (λ (xs : List EntityUid). Contains xs a) (map_same (in_order uid_cmp (λ u. u) list)) (all_in_order uid_cmp (λ u. u) uid_cmp-IsTotalOrder uid_cmp-IsAntisymmetric list a inside)),
         )
 
     on_cycle_or_not : ((u : EntityUid) × IsOnCycle edges u) ⊎ (((u : EntityUid) × IsOnCycle edges u) → ⊥)
-    on_cycle_or_not = by (some_or_all (λ u. IsOnCycle edges u) (λ u. IsOnCycle edges u → ⊥) (uids_of us) (λ u h. at u (is_above u u) refl))
+    on_cycle_or_not = by (some_or_all (λ u. IsOnCycle edges u) (λ u. IsOnCycle edges u → ⊥) (uids_of us) (λ u h. at u (is_ancestor u u) refl))
       where
-        at : (u : EntityUid) (b : Bool) → is_above u u ≡ b → IsOnCycle edges u ⊎ (IsOnCycle edges u → ⊥)
+        at : (u : EntityUid) (b : Bool) → is_ancestor u u ≡ b → IsOnCycle edges u ⊎ (IsOnCycle edges u → ⊥)
         at u true e = inl ((decides u u).0 e)
         at u false e = inr (λ cycle. absurd (cc ((decides u u).1 cycle)))
 

@@ -3,7 +3,7 @@ use Rattle.std.proofs.Common.{◌≡◌, ℕ, arith, List, [], Option, Some, Non
 use Rattle.std.specs.Prelude.{◌⊎◌, Contains, IsSome}
 use Rattle.std.specs.List.Sorted.{IsStrictlySortedBy}
 use Rattle.values.specs.declared.entity_uid.EntityUid.{EntityUid}
-use Rattle.ancestor_search.specs.Deciding.{Above-joined}
+use Rattle.ancestor_search.specs.Deciding.{IsAncestor-joined}
 use Rattle.schema_types.specs.Qualified.{Qualified}
 use Rattle.schema_types.specs.Cedar.{Cedar, CedarFields, record_of, no_fields, IsTooLarge}
 use Rattle.schema_types.specs.WrittenOut.{Declares, WrittenOut}
@@ -106,13 +106,13 @@ module _ (one : OneWritten) (written : WrittenTypesAscend) (s : FoundSchema) (on
       actions_ascend = answers.actions_ascend;
       ancestors_ascend = λ u us e. (answers.ancestors u us e).1;
       ancestors_join = λ u w x us ws e h f i.
-          (((answers.ancestors u us e).2 x).1 (Above-joined (action_parents s) u w x (((answers.ancestors u us e).2 w).0 h) (((answers.ancestors w ws f).2 x).0 i)));
+          (((answers.ancestors u us e).2 x).1 (IsAncestor-joined (action_parents s) u w x (((answers.ancestors u us e).2 w).0 h) (((answers.ancestors w ws f).2 x).0 i)));
       no_cycle = λ u us e h. sound.no_cycle (u, ((answers.ancestors u us e).2 u).0 h);
       ancestors_declared = above_is_action;
       actions_typed = λ u h. action_typed u ((answers.actions u).0 h);
       shapes_apart = λ n h. let x = is_some (v.shape n) h in shape_apart n x.0 x.1;
       parents_join = λ child parent above h i.
-          (answers.parents child above).1 (Above-joined (type_parents s) (type_uid child) (type_uid parent) (type_uid above) ((answers.parents child parent).0 h) ((answers.parents parent above).0 i));
+          (answers.parents child above).1 (IsAncestor-joined (type_parents s) (type_uid child) (type_uid parent) (type_uid above) ((answers.parents child parent).0 h) ((answers.parents parent above).0 i));
       shapes_name = λ n t e q h. let x = answers.shapes n t e in there q (names_declared named s own x.0.shape (λ r is. inl (x.0, x.1, is)) t x.3 q h);
       contexts_name = λ e h q m. let x = answers.environments e h in
           there q (names_declared named s own x.0.context (λ r is. inr (x.1.action, x.1.declared, (x.0, x.1.applies, is))) e.context x.2 q m);

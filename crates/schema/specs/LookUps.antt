@@ -26,8 +26,8 @@ abbrev pub stands_below : List (List ℕ × ℕ) → List (List Span) → Option
 stands_below numbers spans None n = false
 stands_below numbers spans (Some place) n = is_numbered_at spans place (lookup (is_at (text_cmp n)) numbers)
 
-abbrev pub is_above : List (List ℕ × ℕ) → List (List Span) → List ℕ → List ℕ → Bool
-is_above numbers spans child parent = stands_below numbers spans (lookup (is_at (text_cmp child)) numbers) parent
+abbrev pub is_ancestor : List (List ℕ × ℕ) → List (List Span) → List ℕ → List ℕ → Bool
+is_ancestor numbers spans child parent = stands_below numbers spans (lookup (is_at (text_cmp child)) numbers) parent
 
 -- at the number of each action stand those of the actions above it
 abbrev pub stands_below_action : List (EntityUid × ℕ) → List (List Span) → Option ℕ → EntityUid → Bool

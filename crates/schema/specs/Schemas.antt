@@ -7,7 +7,7 @@ use Rattle.std.specs.List.Sorted.{IsStrictlySortedBy}
 use Rattle.sha2.specs.Sha256.{sha256}
 use Rattle.hex.specs.Hex.{encode_lower}
 use Rattle.values.specs.declared.entity_uid.EntityUid.{EntityUid}
-use Rattle.ancestor_search.specs.Hierarchy.{Parents, Above, IsAllAbove, IsAscending, IsOnCycle, no_parents}
+use Rattle.ancestor_search.specs.Hierarchy.{Parents, IsAncestor, IsAllAbove, IsAscending, IsOnCycle, no_parents}
 use Rattle.ancestor_search.specs.Hierarchy.{with_parents}
 use Rattle.schema_types.specs.Qualified as qualified
 use Rattle.schema_types.specs.Qualified.{Qualified}
@@ -130,7 +130,7 @@ pub record Answers (s : FoundSchema) (v : StatedSchema) : Type 0 where
       → IsAction s u × IsAscending us × IsAllAbove (action_parents s) u us
   pub all_ancestors : (u : EntityUid) → IsAction s u → IsSome (v.ancestors u)
   pub parents : (child above : List ℕ)
-      → IsTrue (v.may_have_parent child above) ↔ Above (type_parents s) (type_uid above) (type_uid child)
+      → IsTrue (v.may_have_parent child above) ↔ IsAncestor (type_parents s) (type_uid above) (type_uid child)
   pub environments : (e : EnvironmentOf) → Contains v.environments e → IsEnvironment s e
   pub all_environments : (p : Place) → IsPlace s p → Contains (map (λ e. e.place) v.environments) p
   pub environments_ascend : IsStrictlySortedBy place_cmp (map (λ e. e.place) v.environments)

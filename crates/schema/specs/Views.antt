@@ -9,7 +9,7 @@ use Rattle.schema_types.specs.Cedar.{Cedar}
 use Rattle.schema_types.specs.CedarViews.{cedar_view}
 use Rattle.schema.specs.declared.parts.Environment.{Environment}
 use Rattle.schema.specs.declared.parts.EntityDecl.{EntityDecl}
-pub use Rattle.schema.specs.LookUps.{parents_at, is_above, is_action_above}
+pub use Rattle.schema.specs.LookUps.{parents_at, is_ancestor, is_action_above}
 use Rattle.schema.specs.SchemaEntries.{SchemaEntries}
 use Rattle.schema.specs.Schemas.{EnvironmentOf, StatedSchema, IsSchemaOf}
 
@@ -32,7 +32,7 @@ schema_view k = record {
   member_of = parents_at k.member_of;
   ancestors = λ u.
       option_map (λ parents. above_in k.actions k.action_numbers k.actions_above u) (parents_at k.member_of u);
-  may_have_parent = is_above k.type_numbers k.types_above;
+  may_have_parent = is_ancestor k.type_numbers k.types_above;
 }
 
 -- some bytes state the schema that this is

@@ -4,7 +4,7 @@ ghost use Rattle.std.specs.Prelude.{◌≡◌, option_map};
 ghost use Rattle.std.specs.List.{slice_get};
 ghost use Rattle.std.specs.BTreeMap.{get};
 ghost use Rattle.values.specs.Names.{text_cmp, uid_cmp};
-ghost use Rattle.schema.specs.LookUps.{parents_at, has_number_at, is_numbered_at, is_above, is_action_above};
+ghost use Rattle.schema.specs.LookUps.{parents_at, has_number_at, is_numbered_at, is_ancestor, is_action_above};
 
 use crate::spans::{Span, has_number};
 use plain::Items;
@@ -57,7 +57,7 @@ pub fn may_have_parent(
     child: &TypeName,
     parent: &TypeName,
 ) -> bool
-    ensures { result ≡ is_above numbers.now.entries spans.now child.now parent.now }
+    ensures { result ≡ is_ancestor numbers.now.entries spans.now child.now parent.now }
 {
     match numbers.get(child) {
         Some(place) => is_numbered_at(numbers, spans, *place, parent),

@@ -33,7 +33,7 @@ pub(crate) struct Numbered<'e> {
 
 /// The numbers of entities, and at each number those of what is above.
 #[derive(Drop)]
-pub(crate) struct Above {
+pub(crate) struct IsAncestor {
     pub(crate) numbers: BTreeMap<EntityUid, usize>,
     pub(crate) spans: Items<Items<Span>>,
 }
@@ -314,7 +314,7 @@ pub(crate) fn above_each(
     alloc: Global,
     edges: &Searched,
     uids: &[EntityUid],
-) -> Result<Above, NoMemory>
+) -> Result<IsAncestor, NoMemory>
     ensures are { IfOk result (λ a.
         AreAbove (searched.parents-value.it edges.now) (get uid_cmp a.numbers) a.spans) }
     ensures all { IfOk result (λ a. NumbersAll uids.now (get uid_cmp a.numbers)) }
@@ -322,7 +322,7 @@ pub(crate) fn above_each(
     let order = in_order(alloc, edges, uids)?;
     let numbered = number_all(alloc, order.as_slice())?;
     let spans = all_spans(alloc, edges, &numbered.numbers, numbered.listed.as_slice())?;
-    Ok(Above {
+    Ok(IsAncestor {
         numbers: numbered.numbers,
         spans,
     })

@@ -19,7 +19,7 @@ use crate::environments::make_places;
 use crate::hierarchies::{action_edges, make_members, type_edges, uids_of};
 use crate::label::label_of;
 use crate::listed_environments::listed;
-use crate::numbering::{Above, above_each};
+use crate::numbering::{IsAncestor, above_each};
 use crate::parts::{EntityDecl, Environment};
 use crate::shapes::make_shapes;
 use crate::type_numbers::{TypeNumbers, number_types};
@@ -44,7 +44,7 @@ struct Types {
 struct Hierarchies {
     actions: Items<EntityUid>,
     members: BTreeMap<EntityUid, Items<EntityUid>>,
-    above: Above,
+    above: IsAncestor,
     types: TypeNumbers,
 }
 

@@ -20,7 +20,7 @@ Files = List (String Global × Policy)
 abbrev pub cores : Files → List Policy
 cores ps = map (λ p. p.1) ps
 
--- what checking these policies comes to, where the first of them stands at this place
+-- the result of checking these policies, where the first of them is at this index
 abbrev pub AreChecked : StatedSchema → ℕ → List Policy → Result ⊤ Refusal → Type 0
 AreChecked s place ps (Ok u) = All (Passes s) ps
 AreChecked s place ps (Err refusal) = OrNoMemory no_memory (FirstUnpassed s place ps) refusal

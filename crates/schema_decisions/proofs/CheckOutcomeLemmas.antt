@@ -17,7 +17,7 @@ use Rattle.schema_decisions.specs.Checks.{line_end, PolicyReport, IsReportOf, Ar
 use Rattle.schema_decisions.specs.Checks.{AreChecksRefused}
 use Rattle.schema_decisions.specs.CheckOutcomes.{CheckOutcome, checked, refused, IsOutcomeOfTexts, TextsHaveOneOutcome}
 
--- the laws of what the texts are made of
+-- theorems about the parts of the texts
 pub record Laws : Type 0 where
   pub schema_some : schemas.SomeOutcome
   pub schema_one : schemas.OneSchema

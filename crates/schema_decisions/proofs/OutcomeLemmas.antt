@@ -18,7 +18,7 @@ use Rattle.schema_decisions.specs.Outcomes.{OneLine, NotBoth, OneRefusal, LineOr
 use Rattle.schema_decisions.specs.Outcomes.{MemberOfDecidesAlike}
 use Rattle.schema_decisions.proofs.UnderSchemaLemmas as settings
 
--- the laws of what the texts are made of
+-- theorems about the parts of the texts
 pub record Laws : Type 0 where
   pub some_schema : schemas.SomeOutcome
   pub one_schema : schemas.OneSchema

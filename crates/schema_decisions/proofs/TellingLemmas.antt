@@ -1,4 +1,4 @@
--- The lines of policies, one more at each turn.
+-- The lines of policies, one more at each step.
 use Rattle.std.proofs.Common.{◌≡◌, ◌∙◌, ℕ, zero, suc, ◌+◌, ◌<◌, ◌==◌, ◌||◌, Bool, true, false, List, [], ◌∷◌, ◌++◌, map}
 use Rattle.std.proofs.Common.{take, length, get_or, refl, sym, ap, subst, arith, eqb-true}
 use Rattle.std.proofs.Common.{String, Global, string_bytes}
@@ -23,7 +23,7 @@ all_zip-more R [] (b ∷ ys) x y all r = absurd all
 all_zip-more R (a ∷ xs) [] x y all r = absurd all
 all_zip-more R (a ∷ xs) (b ∷ ys) x y all r = (all.0, all_zip-more R xs ys x y all.1 r)
 
--- one more line, behind those that there are
+-- one more line, after those so far
 join-more : (l : List ℕ) (ls : List (List ℕ)) (x : List ℕ) → join_with_byte line_end ((l ∷ ls) ++ x ∷ []) ≡ join_with_byte line_end (l ∷ ls) ++ (line_end ∷ x)
 join-more l [] x = refl
 join-more l (m ∷ ls) x = ap (λ v. l ++ (line_end ∷ v)) (join-more m ls x) ∙ sym (append_assoc l (line_end ∷ join_with_byte line_end (m ∷ ls)) (line_end ∷ x))
@@ -68,7 +68,7 @@ none_as [] (t ∷ ts) s all = absurd all
 none_as (p ∷ ps) [] s all = absurd all
 none_as (p ∷ ps) (t ∷ ts) s all = refl
 
--- nothing is told of no policies
+-- no policies have no lines
 pub none_told : (s : StatedSchema) → AreReportsOf s [] [] false
 none_told s = record { told = []; each = tt; text_is = refl; some_refused_is = refl }
 
@@ -124,7 +124,7 @@ told-step s ps i p text new refused flag o was below here comes is flag_is =
     (subst (λ (l : List NamedPolicy). AreReportsOf s l (text ++ set_apart (is_none (named_in (take i ps))) (verdict_line (string_bytes p.0) o)) (refused || is_refusal o)) (sym more)
     (told-more s (named_in (take i ps)) (own_name p) text refused o was comes)))
 
--- the policies of a file, told
+-- the lines of a file's policies
 pub file_told : (s : StatedSchema) (policies : List ℕ) (ps held : List (String Global × Policy)) (text : List ℕ) (refused : Bool)
     → ArePoliciesOf policies (map (λ p. string_bytes p.0) ps) (map (λ p. p.1) ps) → held ≡ ps → AreReportsOf s (named_in held) text refused
     → AreReportsOnFile s policies text refused
@@ -135,7 +135,7 @@ file_told s policies ps held text refused file same told = record {
   are_told = subst (λ (l : List NamedPolicy). AreReportsOf s l text refused) (ap named_in same ∙ sym (named_policies-map ps)) told;
 }
 
--- and of both texts
+-- the lines for both texts
 pub are_checked : (schema policies text : List ℕ) (refused : Bool) (s : StatedSchema) → IsSchemaOf schema s → AreReportsOnFile s policies text refused
     → IsChecked schema policies text refused
 are_checked schema policies text refused s is told = record { stated = s; schema_is = is; file_told = told }

@@ -1,4 +1,4 @@
--- What texts are read as under a schema leaves nothing open.
+-- Each text has exactly one reading under a schema.
 use Rattle.std.proofs.Common.{◌≡◌, ◌∙◌, ◌⊎◌, ℕ, suc, List, [], ◌∷◌, inl, inr, refl, sym, ap}
 use Rattle.std.specs.Prelude.{All}
 use Rattle.std.proofs.lemmas.List.Elements.{All-nil, All-cons, All-head, All-tail}
@@ -19,7 +19,7 @@ use Rattle.schema_decisions.specs.Refusals.{entity_refusal}
 use Rattle.schema_decisions.specs.Policies.{FirstUnpassed, unpassed_here, unpassed_later}
 use Rattle.schema_decisions.specs.UnderSchema.{IsRequestFault, reading_under}
 
--- the laws of what a schema says
+-- theorems about what a schema states
 pub record Laws : Type 0 where
   pub checked : checks.PoliciesHaveOneOutcome
   pub apart : checks.PassingIsNotRefused

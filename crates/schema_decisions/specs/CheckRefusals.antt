@@ -1,5 +1,5 @@
--- Refusals of a schema's text and of policies that do not pass, by number and place. Numbers and places are rules of
--- this product.
+-- Defines the errors of a schema's text and of policies that do not pass validation, by code and place.
+-- Rules of this product: codes and places.
 use Rattle.std.specs.Prelude.{ℕ, Some, None}
 use Rattle.validator.specs.schema_types.declared.fault.SchemaFault.{SchemaFault}
 use Rattle.validator.specs.schema_types.Codes as schemas
@@ -9,11 +9,11 @@ use Rattle.validator.specs.declared.fault.TypeFault.{TypeFault}
 use Rattle.validator.specs.declared.fault.TypeFault.TheVariants.{NoMemory}
 use Rattle.validator.specs.Faults as validation
 
--- a schema's fault has no place
+-- `schema_refusal fault` is the schema error `fault` without a place.
 abbrev pub schema_refusal : SchemaFault → Refusal
 schema_refusal fault = record { code = schemas.code_of fault; place = None; within = None }
 
--- a fault of the policy at this place in its file, counted from 0
+-- `check_refusal place fault` is the validation error `fault` of the policy at the index `place` of its file.
 abbrev pub check_refusal : ℕ → TypeFault → Refusal
 check_refusal place NoMemory = no_memory
 check_refusal place fault = record { code = validation.code_of fault; place = Some place; within = None }

@@ -1,6 +1,6 @@
--- What the texts of a schema and of policies come to: the lines of the policies' verdicts, or the first refusal.
--- Rules of this product: the schema is judged before the policies; a policy that does not pass is no refusal of the
--- texts, but told in its line.
+-- Defines the outcome of checking policies under a schema: lines, or the first error.
+-- Rules of this product: the schema is checked before the policies; a policy that does not pass validation is not an
+-- error of the texts, but is reported in its line.
 use Rattle.std.specs.Prelude.{◌≡◌, ◌⊎◌, ℕ, Bool, List, map}
 use Prim.Native.Char.{code}
 use Rattle.std.specs.List.{AllZip, list_any, join_with_byte}
@@ -14,22 +14,23 @@ use Rattle.validator.specs.Outcomes.{CheckResult, IsCheckResult}
 use Rattle.schema_decisions.specs.CheckRefusals.{schema_refusal}
 use Rattle.schema_decisions.specs.Lines.{verdict_line, is_refusal}
 
--- a line feed
+-- `line_end` is a line feed.
 abbrev pub line_end : ℕ
 line_end = code "\n"
 
 -- ---- policies under a schema
 
--- what a policy of this name came to
+-- A `PolicyReport` is the id of a policy and the outcome of its validation.
 pub record PolicyReport : Type 0 where
   pub id : List ℕ
   pub outcome : CheckResult
 
+-- `IsReportOf s policy told` holds if `told` has the id of `policy` and an outcome of validating it under `s`.
 abbrev pub IsReportOf : StatedSchema → NamedPolicy → PolicyReport → Type 0
 IsReportOf s policy told = (told.id ≡ policy.id) × IsCheckResult s policy.policy told.outcome
 
--- Each policy comes to its outcome; the text has a line for each, in their order, with a line end between each two; and
--- it is told whether some policy is refused.
+-- `AreReportsOf s policies text some_refused` holds if `text` has a line for the outcome of each of `policies`, in
+-- their order, with a line feed between each two, and `some_refused` is whether one of them is rejected.
 pub record AreReportsOf (s : StatedSchema) (policies : List NamedPolicy) (text : List ℕ)
     (some_refused : Bool) : Type 0 where
   pub told : List PolicyReport
@@ -37,7 +38,8 @@ pub record AreReportsOf (s : StatedSchema) (policies : List NamedPolicy) (text :
   pub text_is : text ≡ join_with_byte line_end (map (λ t. verdict_line t.id t.outcome) told)
   pub some_refused_is : some_refused ≡ list_any (λ t. is_refusal t.outcome) told
 
--- the policies of a file are read, in its order, and this tells what they came to
+-- `AreReportsOnFile s policies text some_refused` holds if `policies` is a file of policies, and `text` and
+-- `some_refused` report on them.
 pub record AreReportsOnFile (s : StatedSchema) (policies text : List ℕ) (some_refused : Bool) : Type 0 where
   pub names : List (List ℕ)
   pub cores : List Policy
@@ -46,23 +48,27 @@ pub record AreReportsOnFile (s : StatedSchema) (policies text : List ℕ) (some_
 
 -- ---- the two texts
 
--- both texts are read, and this is what is told of the policies
+-- `IsChecked schema policies text some_refused` holds if both texts are parsed, and `text` and `some_refused` report
+-- on the policies.
 pub record IsChecked (schema policies text : List ℕ) (some_refused : Bool) : Type 0 where
   pub stated : StatedSchema
   pub schema_is : IsSchemaOf schema stated
   pub file_told : AreReportsOnFile stated policies text some_refused
 
--- the bytes state no schema
+-- `IsSchemaRefused schema refusal` holds if the bytes `schema` do not state a schema, with error `refusal`.
 pub record IsSchemaRefused (schema : List ℕ) (refusal : Refusal) : Type 0 where
   pub fault : SchemaFault
   pub due : RefusedFor schema fault
   pub is : refusal ≡ schema_refusal fault
 
--- the policies are the first text that is refused
+-- `AreNextRefused schema policies refusal` holds if `schema` states a schema, and `refusal` is the error of
+-- `policies`.
 pub record AreNextRefused (schema policies : List ℕ) (refusal : Refusal) : Type 0 where
   pub stated : StatedSchema
   pub schema_is : IsSchemaOf schema stated
   pub refused : ArePoliciesRefused policies refusal
 
+-- `AreChecksRefused schema policies refusal` holds if `refusal` is the error of `schema` or, if that states a schema,
+-- of `policies`.
 abbrev pub AreChecksRefused : List ℕ → List ℕ → Refusal → Type 0
 AreChecksRefused schema policies refusal = IsSchemaRefused schema refusal ⊎ AreNextRefused schema policies refusal

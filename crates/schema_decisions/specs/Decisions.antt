@@ -1,7 +1,6 @@
--- What the texts of a schema, of policies, of entities and of a request come to: the line of an answer, or the first
--- refusal.
--- Sources: Cedar reference guide 4.0, "Authorization" and "Policy validation". A rule of this product: the schema is
--- judged before the other texts.
+-- Defines the outcome of deciding a request under a schema: the line of an answer, or the first error.
+-- Sources: Cedar reference guide 4.0, "Authorization" and "Policy validation". Rules of this product: the schema is
+-- checked before the other texts.
 use Rattle.std.specs.Prelude.{ℕ, List}
 use Rattle.entity_hierarchy.specs.schema.Schemas.{StatedSchema, IsSchemaOf}
 use Rattle.decision_texts.specs.answer_lines.declared.refusal.Refusal.{Refusal}
@@ -9,13 +8,15 @@ use Rattle.decision_texts.specs.Decisions as under
 use Rattle.schema_decisions.specs.Checks.{IsSchemaRefused}
 use Rattle.schema_decisions.specs.UnderSchema.{reading_under}
 
--- the four texts are read, each policy passes, and this is the line of the request's answer
+-- `IsDecided schema policies entities request line` holds if the four texts are parsed, each policy passes
+-- validation, and `line` is the line of the answer to the request.
 pub record IsDecided (schema policies entities request line : List ℕ) : Type 0 where
   pub stated : StatedSchema
   pub states : IsSchemaOf schema stated
   pub decided : under.IsDecided (reading_under stated) policies entities request line
 
--- the first text that is refused, and why
+-- `IsSchemaDecisionRefused schema policies entities request refusal` holds if `refusal` is the first error of the
+-- texts.
 pub data IsSchemaDecisionRefused (schema policies entities request : List ℕ) (refusal : Refusal) : Type 0 where
   by_schema : IsSchemaRefused schema refusal → IsSchemaDecisionRefused schema policies entities request refusal
   under_schema : (s : StatedSchema) → IsSchemaOf schema s

@@ -8,7 +8,7 @@ pub mod Policies
 pub mod UnderSchema
 pub mod Decisions
 pub mod Outcomes
--- crates below, passed on to those above
+-- Specifications of lower crates, re-exported.
 pub use Rattle.decision_texts.specs as decision_texts
 pub use Rattle.decision_texts.specs.answer_lines
 pub use Rattle.decision_texts.specs.entity_data

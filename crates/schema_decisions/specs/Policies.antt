@@ -1,5 +1,5 @@
--- The first policy of a file that does not pass the validator under a schema.
--- Source: Cedar reference guide 4.0, "Policy validation". A rule of this product: policies are checked in the order of
+-- Defines the error of the first policy of a file that does not pass validation.
+-- Source: Cedar reference guide 4.0, "Policy validation". Rules of this product: policies are checked in the order of
 -- the file.
 use Rattle.std.specs.Prelude.{◌≡◌, ℕ, suc, List, ◌∷◌}
 use Rattle.entity_hierarchy.specs.policy_grammar.declared.policy.Policy.{Policy}
@@ -9,13 +9,14 @@ use Rattle.validator.specs.Passing.{Passes, IsCheckRefused}
 use Rattle.decision_texts.specs.answer_lines.declared.refusal.Refusal.{Refusal}
 use Rattle.schema_decisions.specs.CheckRefusals.{check_refusal}
 
--- the policy at this place does not pass, for this
+-- `IsUnpassed s place policy refusal` holds if `policy`, at the index `place`, does not pass, with error `refusal`.
 pub record IsUnpassed (s : StatedSchema) (place : ℕ) (policy : Policy) (refusal : Refusal) : Type 0 where
   pub fault : TypeFault
   pub due : IsCheckRefused s policy fault
   pub is : refusal ≡ check_refusal place fault
 
--- the first of these policies that does not pass, where the first of them stands at this place
+-- `FirstUnpassed s place policies refusal` holds if `refusal` is the error of the first of `policies` that does not
+-- pass, where `place` is the index of the first of them.
 pub data FirstUnpassed (s : StatedSchema) : ℕ → List Policy → Refusal → Type 0 where
   unpassed_here : {place : ℕ} {p : Policy} {ps : List Policy} {refusal : Refusal} → IsUnpassed s place p refusal
       → FirstUnpassed s place (p ∷ ps) refusal

@@ -1,5 +1,6 @@
--- What texts are read as under a schema. Rules of this product: a request may be decided by policies each of which
--- passes, and the schema's actions stand beside the entities, each with the parents that its `memberOf` states.
+-- Defines how texts are read under a schema.
+-- Rules of this product: a request is decided only if each policy passes validation; the schema's actions are added
+-- to the entities, each with the parents that its `memberOf` states.
 -- Source: Cedar reference guide 4.0, "Policy validation".
 use Rattle.std.specs.Prelude.{◌≡◌, All}
 use Rattle.serde_json.specs.Data.{Data}
@@ -13,12 +14,13 @@ use Rattle.decision_texts.specs.Settings.{Reading, told_by}
 use Rattle.schema_decisions.specs.Policies.{FirstUnpassed}
 use Rattle.schema_decisions.specs.Refusals.{entity_refusal}
 
--- the value states no request, and this is the first fault
+-- `IsRequestFault s d refusal` holds if the value `d` does not state a request, with first error `refusal`.
 pub record IsRequestFault (s : StatedSchema) (d : Data) (refusal : Refusal) : Type 0 where
   pub fault : EntityFault
   pub due : RequestRefused s d fault
   pub is : refusal ≡ entity_refusal fault
 
+-- `reading_under s` is the reading of texts under `s`.
 abbrev pub reading_under : StatedSchema → Reading
 reading_under s = record {
   admits = All (Passes s);

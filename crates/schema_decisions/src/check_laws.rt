@@ -1,11 +1,11 @@
-//! Laws of the definitions; the functions do nothing.
+//! Theorems about the definitions; their functions do nothing.
 ghost use Rattle.schema_decisions.specs.CheckOutcomes.{TextsHaveOneOutcome};
 
 use decision_texts::texts_have_one_reading;
 use validator::{bytes_have_one_outcome, policies_have_one_outcome};
 
-/// The texts of a schema and of policies come to exactly one thing: to lines, which tell of a refused policy or do not,
-/// or to one refusal.
+/// Proves that the texts of a schema and of policies have exactly one outcome: lines, and whether one of them is of a
+/// rejected policy; or one error. No-op.
 pub fn checks_have_one_outcome()
     ensures { TextsHaveOneOutcome }
 {

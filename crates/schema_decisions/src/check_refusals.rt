@@ -1,12 +1,12 @@
-//! The refusals of a schema's text and of policies that do not pass, told as [`decision_texts`] tells refusals: by a
-//! number, a place and the number of a refusal inside.
+//! Errors of a schema and of policies that do not pass validation, as [`Refusal`]s of [`decision_texts`]: a code, an
+//! index, and the code of an inner error.
 ghost use Rattle.std.specs.Prelude.{◌≡◌};
 ghost use Rattle.schema_decisions.specs.CheckRefusals.{schema_refusal, check_refusal};
 
 use decision_texts::Refusal;
 use validator::{SchemaFault, TypeFault};
 
-/// Returns a fault of the schema (20 to 25, or 1), which has no place.
+/// Converts an error of the schema (20 to 25, or 1); it has no place.
 pub fn schema_refusal(fault: SchemaFault) -> Refusal
     ensures { result ≡ schema_refusal fault }
 {
@@ -17,8 +17,8 @@ pub fn schema_refusal(fault: SchemaFault) -> Refusal
     }
 }
 
-/// Returns a fault of a policy that does not pass (40 to 46): the place is the policy's in its file, counted from 0.
-/// Want of memory (1) has no place.
+/// Converts an error of validation (40 to 46); its place is the policy's index in its file. `NoMemory` (1) has no
+/// place.
 pub fn check_refusal(place: usize, fault: TypeFault) -> Refusal
     ensures { result ≡ check_refusal place fault }
 {

@@ -1,4 +1,4 @@
-//! The texts of a schema and of policies, checked.
+//! Checks of policies under a schema, from bytes to lines.
 ghost use Rattle.std.specs.Prelude.{◌≡◌, ◌||◌, IfOk, IfErr};
 ghost use Rattle.validator.specs.schema.Views.{schema_view};
 ghost use Rattle.decision_texts.specs.answer_lines.Refusals.{no_memory};
@@ -15,7 +15,7 @@ use plain::NoMemory;
 use std::alloc::Global;
 use validator::{Schema, TypeFault, Verdict, check};
 
-/// Returns what a policy comes to.
+/// Returns the outcome of validating a policy.
 fn verdict_of(
     alloc: Global,
     schema: &Schema,
@@ -30,7 +30,7 @@ fn verdict_of(
     }
 }
 
-/// Returns whether a policy is refused.
+/// Returns whether the outcome is a rejection.
 fn refuses(verdict: Result<Verdict, TypeFault>) -> bool
     ensures { result ≡ is_refusal (outcome_of verdict) }
 {
@@ -46,7 +46,7 @@ fn either(first: bool, second: bool) -> bool
     first || second
 }
 
-/// Returns the lines of the policies, in their order, and whether one of them is refused.
+/// Returns the lines of the policies, in their order, and whether one of the policies is rejected.
 fn check_each(
     alloc: Global,
     schema: &Schema,
@@ -65,7 +65,7 @@ fn check_each(
     Ok((text, some_refused))
 }
 
-/// Returns the lines of a file's policies under a schema, and whether one of them is refused.
+/// Returns the lines of a file's policies under a schema, and whether one of the policies is rejected.
 fn check_file(alloc: Global, schema: &Schema, policies: &[u8]) -> Result<(Vec<u8>, bool), Refusal>
     ensures told { IfOk result (λ told. AreReportsOnFile (schema_view schema.now) policies.now told.0.items told.1) }
     ensures refused { IfErr result (λ r. (r ≡ no_memory → ⊥) → ArePoliciesRefused policies.now r) }
@@ -74,12 +74,21 @@ fn check_file(alloc: Global, schema: &Schema, policies: &[u8]) -> Result<(Vec<u8
     Ok(check_each(alloc, schema, &policies)?)
 }
 
-/// Returns what the policies of a file come to under a schema: a line for each, in the file's order, with a line end
-/// between each two, and whether one of them is refused.
+/// Validates the policies of a file under a schema; returns a line for each, and whether one of them is rejected.
 ///
-/// A line is `{"id":"policy0","verdict":"accepted"}`, the same with `"impossible"` where no request that conforms to
-/// the schema satisfies the policy, or `{"code":44,"id":"policy0","verdict":"refused"}`. Refused, in this order: the
-/// schema (20 to 25, without a place), the policies' text (10 to 19, at a byte). `NoMemory` (1) may come at any point.
+/// The lines have the order of the file, with a line feed between each two:
+///
+/// - `{"id":"policy0","verdict":"accepted"}`: the policy passes validation.
+/// - `{"id":"policy0","verdict":"impossible"}`: it passes, and no request that conforms to the schema satisfies it.
+/// - `{"code":44,"id":"policy0","verdict":"refused"}`: it does not pass; `code` is the error's (40 to 46).
+///
+/// # Errors
+///
+/// In this order; a policy that does not pass is not an error of the texts:
+///
+/// - 20 to 25, without a place: the schema.
+/// - 10 to 19, at a byte offset: the policies' text.
+/// - `NoMemory` (1): an allocation failed; possible at any point.
 pub fn check_texts(
     alloc: Global,
     schema: &[u8],

@@ -1,4 +1,4 @@
-//! The line of the answer to four texts: a schema, policies, entities and a request.
+//! The answer to four texts: a schema, policies, entities and a request.
 ghost use Rattle.std.specs.Prelude.{IfOk, IfErr};
 ghost use Rattle.plain.specs.Refused.{OrNoMemory};
 ghost use Rattle.decision_texts.specs.answer_lines.Refusals.{no_memory};
@@ -9,15 +9,24 @@ use crate::under_schema::UnderSchema;
 use decision_texts::{Refusal, decide_in};
 use std::alloc::Global;
 
-/// Returns the line of the answer to a request under a schema, over a file of policies and an array of entities, with
-/// the schema's actions beside them; or the first refusal.
+/// Returns the line of the answer to a request under a schema, over a file of policies and an array of entities, to
+/// which the schema's actions are added.
 ///
-/// Refused in this order: the schema (20 to 25, without a place); the file of policies (10 to 19, at a byte); in the
-/// file's order the first policy that does not pass (40 to 46, at the policy's place, from 0); the entities in their
-/// order (30 to 38, at the place in the array, from 0, or 30 without a place where there is no array), and 30 at the
-/// second of two entities of one uid; the request (30 to 39, without a place). `NoMemory` (1) may come at any point.
-/// The parents of an entity need not stand in the array, and cycles among entities are no fault: the answer is then a
+/// Parents of an entity may be absent from the array. Cycles among entities are not an error: the answer is then a
 /// denial that names the least cycle.
+///
+/// # Errors
+///
+/// The first of these, in this order:
+///
+/// - 20 to 25, without a place: the schema.
+/// - 10 to 19, at a byte offset: the file of policies.
+/// - 40 to 46, at the policy's index: the first policy, in the file's order, that does not pass validation.
+/// - 30 to 38, at the entity's index in the array: the first entity in error; 30 without a place if there is no
+///   array.
+/// - 30, at the index of the second: two entities have one uid.
+/// - 30 to 39, without a place: the request.
+/// - `NoMemory` (1): an allocation failed; possible at any point.
 ///
 /// Source: Cedar reference guide, "Authorization" and "Policy validation".
 pub fn decide_under(

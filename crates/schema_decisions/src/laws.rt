@@ -1,4 +1,4 @@
-//! Laws of the definitions; the functions do nothing.
+//! Theorems about the definitions; their functions do nothing.
 ghost use Rattle.schema_decisions.specs.Outcomes.{OneLine, NotBoth, OneRefusal, LineOrRefusal};
 ghost use Rattle.schema_decisions.specs.Outcomes.{ListsOfLinesAscend, MemberOfDecidesAlike};
 
@@ -8,9 +8,8 @@ use entity_hierarchy::{
 };
 use validator::policies_have_one_outcome;
 
-/// Proves that four texts come to exactly one thing, a line or a refusal; that the ids in an answer's line ascend; and
-/// that the answer is the same where an action has as parents what its `memberOf` states, and no more. It does nothing;
-/// its clauses are laws of the definitions.
+/// Proves that four texts have exactly one outcome, a line or an error; that the ids in an answer's line ascend; and
+/// that the answer stays the same if each action has only the parents that its `memberOf` states. No-op.
 pub fn texts_have_one_outcome()
     ensures one_line { OneLine }
     ensures not_both { NotBoth }

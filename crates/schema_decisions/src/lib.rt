@@ -1,4 +1,4 @@
-//! Decisions and checks under a schema, from bytes to a line: what each policy came to, an answer, or a refusal.
+//! Decisions and checks under a schema, from bytes to lines: answers, verdicts of policies, errors.
 #![tactic(auto)]
 
 mod check_laws;

@@ -1,4 +1,4 @@
-//! The line that tells what a policy came to.
+//! The line of a policy's verdict.
 ghost use Rattle.std.specs.Prelude.{◌≡◌, ◌++◌, [], IfOk};
 ghost use Rattle.serde_json.specs.View.{view};
 ghost use Rattle.schema_decisions.specs.Lines.{passed_json, refused_json, verdict_word, verdict_json, verdict_line};
@@ -41,7 +41,7 @@ fn verdict_value(
     }
 }
 
-/// Returns the line of a policy, without its line end.
+/// Returns the line of a policy's verdict, without a line feed.
 pub(crate) fn verdict_line(
     alloc: Global,
     id: &str,
@@ -53,7 +53,7 @@ pub(crate) fn verdict_line(
     write_json(alloc, &value)
 }
 
-/// Ends the line before the next one, unless that is the first.
+/// Appends a line feed, unless the next line is the first.
 fn end_line(text: &mut Vec<u8>, is_first: bool) -> Result<(), NoMemory>
     ensures { IfOk result (λ _. text.new.items ≡ text.old.items ++ set_apart is_first []) }
 {
@@ -64,7 +64,7 @@ fn end_line(text: &mut Vec<u8>, is_first: bool) -> Result<(), NoMemory>
     Ok(())
 }
 
-/// Adds a line behind those that there are.
+/// Appends a line; a line feed sets it apart from the lines before it.
 pub(crate) fn add_line(text: &mut Vec<u8>, is_first: bool, line: &[u8]) -> Result<(), NoMemory>
     ensures { IfOk result (λ _. text.new.items ≡ text.old.items ++ set_apart is_first line.now) }
 {

@@ -1,4 +1,4 @@
-//! The text of a schema, read.
+//! Parses the text of a schema.
 ghost use Rattle.std.specs.Prelude.{◌≡◌, IfOk, IfErr};
 ghost use Rattle.validator.specs.schema.Schemas.{IsSchemaOf};
 ghost use Rattle.validator.specs.schema.Views.{schema_view};
@@ -10,7 +10,11 @@ use decision_texts::Refusal;
 use std::alloc::Global;
 use validator::{Schema, read_schema};
 
-/// Returns the schema that bytes state, or the refusal (20 to 25), which has no place.
+/// Parses the schema that bytes state.
+///
+/// # Errors
+///
+/// The first error of the schema (20 to 25), or `NoMemory` (1); it has no place.
 pub fn schema_in(alloc: Global, bytes: &[u8]) -> Result<Schema, Refusal>
     ensures read { IfOk result (λ s. IsSchemaOf bytes.now (schema_view s)) }
     ensures refused { IfErr result (λ r. (r ≡ no_memory → ⊥) → IsSchemaRefused bytes.now r) }

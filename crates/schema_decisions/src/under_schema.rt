@@ -1,4 +1,4 @@
-//! Texts that are read under a schema.
+//! Reading of texts under a schema.
 ghost use Rattle.std.specs.Prelude.{◌≡◌, IfOk, IfErr};
 ghost use Rattle.serde_json.specs.View.{view};
 ghost use Rattle.json_words.specs.ReadsAs.{ReadsAs};
@@ -19,7 +19,7 @@ use serde_json::Value;
 use std::alloc::Global;
 use values::Request;
 
-/// Returns the entity that a value states, or the refusal.
+/// Returns the entity that a value states, or its first error.
 fn entity_in(alloc: Global, schema: &Schema, value: &Value) -> Result<Entity, Refusal>
     ensures { ReadsAs no_memory (λ e. e) result
         (told_by entity_refusal (entity_stated_in (schema_view schema.now) (view value.now))) }
@@ -30,7 +30,7 @@ fn entity_in(alloc: Global, schema: &Schema, value: &Value) -> Result<Entity, Re
     }
 }
 
-/// Returns the request that a value states, or the refusal.
+/// Returns the request that a value states, or its first error.
 fn request_in(alloc: Global, schema: &Schema, value: &Value) -> Result<Request, Refusal>
     ensures read { IfOk result (StatesRequest (schema_view schema.now) (view value.now)) }
     ensures refused { IfErr result
@@ -42,7 +42,7 @@ fn request_in(alloc: Global, schema: &Schema, value: &Value) -> Result<Request, 
     }
 }
 
-/// A schema, under which each policy has to pass, and whose actions stand beside the entities.
+/// A setting with a schema: each policy must pass validation, and the schema's actions are added to the entities.
 #[derive(Clone, Copy)]
 pub struct UnderSchema<'s> {
     /// The schema.

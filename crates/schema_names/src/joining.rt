@@ -1,10 +1,10 @@
 //! What several namespaces declare, in one.
-ghost use Rattle.std.specs.Prelude.{◌≡◌, ◌++◌, IfOk, Ok, map};
+ghost use Rattle.std.specs.Prelude.{◌≡◌, ◌++◌, IfOk, map};
 ghost use Rattle.schema_names.specs.Qualifying.{both, together};
 ghost use Rattle.schema_names.specs.FoundViews.{found_view};
 
 use crate::qualifying::Found;
-use plain::{Items, NoMemory};
+use plain::{Items, NoMemory, both};
 use std::alloc::Global;
 
 /// Returns the items of the one list and then those of the other.
@@ -15,19 +15,6 @@ fn append<T: Drop>(items: Items<T>, more: Items<T>) -> Result<Items<T>, NoMemory
     let mut rest = more.into_vec();
     whole.append(&mut rest)?;
     Ok(Items::from_vec(whole))
-}
-
-/// Two values, where both are there.
-fn both<A: Drop, B: Drop>(
-    first: Result<A, NoMemory>,
-    second: Result<B, NoMemory>,
-) -> Result<(A, B), NoMemory>
-    ensures first { IfOk result (λ pair. first ≡ Ok pair.0) }
-    ensures second { IfOk result (λ pair. second ≡ Ok pair.1) }
-{
-    let first = first?;
-    let second = second?;
-    Ok((first, second))
 }
 
 /// Returns what the one declares and then what the other declares.

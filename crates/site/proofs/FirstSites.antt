@@ -5,7 +5,7 @@ use Rattle.std.proofs.lemmas.List.{length-append}
 use Rattle.site_steps.specs.stamped_store.SiteNames.{IsSiteName, SiteDigitsAreNames, five_digits}
 use Rattle.site.specs.Sites.{SiteName, AreSites, first_sites}
 
--- what stands at a place stood there before, or is the last
+-- an item of the list is one of the list before, or the last
 pushed_at : {X : Type 0} (xs : List X) (x : X) (k : ℕ) (y : X) → slice_get (xs ++ x ∷ []) k ≡ Some y
     → (slice_get xs k ≡ Some y) ⊎ ((k ≡ length xs) × (x ≡ y))
 pushed_at [] x zero y h = inr (refl, cc)

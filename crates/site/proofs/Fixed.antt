@@ -1,4 +1,4 @@
--- Events and answers together fix a world.
+-- Events and replies together determine a system.
 use Rattle.std.proofs.Common.{◌≡◌, ◌∙◌, ℕ, List, [], ◌∷◌, ◌++◌, Option, Some, None, Result, Ok, Err, refl, sym, ap}
 use Rattle.std.proofs.Common.{subst}
 use Rattle.std.specs.Prelude.{length, option_map, slice_get}
@@ -13,8 +13,8 @@ use Rattle.site_steps.specs.Inputs as input
 use Rattle.site_steps.specs.declared.reply.Reply.{Reply}
 use Rattle.site_steps.specs.declared.reply.Reply.TheVariants as reply
 use Rattle.site_steps.specs.Runs.{Step, Run, took, Writes, WritesDelta}
-use Rattle.site.specs.declared.event.Deed.{Deed}
-use Rattle.site.specs.declared.event.Deed.TheVariants as deed
+use Rattle.site.specs.declared.event.Operation.{Operation}
+use Rattle.site.specs.declared.event.Operation.TheVariants as operation
 use Rattle.site.specs.declared.event.Event.{Event}
 use Rattle.site.specs.declared.event.EventReply.{EventReply}
 use Rattle.site.specs.declared.event.EventReply.TheVariants.{Replied, Message, Summary}
@@ -41,21 +41,21 @@ summary_fault f g e = cc
 
 module _ (Is : Made → Type 0) (one : (a b : List ℕ) → Is (Ok a) → Is (Ok b) → a ≡ b) (m n : ℕ) where
   offered : (x y : Made) → Is x → Is y
-      → answer_among m n deed.Offer (reply.Written x) ≡ answer_among m n deed.Offer (reply.Written y) → x ≡ y
+      → answer_among m n operation.Offer (reply.Written x) ≡ answer_among m n operation.Offer (reply.Written y) → x ≡ y
   offered (Ok a) (Ok b) h k e = ap (λ (z : List ℕ). Ok z) (one a b h k)
   offered (Ok a) (Err g) h k e = absurd cc
   offered (Err f) (Ok b) h k e = absurd cc
   offered (Err f) (Err g) h k e = ap (λ (z : SiteFault). Err z) (message_fault f g e)
 
   delta_offered : (place : ℕ) (x y : Made) → Is x → Is y
-      → answer_among m n (deed.OfferDelta place) (reply.Written x) ≡ answer_among m n (deed.OfferDelta place) (reply.Written y) → x ≡ y
+      → answer_among m n (operation.OfferDelta place) (reply.Written x) ≡ answer_among m n (operation.OfferDelta place) (reply.Written y) → x ≡ y
   delta_offered place (Ok a) (Ok b) h k e = ap (λ (z : List ℕ). Ok z) (one a b h k)
   delta_offered place (Ok a) (Err g) h k e = absurd cc
   delta_offered place (Err f) (Ok b) h k e = absurd cc
   delta_offered place (Err f) (Err g) h k e = ap (λ (z : SiteFault). Err z) (message_fault f g e)
 
   summarised : (x y : Made) → Is x → Is y
-      → answer_among m n deed.Summary (reply.Written x) ≡ answer_among m n deed.Summary (reply.Written y) → x ≡ y
+      → answer_among m n operation.Summary (reply.Written x) ≡ answer_among m n operation.Summary (reply.Written y) → x ≡ y
   summarised (Ok a) (Ok b) h k e = ap (λ (z : List ℕ). Ok z) (one a b h k)
   summarised (Ok a) (Err g) h k e = absurd cc
   summarised (Err f) (Ok b) h k e = absurd cc
@@ -102,10 +102,10 @@ module _ (schema : StatedSchema) (name : SiteName) (s : Store) where
 
   -- ---- the answer fixes the reply
   module _ (m n : ℕ) (r x : Reply) (t u : Store) where
-    abbrev AnswersAlike : Deed → Type 0
+    abbrev AnswersAlike : Operation → Type 0
     AnswersAlike d = answer_among m n d r ≡ answer_among m n d x
 
-    rewritten : (d : Deed) (a b : Made) → r ≡ reply.Written a → x ≡ reply.Written b → AnswersAlike d
+    rewritten : (d : Operation) (a b : Made) → r ≡ reply.Written a → x ≡ reply.Written b → AnswersAlike d
         → answer_among m n d (reply.Written a) ≡ answer_among m n d (reply.Written b)
     rewritten d a b is are e =
         sym (ap (λ (z : Reply). answer_among m n d z) is) ∙ e ∙ ap (λ (z : Reply). answer_among m n d z) are
@@ -113,27 +113,27 @@ module _ (schema : StatedSchema) (name : SiteName) (s : Store) where
     joined : (a b : Made) → r ≡ reply.Written a → x ≡ reply.Written b → a ≡ b → r ≡ x
     joined a b is are same = is ∙ ap (λ (z : Made). reply.Written z) same ∙ sym are
 
-    by_offer : Step schema name s input.State r t → Step schema name s input.State x u → AnswersAlike deed.Offer → r ≡ x
+    by_offer : Step schema name s input.State r t → Step schema name s input.State x u → AnswersAlike operation.Offer → r ≡ x
     by_offer h k e =
         let a = state_written r t h in
         let b = state_written x u k in
         joined a.0 b.0 a.1 b.1 (offered (Writes (state_text schema.label s)) (one_text (state_text schema.label s)) m n a.0 b.0 a.2 b.2
-        (rewritten deed.Offer a.0 b.0 a.1 b.1 e))
+        (rewritten operation.Offer a.0 b.0 a.1 b.1 e))
 
-    by_summary : Step schema name s input.Summary r t → Step schema name s input.Summary x u → AnswersAlike deed.Summary → r ≡ x
+    by_summary : Step schema name s input.Summary r t → Step schema name s input.Summary x u → AnswersAlike operation.Summary → r ≡ x
     by_summary h k e =
         let text = summary_text schema.label (deltas.summary_of s) in
         let a = summary_written r t h in
         let b = summary_written x u k in
-        joined a.0 b.0 a.1 b.1 (summarised (Writes text) (one_text text) m n a.0 b.0 a.2 b.2 (rewritten deed.Summary a.0 b.0 a.1 b.1 e))
+        joined a.0 b.0 a.1 b.1 (summarised (Writes text) (one_text text) m n a.0 b.0 a.2 b.2 (rewritten operation.Summary a.0 b.0 a.1 b.1 e))
 
     by_delta : (place : ℕ) (bytes : List ℕ) → Step schema name s (input.Delta bytes) r t → Step schema name s (input.Delta bytes) x u
-        → AnswersAlike (deed.OfferDelta place) → r ≡ x
+        → AnswersAlike (operation.OfferDelta place) → r ≡ x
     by_delta place bytes h k e =
         let a = delta_written bytes r t h in
         let b = delta_written bytes x u k in
         joined a.0 b.0 a.1 b.1 (delta_offered (WritesDelta schema s bytes) (one_delta bytes) m n place a.0 b.0 a.2 b.2
-        (rewritten (deed.OfferDelta place) a.0 b.0 a.1 b.1 e))
+        (rewritten (operation.OfferDelta place) a.0 b.0 a.1 b.1 e))
 
 summary_found : (o : Option SentSummary) (i : Input) → option_map input.Delta (option_map (λ (m : SentSummary). m.bytes) o) ≡ Some i
     → (bytes : List ℕ) × (i ≡ input.Delta bytes)
@@ -141,28 +141,28 @@ summary_found None i h = absurd cc
 summary_found (Some m) i h = (m.bytes, cc)
 
 module _ (schema : StatedSchema) (w : World) (name : SiteName) (s : Store) (r x : Reply) (t u : Store) (i : Input) where
-  reply_same : (d : Deed) → input_of w d ≡ Some i → Step schema name s i r t → Step schema name s i x u
+  reply_same : (d : Operation) → input_of w d ≡ Some i → Step schema name s i r t → Step schema name s i x u
       → answer_of w d r ≡ answer_of w d x → r ≡ x
-  reply_same (deed.PutPolicy id text) is h k e = replied_same r x e
-  reply_same (deed.DeletePolicy id) is h k e = replied_same r x e
-  reply_same (deed.PutEntity bytes) is h k e = replied_same r x e
-  reply_same (deed.DeleteEntity uid) is h k e = replied_same r x e
-  reply_same (deed.Authorize bytes) is h k e = replied_same r x e
-  reply_same (deed.Deliver place) is h k e = replied_same r x e
-  reply_same deed.Summary is h k e =
+  reply_same (operation.PutPolicy id text) is h k e = replied_same r x e
+  reply_same (operation.DeletePolicy id) is h k e = replied_same r x e
+  reply_same (operation.PutEntity bytes) is h k e = replied_same r x e
+  reply_same (operation.DeleteEntity uid) is h k e = replied_same r x e
+  reply_same (operation.Authorize bytes) is h k e = replied_same r x e
+  reply_same (operation.Deliver place) is h k e = replied_same r x e
+  reply_same operation.Summary is h k e =
       let same : i ≡ input.Summary = cc in
       by_summary schema name s (length w.messages) (length w.summaries) r x t u (subst (λ (j : Input). Step schema name s j r t) same h)
       (subst (λ (j : Input). Step schema name s j x u) same k) e
-  reply_same deed.Offer is h k e =
+  reply_same operation.Offer is h k e =
       let same : i ≡ input.State = cc in
       by_offer schema name s (length w.messages) (length w.summaries) r x t u (subst (λ (j : Input). Step schema name s j r t) same h)
       (subst (λ (j : Input). Step schema name s j x u) same k) e
-  reply_same (deed.OfferDelta place) is h k e =
+  reply_same (operation.OfferDelta place) is h k e =
       let found = summary_found (slice_get w.summaries place) i is in
       by_delta schema name s (length w.messages) (length w.summaries) r x t u place found.0 (subst (λ (j : Input). Step schema name s j r t) found.1 h)
       (subst (λ (j : Input). Step schema name s j x u) found.1 k) e
 
--- a run leaves the store of what was there and of what it took
+-- a run leaves the store of the updates before and of those that it applied
 abbrev LeavesWhatItTook : StatedSchema → Type 0
 LeavesWhatItTook schema = (n : SiteName) (s : Store) (inputs : List Input) (replies : List Reply) (t : Store)
     → Run schema n s inputs replies t → t ≡ store_of (updates s ++ took schema inputs replies)
@@ -172,10 +172,10 @@ module _ (schema : StatedSchema) (left : LeavesWhatItTook schema) (sites : List 
   one_store n s i r t u h k = left n s (i ∷ []) (r ∷ []) t (t, h, refl) ∙ sym (left n s (i ∷ []) (r ∷ []) u (u, k, refl))
 
   module _ (w : World) (e : Event) (a : EventReply) (v v2 : World) where
-    there : (o : Option SiteName) (p : Option Store) (q : Option Input) → input_of w e.deed ≡ q
+    there : (o : Option SiteName) (p : Option Store) (q : Option Input) → input_of w e.operation ≡ q
         → HappensAt schema w e o p q a v → HappensAt schema w e o p q a v2 → v ≡ v2
     there (Some n) (Some s) (Some i) is h k =
-        let replies = reply_same schema w n s h.reply k.reply h.store k.store i e.deed is h.step k.step (sym h.answer ∙ k.answer) in
+        let replies = reply_same schema w n s h.reply k.reply h.store k.store i e.operation is h.step k.step (sym h.answer ∙ k.answer) in
         let stores = one_store n s i k.reply h.store k.store (subst (λ (z : Reply). Step schema n s i z h.store) replies h.step) k.step in
         h.leaves ∙ ap (λ (z : Reply). after w e s z h.store) replies ∙ ap (λ (z : Store). after w e s k.reply z) stores ∙ sym k.leaves
     there (Some n) (Some s) None is h k = h.1 ∙ sym k.1
@@ -183,7 +183,7 @@ module _ (schema : StatedSchema) (left : LeavesWhatItTook schema) (sites : List 
     there None p q is h k = h.1 ∙ sym k.1
 
     happens_once : Happens schema sites w e a v → Happens schema sites w e a v2 → v ≡ v2
-    happens_once h k = there (numbered sites e.site) (numbered w.stores e.site) (input_of w e.deed) refl h.happens k.happens
+    happens_once h k = there (numbered sites e.site) (numbered w.stores e.site) (input_of w e.operation) refl h.happens k.happens
 
   leads_once : (w : World) (es : List Event) (rs : List EventReply) (v v2 : World) → Leads schema sites w es rs v
       → Leads schema sites w es rs v2 → v ≡ v2

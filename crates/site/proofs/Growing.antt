@@ -1,4 +1,4 @@
--- What a store has after updates entered.
+-- The entries of a store after updates are joined into it.
 use Rattle.std.specs.Prelude.{◌≡◌, ◌≤◌, ◌⊎◌, ◌&&◌, ◌∷◌, ◌++◌, [], ℕ, zero, suc, List, set, slice_get, Bool, true, false}
 use Rattle.std.specs.Prelude.{T, cond}
 use Rattle.std.specs.Prelude.{Option, Some, None, Contains, refl}
@@ -78,7 +78,7 @@ module _ (law : StoreLaws) where
   pub has_one : (us : List Update) (u : Update) → Has (store_of us) u → Contains us u
   has_one us u h = (subst (λ (a : Option PlainEntry). IsGreatestAt entry_cmp us u.0 a) h (law.greatest us u.0)).0
 
-  -- an entry that is there was there before, or is one of the updates that entered
+  -- an entry of the new store was there before, or is one of the joined updates
   pub has_more : (s : Store) (us : List Update) (u : Update) → Has (store_of (updates s ++ us)) u → Has s u ⊎ Contains us u
   has_more s us u h = elim (Contains-append_cases (updates s) us u (has_one (updates s ++ us) u h)) [
     | inl there ↦ inl (has_update s u there)
@@ -113,7 +113,7 @@ get_set [] k x y h = absurd cc
 get_set (z ∷ xs) zero x y h = refl
 get_set (z ∷ xs) (suc k) x y h = get_set xs k x y h
 
--- what stands at a place after a write is what was written there, or what stood there at another place
+-- an item after a write is what was written, or was at that index before
 pub set_cases : {X : Type 0} (xs : List X) (k j : ℕ) (x y : X) → slice_get (set xs k x) j ≡ Some y → ((j ≡ k) × (x ≡ y)) ⊎ (slice_get xs j ≡ Some y)
 set_cases [] k j x y h = inr h
 set_cases (z ∷ xs) zero zero x y h = inl (refl, cc)
@@ -124,7 +124,7 @@ set_cases (z ∷ xs) (suc k) (suc j) x y h = elim (set_cases xs k j x y h) [
   | inr there ↦ inr there
 ]
 
--- the last of a list that was pushed, or one before
+-- the last item of a list that was pushed to, or one before
 pub pushed_get : {X : Type 0} (xs : List X) (x : X) (k : ℕ) (m : X) → slice_get (xs ++ x ∷ []) k ≡ Some m → (slice_get xs k ≡ Some m) ⊎ (x ≡ m)
 pushed_get [] x zero m h = inr cc
 pushed_get [] x (suc k) m h = absurd cc

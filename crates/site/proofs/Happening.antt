@@ -1,4 +1,4 @@
--- One event keeps the invariant, whatever it is and however it is answered.
+-- One event keeps the invariant, whatever it is and whatever its reply.
 use Rattle.std.specs.Prelude.{◌≡◌, ◌∷◌, ◌++◌, [], ℕ, zero, suc, true, List, map, slice_get, Option, Some, None}
 use Rattle.std.specs.Prelude.{option_map, Result, Ok, Err, Contains, refl}
 use Rattle.std.proofs.Common.{sym, ap, ◌∙◌, subst, append-nil}
@@ -18,8 +18,8 @@ use Rattle.site_steps.specs.Inputs as input
 use Rattle.site_steps.specs.declared.reply.Reply.{Reply}
 use Rattle.site_steps.specs.declared.reply.Reply.TheVariants as reply
 use Rattle.site_steps.specs.Runs.{Step, took_by}
-use Rattle.site.specs.declared.event.Deed.{Deed}
-use Rattle.site.specs.declared.event.Deed.TheVariants as deed
+use Rattle.site.specs.declared.event.Operation.{Operation}
+use Rattle.site.specs.declared.event.Operation.TheVariants as operation
 use Rattle.site.specs.declared.event.Event.{Event}
 use Rattle.site.specs.declared.event.EventReply.{EventReply}
 use Rattle.site.specs.declared.event.EventReply.TheVariants.{Unknown}
@@ -45,7 +45,7 @@ IsOfMessage label m = m.bytes ≡ text_since label m.whole m.since
 abbrev pub IsOfSummary : List ℕ → SentSummary → Type 0
 IsOfSummary label m = m.bytes ≡ summary_text label (deltas.summary_of m.store)
 
--- from the laws of the crates below
+-- by the theorems of lower crates
 pub record SendingLaws (label : List ℕ) : Type 0 where
   pub states_read : (s : Store) → AreInRange (updates s) → AreTexts (updates s) → updates_stated label (state_text label s) ≡ Ok (updates s)
   pub deltas_read : (s : Store) → AreInRange (updates s) → AreTexts (updates s) → updates_stated label (delta_text label s) ≡ Ok (updates s)
@@ -148,10 +148,10 @@ module _ (schema : StatedSchema) (sites : List SiteName) (are : AreSites sites) 
       left_same : (x : Input) (r : Reply) (t : Store) → took_by schema x r ≡ [] → Step schema n s x r t → t ≡ s
       left_same x r t none h = unchanged schema commands s t (step_leaves schema commands n s x r t h ∙ ap (λ us. store_of (updates s ++ us)) none)
 
-      abbrev Event_at : Deed → Event
-      Event_at d = record { site = i; deed = d }
+      abbrev Event_at : Operation → Event
+      Event_at d = record { site = i; operation = d }
 
-      abbrev KeepsWith : Deed → Reply → Store → Type 0
+      abbrev KeepsWith : Operation → Reply → Store → Type 0
       KeepsWith d r t = KeepsAll (log ++ issues_of schema sites (Event_at d) (answer_of w d r)) (after w (Event_at d) s r t)
 
       made_state : (m : SentMessage) (t : Store) → t ≡ s → m.whole ≡ s
@@ -161,7 +161,7 @@ module _ (schema : StatedSchema) (sites : List SiteName) (are : AreSites sites) 
           keeps_message sites (IsFit schema) (IsOfSummary schema.label) (IsOfMessage schema.label) stores are log w K i s t at same m is there made
 
       -- a state
-      offered : (r : Reply) (t : Store) → Step schema n s input.State r t → KeepsWith deed.Offer r t
+      offered : (r : Reply) (t : Store) → Step schema n s input.State r t → KeepsWith operation.Offer r t
       offered (reply.Written (Ok bytes)) t h = made_state (record { bytes = bytes; whole = s; since = None }) t h.1 refl (λ old e. absurd (never old e)) h.0
         where
           never : (old : SentSummary) → None ≡ Some old → ⊥
@@ -174,7 +174,7 @@ module _ (schema : StatedSchema) (sites : List SiteName) (are : AreSites sites) 
       offered (reply.Found r) t h = absurd h
 
       -- a summary
-      summed : (r : Reply) (t : Store) → Step schema n s input.Summary r t → KeepsWith deed.Summary r t
+      summed : (r : Reply) (t : Store) → Step schema n s input.Summary r t → KeepsWith operation.Summary r t
       summed (reply.Written (Ok bytes)) t h =
           keeps_summary sites (IsFit schema) (IsOfSummary schema.label) (IsOfMessage schema.label) stores are log w K i s t at h.1
           (record { bytes = bytes; site = i; store = s }) refl refl h.0
@@ -191,7 +191,7 @@ module _ (schema : StatedSchema) (sites : List SiteName) (are : AreSites sites) 
 
       -- a delta
       offered_since : (k : ℕ) (old : SentSummary) (r : Reply) (t : Store) → slice_get w.summaries k ≡ Some old
-          → Step schema n s (input.Delta old.bytes) r t → KeepsWith (deed.OfferDelta k) r t
+          → Step schema n s (input.Delta old.bytes) r t → KeepsWith (operation.OfferDelta k) r t
       offered_since k old (reply.Written (Ok bytes)) t is h =
           let same : h.0.0 ≡ deltas.summary_of old.store = ok_same h.0.0 (deltas.summary_of old.store) (summary_stated schema.label old.bytes) h.0.1 (noted_read k old is) in
           let made : bytes ≡ delta_text schema.label (deltas.delta s (deltas.summary_of old.store)) = h.0.2 ∙ ap (λ (m : deltas.Summary). delta_text schema.label (deltas.delta s m)) same in
@@ -207,53 +207,53 @@ module _ (schema : StatedSchema) (sites : List SiteName) (are : AreSites sites) 
 
       -- a delivery
       delivered : (k : ℕ) (m : SentMessage) (r : Reply) (t : Store) → slice_get w.messages k ≡ Some m
-          → Step schema n s (input.Take m.bytes) r t → KeepsWith (deed.Deliver k) r t
+          → Step schema n s (input.Take m.bytes) r t → KeepsWith (operation.Deliver k) r t
       delivered k m r t is h = subst (λ (l : List Issue). KeepsAll (log ++ l) (leaves t [] [])) (sym none_issued)
           (keeps_taken sites (IsFit schema) (IsOfSummary schema.label) (IsOfMessage schema.label) stores are log w K i s t at
           (took_by schema (input.Take m.bytes) r) (step_leaves schema commands n s (input.Take m.bytes) r t h)
           (λ u c. message_known k m is u (has_update (content m) u (from_message schema m.bytes (updates (content m)) r (message_read k m is) u c))))
 
       -- ---- whichever it is
-      finish : (d : Deed) (x : Input) (a : EventReply) (v : World) (h : IsStepAt schema w (Event_at d) n s x a v) → KeepsWith d h.reply h.store
+      finish : (d : Operation) (x : Input) (a : EventReply) (v : World) (h : IsStepAt schema w (Event_at d) n s x a v) → KeepsWith d h.reply h.store
           → KeepsAll (log ++ issues_of schema sites (Event_at d) a) v
       finish d x a v h k =
           subst (λ (b : EventReply). KeepsAll (log ++ issues_of schema sites (Event_at d) b) v) (sym h.answer)
           (subst (KeepsAll (log ++ issues_of schema sites (Event_at d) (answer_of w d h.reply))) (sym h.leaves) k)
 
-      unknown : (d : Deed) (a : EventReply) (v : World) → (a ≡ Unknown) × (v ≡ w) → KeepsAll (log ++ issues_of schema sites (Event_at d) a) v
+      unknown : (d : Operation) (a : EventReply) (v : World) → (a ≡ Unknown) × (v ≡ w) → KeepsAll (log ++ issues_of schema sites (Event_at d) a) v
       unknown d a v h =
           subst (λ (b : EventReply). KeepsAll (log ++ issues_of schema sites (Event_at d) b) v) (sym h.0)
           (subst (λ (l : List Issue). KeepsAll l v) (sym (append-nil log)) (subst (KeepsAll log) (sym h.1) K))
 
       since_there : (k : ℕ) (o : Option SentSummary) (a : EventReply) (v : World) → slice_get w.summaries k ≡ o
-          → HappensAt schema w (Event_at (deed.OfferDelta k)) (Some n) (Some s) (option_map input.Delta (option_map (λ (m : SentSummary). m.bytes) o)) a v
-          → KeepsAll (log ++ issues_of schema sites (Event_at (deed.OfferDelta k)) a) v
-      since_there k None a v is h = unknown (deed.OfferDelta k) a v h
-      since_there k (Some old) a v is h = finish (deed.OfferDelta k) (input.Delta old.bytes) a v h (offered_since k old h.reply h.store is h.step)
+          → HappensAt schema w (Event_at (operation.OfferDelta k)) (Some n) (Some s) (option_map input.Delta (option_map (λ (m : SentSummary). m.bytes) o)) a v
+          → KeepsAll (log ++ issues_of schema sites (Event_at (operation.OfferDelta k)) a) v
+      since_there k None a v is h = unknown (operation.OfferDelta k) a v h
+      since_there k (Some old) a v is h = finish (operation.OfferDelta k) (input.Delta old.bytes) a v h (offered_since k old h.reply h.store is h.step)
 
       message_there : (k : ℕ) (o : Option SentMessage) (a : EventReply) (v : World) → slice_get w.messages k ≡ o
-          → HappensAt schema w (Event_at (deed.Deliver k)) (Some n) (Some s) (option_map input.Take (option_map (λ (m : SentMessage). m.bytes) o)) a v
-          → KeepsAll (log ++ issues_of schema sites (Event_at (deed.Deliver k)) a) v
-      message_there k None a v is h = unknown (deed.Deliver k) a v h
-      message_there k (Some m) a v is h = finish (deed.Deliver k) (input.Take m.bytes) a v h (delivered k m h.reply h.store is h.step)
+          → HappensAt schema w (Event_at (operation.Deliver k)) (Some n) (Some s) (option_map input.Take (option_map (λ (m : SentMessage). m.bytes) o)) a v
+          → KeepsAll (log ++ issues_of schema sites (Event_at (operation.Deliver k)) a) v
+      message_there k None a v is h = unknown (operation.Deliver k) a v h
+      message_there k (Some m) a v is h = finish (operation.Deliver k) (input.Take m.bytes) a v h (delivered k m h.reply h.store is h.step)
 
-      pub keeps_there : (d : Deed) (a : EventReply) (v : World) → HasTexts d → HappensAt schema w (Event_at d) (Some n) (Some s) (input_of w d) a v
+      pub keeps_there : (d : Operation) (a : EventReply) (v : World) → HasTexts d → HappensAt schema w (Event_at d) (Some n) (Some s) (input_of w d) a v
           → KeepsAll (log ++ issues_of schema sites (Event_at d) a) v
-      keeps_there (deed.PutPolicy id text) a v written h = finish (deed.PutPolicy id text) (input.PutPolicy id text) a v h
+      keeps_there (operation.PutPolicy id text) a v written h = finish (operation.PutPolicy id text) (input.PutPolicy id text) a v h
           (commanded h.store (took_by schema (input.PutPolicy id text) h.reply)
           (policy_put schema commands n (named_at sites are i n here) s h.store fit_there id text h.reply written.0 written.1 h.step))
-      keeps_there (deed.DeletePolicy id) a v written h = finish (deed.DeletePolicy id) (input.DeletePolicy id) a v h
+      keeps_there (operation.DeletePolicy id) a v written h = finish (operation.DeletePolicy id) (input.DeletePolicy id) a v h
           (commanded h.store (took_by schema (input.DeletePolicy id) h.reply)
           (policy_deleted schema commands n (named_at sites are i n here) s h.store fit_there id h.reply h.step))
-      keeps_there (deed.PutEntity bytes) a v written h = finish (deed.PutEntity bytes) (input.PutEntity bytes) a v h
+      keeps_there (operation.PutEntity bytes) a v written h = finish (operation.PutEntity bytes) (input.PutEntity bytes) a v h
           (commanded h.store (took_by schema (input.PutEntity bytes) h.reply)
           (entity_put schema commands n (named_at sites are i n here) s h.store bytes h.reply h.step))
-      keeps_there (deed.DeleteEntity uid) a v written h = finish (deed.DeleteEntity uid) (input.DeleteEntity uid) a v h
+      keeps_there (operation.DeleteEntity uid) a v written h = finish (operation.DeleteEntity uid) (input.DeleteEntity uid) a v h
           (commanded h.store (took_by schema (input.DeleteEntity uid) h.reply)
           (entity_deleted schema commands n (named_at sites are i n here) s h.store fit_there uid h.reply h.step))
-      keeps_there (deed.Authorize bytes) a v written h = finish (deed.Authorize bytes) (input.Authorize bytes) a v h
+      keeps_there (operation.Authorize bytes) a v written h = finish (operation.Authorize bytes) (input.Authorize bytes) a v h
           (asked h.store (left_same (input.Authorize bytes) h.reply h.store refl h.step))
-      keeps_there deed.Summary a v written h = finish deed.Summary input.Summary a v h (summed h.reply h.store h.step)
-      keeps_there deed.Offer a v written h = finish deed.Offer input.State a v h (offered h.reply h.store h.step)
-      keeps_there (deed.OfferDelta k) a v written h = since_there k (slice_get w.summaries k) a v refl h
-      keeps_there (deed.Deliver k) a v written h = message_there k (slice_get w.messages k) a v refl h
+      keeps_there operation.Summary a v written h = finish operation.Summary input.Summary a v h (summed h.reply h.store h.step)
+      keeps_there operation.Offer a v written h = finish operation.Offer input.State a v h (offered h.reply h.store h.step)
+      keeps_there (operation.OfferDelta k) a v written h = since_there k (slice_get w.summaries k) a v refl h
+      keeps_there (operation.Deliver k) a v written h = message_there k (slice_get w.messages k) a v refl h

@@ -1,5 +1,5 @@
--- What holds in a world at every moment: its entries were issued at the sites that their stamps name, equal stamps mean
--- equal updates, and each site is above all that was issued there and above each of its summaries.
+-- The invariant of a system: its entries were issued at the sites that their stamps name, equal stamps mean equal
+-- updates, and each site's store is at least all that was issued there and each of its summaries.
 use Rattle.std.specs.Prelude.{◌≡◌, ◌≤◌, ◌+◌, ◌⊎◌, ◌∷◌, ◌++◌, [], ℕ, zero, suc, List, map, slice_get, true, Option, Some}
 use Rattle.std.specs.Prelude.{None, Contains, refl}
 use Rattle.std.proofs.Common.{sym, ap, ◌∙◌, subst, arith, inl, inr, append-nil}
@@ -41,7 +41,7 @@ one_place sites are (suc j) (suc k) n h i = ap suc (are.distinct j k n h i)
 pub some_same : {X : Type 0} (x y : X) → Some x ≡ Some y → x ≡ y
 some_same x y h = cc
 
--- one of two lists, told apart by place
+-- an item of one of two lists, by its index
 append_get : {X : Type 0} (xs ys : List X) (k : ℕ) (y : X) → slice_get (xs ++ ys) k ≡ Some y → (slice_get xs k ≡ Some y) ⊎ ((j : ℕ) × (slice_get ys j ≡ Some y))
 append_get [] ys k y h = inr (k, h)
 append_get (x ∷ xs) ys zero y h = inl h
@@ -55,13 +55,13 @@ no_place k y h = cc
 abbrev pub AllIssued : List Issue → Store → Type 0
 AllIssued log s = (u : Update) → Has s u → WasIssued log u
 
--- of what was issued equal stamps mean equal updates
+-- among what was issued, equal stamps mean equal updates
 abbrev pub HaveOneUpdateForAStamp : List Issue → Type 0
 HaveOneUpdateForAStamp log = (u v : Update) → WasIssued log u → WasIssued log v → u.1.count ≡ v.1.count → u.1.site ≡ v.1.site → u ≡ v
 
 -- `Fits` holds of each update that is issued, `IsOfSummary` and `IsOfMessage` of what was made, whatever comes later
 module _ (sites : List SiteName) (Fits : Update → Type 0) (IsOfSummary : SentSummary → Type 0) (IsOfMessage : SentMessage → Type 0) where
-  -- a summary that was made: its site is above what it was
+  -- a summary that was made: its site's store is at least what it was
   pub record IsNoted (log : List Issue) (stores : List Store) (m : SentSummary) : Type 0 where
     pub known : AllIssued log m.store
     pub later : (s : Store) → numbered stores m.site ≡ Some s → IsStoreBelow m.store s
@@ -171,7 +171,7 @@ module _ (sites : List SiteName) (Fits : Update → Type 0) (IsOfSummary : SentS
         fits = λ u c. elim (Contains-append_cases log more (u.1.site, u) c) [ inl old ↦ K.fits u old | inr late ↦ fits u late ];
       }
 
-    -- what issues nothing
+    -- an event that issues nothing
     module _ (log : List Issue) (w : World) (K : Keeps log w) (k : ℕ) (s t : Store) (at : numbered w.stores k ≡ Some s) where
       old_log : (u : Update) → WasIssued (log ++ []) u → WasIssued log u
       old_log u h = subst (λ (l : List Issue). WasIssued l u) (append-nil log) h
@@ -190,7 +190,7 @@ module _ (sites : List SiteName) (Fits : Update → Type 0) (IsOfSummary : SentS
           (λ u c. absurd (none_issued u c))
           sends notes
 
-      -- updates that were issued enter
+      -- issued updates are joined
       pub keeps_taken : (us : List Update) → t ≡ store_of (updates s ++ us) → ((u : Update) → Contains us u → WasIssued log u)
           → Keeps (log ++ []) (record { stores = set_numbered w.stores k t; messages = w.messages ++ []; summaries = w.summaries ++ [] })
       keeps_taken us is known = keeps_unissued
@@ -243,7 +243,7 @@ module _ (sites : List SiteName) (Fits : Update → Type 0) (IsOfSummary : SentS
             of_one zero x h = subst (IsNoted (log ++ []) (set_numbered w.stores k t)) (some_same m x h) (noted_after log [] w K k s t at up m noted_now)
             of_one (suc j) x h = absurd (no_place j x h)
 
-    -- a command is given a stamp
+    -- a command gets a stamp
     module _ (log : List Issue) (w : World) (K : Keeps log w) (k : ℕ) (n : SiteName) (s t : Store) (name : Name) (body : Option (List ℕ)) (stamp : Stamp)
         (at : numbered w.stores k ≡ Some s) (here : numbered sites k ≡ Some n) (next : stamp ≡ issue s n) (is : t ≡ store_of (updates s ++ (name, issued stamp body) ∷ [])) where
       abbrev new : Update
@@ -319,7 +319,7 @@ module _ (sites : List SiteName) (Fits : Update → Type 0) (IsOfSummary : SentS
           (λ j m h. absurd (no_place j m h)) (λ j m h. absurd (no_place j m h))
 
   -- ---- what follows
-  -- taken by the site that made the summary, a delta against it leaves what the whole store would leave
+  -- applied by the site that made the summary, a delta against it gives what the whole store would give
   pub exchanged : ((s old t : Store) → IsStoreBelow old s → HaveOneEntryForAStamp old t → joined_stores s (delta t (summary_of old)) ≡ joined_stores s t)
       → (log : List Issue) (w : World) → Keeps log w → (k : ℕ) (m : SentMessage) (old : SentSummary) (s : Store)
       → slice_get w.messages k ≡ Some m → m.since ≡ Some old → numbered w.stores old.site ≡ Some s

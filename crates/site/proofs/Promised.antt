@@ -1,4 +1,4 @@
--- What holds in every world, from the invariant.
+-- What holds in every system, from the invariant.
 use Rattle.std.specs.Prelude.{◌≡◌, ◌∷◌, ◌++◌, [], ℕ, List, length, slice_get, Option, Some, None, option_map, Result}
 use Rattle.std.specs.Prelude.{Ok, Err, Contains, refl}
 use Rattle.std.proofs.Common.{sym, ap, ◌∙◌, subst, append_assoc, append-nil}
@@ -22,7 +22,7 @@ use Rattle.site_steps.specs.declared.reply.Reply.TheVariants as reply
 use Rattle.site_steps.specs.sync_messages.Messages.{IsMessageOf}
 use Rattle.site_steps.specs.Runs.{Step, took_by, updates_of_message}
 use Rattle.site_steps.specs.Outcomes.{HadMemoryForAll, InputsHaveOneOutcome}
-use Rattle.site.specs.declared.event.Deed.TheVariants as deed
+use Rattle.site.specs.declared.event.Operation.TheVariants as operation
 use Rattle.site.specs.declared.event.Event.{Event}
 use Rattle.site.specs.declared.event.EventReply.{EventReply}
 use Rattle.site.specs.declared.event.EventReply.TheVariants.{Unknown, Replied}
@@ -36,7 +36,7 @@ use Rattle.site.proofs.StepFacts.{IsFit, CommandLaws, step_leaves, all_of}
 use Rattle.site.proofs.Happening.{IsOfMessage, IsOfSummary, SendingLaws, keeps_there, message_known}
 use Rattle.site.proofs.Happening.{message_read, noted_read}
 
--- from the laws of the crates below
+-- by the theorems of lower crates
 pub record TakingLaws (schema : StatedSchema) : Type 0 where
   pub deltas : (s old t : Store) → IsStoreBelow old s → HaveOneEntryForAStamp old t
       → joined_stores s (delta t (summary_of old)) ≡ joined_stores s t
@@ -61,10 +61,10 @@ module _ (schema : StatedSchema) (sites : List SiteName) (are : AreSites sites) 
   keeps_event log w K e a v h = there (numbered sites e.site) (numbered w.stores e.site) refl refl h.happens
     where
       there : (o : Option SiteName) (p : Option Store) → numbered sites e.site ≡ o → numbered w.stores e.site ≡ p
-          → HappensAt schema w e o p (input_of w e.deed) a v → Kept (log ++ issues_of schema sites e a) v
+          → HappensAt schema w e o p (input_of w e.operation) a v → Kept (log ++ issues_of schema sites e a) v
       there None p here at k = unknown log w K e a v k
       there (Some n) None here at k = unknown log w K e a v k
-      there (Some n) (Some s) here at k = keeps_there schema sites are stores commands sending log w K e.site n s here at e.deed a v h.texts k
+      there (Some n) (Some s) here at k = keeps_there schema sites are stores commands sending log w K e.site n s here at e.operation a v h.texts k
 
   keeps_run : (log : List Issue) (w : World) (es : List Event) (rs : List EventReply) (v : World) → Kept log w → Leads schema sites w es rs v
       → Kept (log ++ issues schema sites es rs) v
@@ -97,7 +97,7 @@ module _ (schema : StatedSchema) (sites : List SiteName) (are : AreSites sites) 
     module _ (i k c : ℕ) (v : World) (m : SentMessage) (old : SentSummary) (s : Store) (is : slice_get w.messages k ≡ Some m)
         (since : m.since ≡ Some old) (made : old.site ≡ i) (at : numbered w.stores i ≡ Some s) where
       abbrev delivery : Event
-      delivery = record { site = i; deed = deed.Deliver k }
+      delivery = record { site = i; operation = operation.Deliver k }
 
       abbrev all_taken : EventReply
       all_taken = Replied (reply.Taken (Ok (All c)))

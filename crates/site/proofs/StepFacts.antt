@@ -1,5 +1,5 @@
--- What one step of a site does to its store, told over stores: nothing enters, an update that it issues enters, or
--- updates that were sent to it enter. And that what is issued may be sent to any site.
+-- The effect of one step of a site on its store: nothing is joined, an update that it issues is joined, or updates
+-- that were sent to it are. And what is issued may be sent to any site.
 use Rattle.std.specs.Prelude.{◌≡◌, ◌<◌, ◌∷◌, ◌++◌, [], ℕ, zero, suc, List, take, Option, Some, None, IsSome}
 use Rattle.std.specs.Prelude.{option_and_then, Result, Ok, Err, Contains, refl}
 use Rattle.std.specs.List.{AllByRecursion}
@@ -68,7 +68,7 @@ pub data Comes (schema : StatedSchema) (n : SiteName) (s t : Store) : List Updat
       → t ≡ store_of (updates s ++ (name, issued stamp body) ∷ []) → IsFit schema (name, issued stamp body)
       → Comes schema n s t ((name, issued stamp body) ∷ [])
 
--- from the laws of the crates below
+-- by the theorems of lower crates
 pub record CommandLaws (schema : StatedSchema) : Type 0 where
   pub left : (n : SiteName) (s : Store) (is : List Input) (rs : List Reply) (t : Store) → Run schema n s is rs t
       → t ≡ store_of (updates s ++ took schema is rs)
@@ -80,7 +80,7 @@ pub record CommandLaws (schema : StatedSchema) : Type 0 where
   pub well_formed : IsWellFormed schema
 
 module _ (schema : StatedSchema) (law : CommandLaws schema) where
-  -- what a step leaves, whatever the reply
+  -- the store after a step, whatever the reply
   pub step_leaves : (n : SiteName) (s : Store) (i : Input) (r : Reply) (t : Store) → Step schema n s i r t
       → t ≡ store_of (updates s ++ took_by schema i r)
   step_leaves n s i r t h =

@@ -3,5 +3,5 @@ pub mod Worlds
 pub mod Promises
 pub mod Played
 pub mod inner
--- crates below, passed on to those above
+-- Specifications of lower crates, re-exported.
 pub use Rattle.site_steps.specs as site_steps

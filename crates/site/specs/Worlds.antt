@@ -1,7 +1,7 @@
--- What happens in a world: each event is one step of one site. What is made is added to the messages and summaries, and
--- a message that was made may be delivered to any site, again and in any order.
--- Rules of this product: an event that names a site, a message or a summary that is not there is answered 30 and
--- changes nothing; nothing is promised of time or order, or that a message is delivered.
+-- Defines the runs of a system of sites: each event is one step of one site. What it makes is added to the messages
+-- and summaries, and a message that was made may be delivered to any site, again and in any order.
+-- Rules of this product: an event that names a site, a message or a summary that does not exist gets the reply 30 and
+-- changes nothing; there is no promise of time or order, or that a message is delivered.
 use Rattle.std.specs.Prelude.{◌≡◌, ℕ, List, [], ◌∷◌, ◌++◌, length, map, slice_get}
 use Rattle.std.specs.Prelude.{Option, Some, None, option_map, Ok, Err}
 use Rattle.std.specs.Str.{IsUtf8}
@@ -12,8 +12,8 @@ use Rattle.site_steps.specs.Inputs as input
 use Rattle.site_steps.specs.declared.reply.Reply.{Reply}
 use Rattle.site_steps.specs.declared.reply.Reply.TheVariants as reply
 use Rattle.site_steps.specs.Runs.{Step, took_by}
-use Rattle.site.specs.declared.event.Deed.{Deed}
-use Rattle.site.specs.declared.event.Deed.TheVariants as deed
+use Rattle.site.specs.declared.event.Operation.{Operation}
+use Rattle.site.specs.declared.event.Operation.TheVariants as operation
 use Rattle.site.specs.declared.event.Event.{Event}
 use Rattle.site.specs.declared.event.EventReply.{EventReply}
 use Rattle.site.specs.declared.event.EventReply.TheVariants.{Unknown, Replied, Message, Summary}
@@ -21,133 +21,146 @@ use Rattle.site.specs.Sites.{SiteName, numbered, set_numbered, SentSummary, Sent
 
 -- ---- events
 
--- Id and text of a policy that is put are UTF-8, as all texts of the code are. (Of JSON and of bytes nothing is asked.)
-abbrev pub HasTexts : Deed → Type 0
-HasTexts (deed.PutPolicy id text) = IsUtf8 id × IsUtf8 text
+-- `HasTexts d` holds if the id and text of a policy that `d` puts are UTF-8, as all strings in the code are. (JSON
+-- and bytes have no condition.)
+abbrev pub HasTexts : Operation → Type 0
+HasTexts (operation.PutPolicy id text) = IsUtf8 id × IsUtf8 text
 HasTexts _ = Unit {0}
 
--- what a site is handed, by the bytes of the messages and summaries, or nothing where there is none of that number
-abbrev pub input_by : (ℕ → Option (List ℕ)) → (ℕ → Option (List ℕ)) → Deed → Option Input
-input_by message summary (deed.PutPolicy id text) = Some (input.PutPolicy id text)
-input_by message summary (deed.DeletePolicy id) = Some (input.DeletePolicy id)
-input_by message summary (deed.PutEntity bytes) = Some (input.PutEntity bytes)
-input_by message summary (deed.DeleteEntity uid) = Some (input.DeleteEntity uid)
-input_by message summary (deed.Authorize bytes) = Some (input.Authorize bytes)
-input_by message summary deed.Summary = Some input.Summary
-input_by message summary deed.Offer = Some input.State
-input_by message summary (deed.OfferDelta k) = option_map input.Delta (summary k)
-input_by message summary (deed.Deliver k) = option_map input.Take (message k)
+-- `input_by message summary d` is the input of the operation `d` to its site, given the messages and summaries by
+-- number; none if the one that it names does not exist.
+abbrev pub input_by : (ℕ → Option (List ℕ)) → (ℕ → Option (List ℕ)) → Operation → Option Input
+input_by message summary (operation.PutPolicy id text) = Some (input.PutPolicy id text)
+input_by message summary (operation.DeletePolicy id) = Some (input.DeletePolicy id)
+input_by message summary (operation.PutEntity bytes) = Some (input.PutEntity bytes)
+input_by message summary (operation.DeleteEntity uid) = Some (input.DeleteEntity uid)
+input_by message summary (operation.Authorize bytes) = Some (input.Authorize bytes)
+input_by message summary operation.Summary = Some input.Summary
+input_by message summary operation.Offer = Some input.State
+input_by message summary (operation.OfferDelta k) = option_map input.Delta (summary k)
+input_by message summary (operation.Deliver k) = option_map input.Take (message k)
 
--- of those that were made
-abbrev pub input_of : World → Deed → Option Input
+-- `input_of w d` is that input, given the messages and summaries of `w`.
+abbrev pub input_of : World → Operation → Option Input
 input_of w d =
     input_by (λ k. option_map (λ m. m.bytes) (slice_get w.messages k))
     (λ k. option_map (λ m. m.bytes) (slice_get w.summaries k)) d
 
--- what the event is answered where the site replies so: of what was made its number, behind m messages and n summaries
-abbrev pub answer_among : ℕ → ℕ → Deed → Reply → EventReply
-answer_among m n deed.Summary (reply.Written (Ok bytes)) = Summary (Ok n)
-answer_among m n deed.Summary (reply.Written (Err f)) = Summary (Err f)
-answer_among m n deed.Offer (reply.Written (Ok bytes)) = Message (Ok m)
-answer_among m n deed.Offer (reply.Written (Err f)) = Message (Err f)
-answer_among m n (deed.OfferDelta k) (reply.Written (Ok bytes)) = Message (Ok m)
-answer_among m n (deed.OfferDelta k) (reply.Written (Err f)) = Message (Err f)
+-- `answer_among m n d r` is the event's reply to the operation `d` for the site's reply `r`: the number of what was
+-- made, after m messages and n summaries.
+abbrev pub answer_among : ℕ → ℕ → Operation → Reply → EventReply
+answer_among m n operation.Summary (reply.Written (Ok bytes)) = Summary (Ok n)
+answer_among m n operation.Summary (reply.Written (Err f)) = Summary (Err f)
+answer_among m n operation.Offer (reply.Written (Ok bytes)) = Message (Ok m)
+answer_among m n operation.Offer (reply.Written (Err f)) = Message (Err f)
+answer_among m n (operation.OfferDelta k) (reply.Written (Ok bytes)) = Message (Ok m)
+answer_among m n (operation.OfferDelta k) (reply.Written (Err f)) = Message (Err f)
 answer_among m n _ r = Replied r
 
-abbrev pub answer_of : World → Deed → Reply → EventReply
+-- `answer_of w d r` is that reply, after the messages and summaries of `w`.
+abbrev pub answer_of : World → Operation → Reply → EventReply
 answer_of w d r = answer_among (length w.messages) (length w.summaries) d r
 
--- the bytes of the message that is made, if one is, and those of the summary
-abbrev pub message_bytes : Deed → Reply → List (List ℕ)
-message_bytes deed.Offer (reply.Written (Ok bytes)) = bytes ∷ []
-message_bytes (deed.OfferDelta k) (reply.Written (Ok bytes)) = bytes ∷ []
+-- `message_bytes d r` is the list of the bytes of the message that `d` with the reply `r` made, if it made one.
+abbrev pub message_bytes : Operation → Reply → List (List ℕ)
+message_bytes operation.Offer (reply.Written (Ok bytes)) = bytes ∷ []
+message_bytes (operation.OfferDelta k) (reply.Written (Ok bytes)) = bytes ∷ []
 message_bytes _ r = []
 
-abbrev pub summary_bytes : Deed → Reply → List (List ℕ)
-summary_bytes deed.Summary (reply.Written (Ok bytes)) = bytes ∷ []
+-- `summary_bytes d r` is the list of the bytes of the summary that `d` with the reply `r` made, if it made one.
+abbrev pub summary_bytes : Operation → Reply → List (List ℕ)
+summary_bytes operation.Summary (reply.Written (Ok bytes)) = bytes ∷ []
 summary_bytes _ r = []
 
--- the summary that a delta is made against
-abbrev pub since_of : World → Deed → Option SentSummary
-since_of w (deed.OfferDelta k) = slice_get w.summaries k
+-- `since_of w d` is the summary that `d` makes a delta against, if it makes one.
+abbrev pub since_of : World → Operation → Option SentSummary
+since_of w (operation.OfferDelta k) = slice_get w.summaries k
 since_of w _ = None
 
--- the message that is made of a store, and the summary that is made at the site with this number
-abbrev pub message_made : World → Deed → Store → Reply → List SentMessage
+-- `message_made w d s r` is the list of the message that `d` with the reply `r` made of the store `s`, if it made
+-- one.
+abbrev pub message_made : World → Operation → Store → Reply → List SentMessage
 message_made w d s r = map (λ bytes. record { bytes = bytes; whole = s; since = since_of w d }) (message_bytes d r)
 
-abbrev pub summary_made : ℕ → Deed → Store → Reply → List SentSummary
+-- `summary_made i d s r` is the list of the summary that `d` with the reply `r` made at the site with the number `i`,
+-- if it made one.
+abbrev pub summary_made : ℕ → Operation → Store → Reply → List SentSummary
 summary_made i d s r = map (λ bytes. record { bytes = bytes; site = i; store = s }) (summary_bytes d r)
 
--- the world behind an event: the site that held s and replied r now holds t
+-- `after w e s r t` is the state after the event `e` in `w`: the site that held `s` and replied `r` now holds `t`.
 abbrev pub after : World → Event → Store → Reply → Store → World
 after w e s r t = record {
   stores = set_numbered w.stores e.site t;
-  messages = w.messages ++ message_made w e.deed s r;
-  summaries = w.summaries ++ summary_made e.site e.deed s r;
+  messages = w.messages ++ message_made w e.operation s r;
+  summaries = w.summaries ++ summary_made e.site e.operation s r;
 }
 
--- one step of the site with this name, which held s
+-- `IsStepAt schema w e n s i a v` holds if one step of the site named `n`, which held `s`, with the input `i`, leads
+-- from `w` to `v` with the reply `a`.
 pub record IsStepAt (schema : StatedSchema) (w : World) (e : Event) (n : SiteName) (s : Store) (i : Input)
     (a : EventReply) (v : World) : Type 0 where
   pub reply : Reply
   pub store : Store
   pub step : Step schema n s i reply store
-  pub answer : a ≡ answer_of w e.deed reply
+  pub answer : a ≡ answer_of w e.operation reply
   pub leaves : v ≡ after w e s reply store
 
--- with the name and the store of the site, and what it is handed, each as far as it is there
+-- `HappensAt schema w e n s i a v` holds if there are a site's name `n`, its store `s` and an input `i`, and such a
+-- step; or one of these is absent, the reply `a` is `Unknown`, and `v` is `w`.
 abbrev pub HappensAt : StatedSchema → World → Event → Option SiteName → Option Store → Option Input → EventReply
     → World → Type 0
 HappensAt schema w e (Some n) (Some s) (Some i) a v = IsStepAt schema w e n s i a v
 HappensAt schema w e _ _ _ a v = (a ≡ Unknown) × (v ≡ w)
 
--- in w the event may be answered a, and lead to v
+-- `Happens schema sites w e a v` holds if in `w` the event `e` may get the reply `a`, and lead to `v`.
 pub record Happens (schema : StatedSchema) (sites : List SiteName) (w : World) (e : Event) (a : EventReply) (v : World)
     : Type 0 where
-  pub texts : HasTexts e.deed
-  pub happens : HappensAt schema w e (numbered sites e.site) (numbered w.stores e.site) (input_of w e.deed) a v
+  pub texts : HasTexts e.operation
+  pub happens : HappensAt schema w e (numbered sites e.site) (numbered w.stores e.site) (input_of w e.operation) a v
 
--- from w, these answers to these events lead to v
+-- `Leads schema sites w es rs v` holds if the events `es` with the replies `rs` lead from `w` to `v`.
 abbrev pub Leads : StatedSchema → List SiteName → World → List Event → List EventReply → World → Type 0
 Leads schema sites w [] [] v = v ≡ w
 Leads schema sites w [] (a ∷ rs) v = ⊥
 Leads schema sites w (e ∷ es) [] v = ⊥
 Leads schema sites w (e ∷ es) (a ∷ rs) v = (m : World) × Happens schema sites w e a m × Leads schema sites m es rs v
 
--- A world: sites of one schema with these names, each empty at the start, after events with these answers. An example:
--- sites `00001` and `00002` under one schema. 1 makes a summary (number 0), puts a policy `p` with the stamp
--- (1, `00001`) and offers its state (message 0), which is delivered to 2: 2 takes one update. 2 deletes `p` with the
--- stamp (2, `00002`) and offers a delta against the summary 0 (message 1). Message 1 is delivered to 1, and message 0
--- once more: both sites hold the deletion.
+-- `IsWorld schema sites es rs w` holds if `w` is the state of a system of sites of one schema with these names, each
+-- empty at the start, after the events `es` with the replies `rs`. An example: sites `00001` and `00002` under one
+-- schema. 1 makes a summary (number 0), puts a policy `p` with the stamp (1, `00001`) and offers its state (message
+-- 0), which is delivered to 2: 2 applies one update. 2 deletes `p` with the stamp (2, `00002`) and offers a delta
+-- against the summary 0 (message 1). Message 1 is delivered to 1, and message 0 once more: both sites hold the
+-- deletion.
 abbrev pub IsWorld : StatedSchema → List SiteName → List Event → List EventReply → World → Type 0
 IsWorld schema sites es rs w = Leads schema sites (start sites) es rs w
 
--- events and answers together fix a world: what every site holds, and what was made
+-- Events and replies together determine the state of a system.
 abbrev pub AnswersFixWorlds : Type 0
 AnswersFixWorlds = (schema : StatedSchema) (sites : List SiteName) (es : List Event) (rs : List EventReply)
     (v w : World) → IsWorld schema sites es rs v → IsWorld schema sites es rs w → v ≡ w
 
 -- ---- what was issued
 
--- the updates that a local command with this reply was given a stamp for
-abbrev pub issued_by : StatedSchema → Deed → Reply → List Update
-issued_by schema (deed.PutPolicy id text) r = took_by schema (input.PutPolicy id text) r
-issued_by schema (deed.DeletePolicy id) r = took_by schema (input.DeletePolicy id) r
-issued_by schema (deed.PutEntity bytes) r = took_by schema (input.PutEntity bytes) r
-issued_by schema (deed.DeleteEntity uid) r = took_by schema (input.DeleteEntity uid) r
+-- `issued_by schema d r` is the list of the updates that the local command `d` with the reply `r` got a stamp for.
+abbrev pub issued_by : StatedSchema → Operation → Reply → List Update
+issued_by schema (operation.PutPolicy id text) r = took_by schema (input.PutPolicy id text) r
+issued_by schema (operation.DeletePolicy id) r = took_by schema (input.DeletePolicy id) r
+issued_by schema (operation.PutEntity bytes) r = took_by schema (input.PutEntity bytes) r
+issued_by schema (operation.DeleteEntity uid) r = took_by schema (input.DeleteEntity uid) r
 issued_by schema _ r = []
 
+-- `at_site n us` is the list of the updates `us`, each with the site's name `n`.
 abbrev pub at_site : Option SiteName → List Update → List Issue
 at_site None us = []
 at_site (Some n) us = map (λ u. (n, u)) us
 
--- each with the name of its site
+-- `issues_of schema sites e a` is the list of the updates that the event `e` with the reply `a` issued, each with the
+-- name of its site.
 abbrev pub issues_of : StatedSchema → List SiteName → Event → EventReply → List Issue
-issues_of schema sites e (Replied r) = at_site (numbered sites e.site) (issued_by schema e.deed r)
+issues_of schema sites e (Replied r) = at_site (numbered sites e.site) (issued_by schema e.operation r)
 issues_of schema sites e _ = []
 
--- in all events
+-- `issues schema sites es rs` is the list of the updates that were issued in all events.
 abbrev pub issues : StatedSchema → List SiteName → List Event → List EventReply → List Issue
 issues schema sites [] rs = []
 issues schema sites (e ∷ es) [] = []

@@ -1,47 +1,47 @@
-//! What happens in a world, and what is answered.
+//! The events of a system of sites, and their replies.
 
 use plain::{Items, Text};
 use site_steps::{Reply, SiteFault};
 use values::EntityUid;
 
-/// What is done at a site, as it was handed in: nothing of it is judged yet.
+/// An operation at a site, not checked yet.
 #[derive(Drop)]
-pub enum Deed {
-    /// A policy is put: its id, and its text.
+pub enum Operation {
+    /// Puts a policy: its id, and its text.
     PutPolicy(Text, Text),
-    /// The policy of this id is taken away.
+    /// Deletes the policy of this id.
     DeletePolicy(Text),
-    /// An entity is put: its JSON, as bytes.
+    /// Puts an entity: its JSON, as bytes.
     PutEntity(Items<u8>),
-    /// The entity of this uid is taken away.
+    /// Deletes the entity of this uid.
     DeleteEntity(EntityUid),
-    /// A request is decided: its JSON, as bytes.
+    /// Decides a request: its JSON, as bytes.
     Authorize(Items<u8>),
-    /// A summary is made.
+    /// Makes a summary.
     Summary,
-    /// A state is made.
+    /// Makes a state.
     Offer,
-    /// A delta is made, against the summary of this number.
+    /// Makes a delta against the summary of this number.
     OfferDelta(usize),
-    /// The message of this number is taken.
+    /// Applies the message of this number.
     Deliver(usize),
 }
 
-/// A deed at a site.
+/// An operation at a site of the system.
 #[derive(Drop)]
 pub struct Event {
     /// The number of the site, from 1.
     pub site: usize,
-    /// What is done there.
-    pub deed: Deed,
+    /// The operation.
+    pub operation: Operation,
 }
 
-/// What an event is answered.
+/// The reply to an event.
 #[derive(Drop)]
 pub enum EventReply {
-    /// No site, message or summary has the number that the event names: 30. Nothing was done.
+    /// No site, message or summary has the number that the event names (30). Nothing changed.
     Unknown,
-    /// What the site answered to a command, a request or a message.
+    /// The site's reply to a command, a request or a message.
     Replied(Reply),
     /// The number of the message that was made, from 0.
     Message(Result<usize, SiteFault>),

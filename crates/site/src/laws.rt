@@ -1,26 +1,29 @@
-//! Laws of worlds, by the contract of a function that does nothing.
+//! Theorems about systems of sites; their functions do nothing.
 ghost use Rattle.std.specs.Prelude.{◌<◌, ℕ};
-ghost use Rattle.site_steps.specs.schema.Views.{schema_view};
 ghost use Rattle.site.specs.Sites.{AreSites, first_sites};
-ghost use Rattle.site.specs.Promises.{WorldsKeepPromises};
+ghost use Rattle.site.specs.Promises.{AllWorldsKeepPromises};
 ghost use Rattle.site.specs.Worlds.{AnswersFixWorlds};
 
 use site_steps::{
-    Entity, Policy, Schema, SchemaTexts, deltas_are_joined, inputs_have_one_outcome,
-    json_texts_are_utf8, messages_read_back, names_read_back, runs_leave_what_they_took,
-    site_names_are_told, stamps_are_issued, stated_schemas_are_well_formed, summaries_read_back,
-    updates_have_one_store, valid_messages_are_read,
+    Entity, Policy, SchemaTexts, deltas_are_joined, inputs_have_one_outcome, json_texts_are_utf8,
+    messages_read_back, names_read_back, runs_leave_what_they_took, site_names_are_told,
+    stamps_are_issued, stated_schemas_are_well_formed, summaries_read_back, updates_have_one_store,
+    valid_messages_are_read,
 };
 
-/// In every world of sites with distinct names under the schema, whatever was delivered, in whatever order and however
-/// often: every entry in a store or a message was issued by a local command at the site that its stamp names; equal
-/// stamps mean equal updates; where a site takes all of a delta that was made from a store against an earlier summary
-/// of this site, it then holds the join of what it held and that store; and what was made is refused for memory alone.
-pub fn worlds_keep_promises(schema: &Schema)
-    ensures { WorldsKeepPromises (schema_view schema.now) }
+/// Proves what holds in each system of sites with distinct names under a schema that bytes describe,
+/// whatever was delivered, in whatever order and however often:
+///
+/// - Each entry in a store or a message was issued by a local command at the site that its stamp names.
+/// - Equal stamps mean equal updates.
+/// - A site that applies all of a delta, made from a store against an earlier summary of this site, then holds the
+///   join of its store and that store.
+/// - A message that was made states its content; it, and a summary that was made, is rejected only for `NoMemory`.
+///
+/// No-op.
+pub fn worlds_keep_promises()
+    ensures { AllWorldsKeepPromises }
 {
-    let _ = schema.label();
-    schema.is_stated();
     stated_schemas_are_well_formed();
     updates_have_one_store();
     stamps_are_issued();
@@ -36,14 +39,16 @@ pub fn worlds_keep_promises(schema: &Schema)
     inputs_have_one_outcome();
 }
 
-/// Events and answers together fix a world: what every site holds, and every message and summary that was made.
+/// Proves that events and replies together determine a system: the store of each site, and each message and summary
+/// that was made. No-op.
 pub fn answers_fix_worlds()
     ensures { AnswersFixWorlds }
 {
     runs_leave_what_they_took();
 }
 
-/// The five digits of 1, 2 and so on, up to 99,999, are names of sites, and distinct.
+/// Proves that the five digits of 1, 2 and so on are distinct site names, for up to 99,999 sites, and so for the 65,535
+/// that messages of version 1 can name. No-op.
 pub fn first_sites_are_distinct()
     ensures { (count : ℕ) → count < 100000 → AreSites (first_sites count) }
 {

@@ -1,5 +1,7 @@
-//! Worlds: sites of one schema that exchange messages, where each message and summary that was made is there for any
-//! site, again and in any order. What holds in all of them at every moment is a law; one is played event by event.
+//! A system of sites: sites of one schema that exchange messages.
+//!
+//! Each message and summary that was made may be delivered to any site, again and in any order. Theorems state what
+//! holds in all systems at every moment; [`simulate`] runs one event by event.
 #![tactic(auto)]
 
 mod event;
@@ -7,9 +9,11 @@ mod laws;
 mod playing;
 mod world;
 
-pub use event::{Deed, Event, EventReply};
+pub use event::{Event, EventReply, Operation};
 pub use laws::{answers_fix_worlds, first_sites_are_distinct, worlds_keep_promises};
 pub use site_steps::{
-    Found, Input, Put, Reply, Site, SiteFault, SiteName, Stamp, Taken, is_site_name, run,
+    EntityFault, Found, Input, Put, Reply, Site, SiteFault, SiteName, Stamp, Taken, answer,
+    inputs_have_one_outcome, is_site_name, run, runs_are_sound, runs_leave_what_they_took,
+    take_bytes,
 };
 pub use world::{World, simulate};

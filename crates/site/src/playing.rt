@@ -1,79 +1,79 @@
-//! One event of a world.
+//! Runs one event of a system of sites.
 ghost use Rattle.site_steps.specs.schema.Schemas.{StatedSchema};
 ghost use Rattle.site.specs.Sites.{SiteName, start};
 ghost use Rattle.std.specs.Prelude.{◌≡◌, List, ◌++◌, IfOk, OnOk, length, option_map};
-ghost use Rattle.site_steps.specs.Seen.{schema_of, store_in, IsSameSite};
+ghost use Rattle.site_steps.specs.SiteViews.{schema_of, store_in, IsSameSite};
 ghost use Rattle.site_steps.specs.Inputs.{input_of};
-ghost use Rattle.site.specs.Worlds.{HasTexts, answer_among, message_bytes, summary_bytes as bytes_of_summary};
+ghost use Rattle.site.specs.Worlds.{HasTexts, answer_among, message_bytes, summary_bytes as bytes_made};
 ghost use Rattle.site.specs.Played.{IsPlayed, IsShown};
-ghost use Rattle.site.specs.inner.Playing.{input_among, AnswersDeed, Plays};
+ghost use Rattle.site.specs.inner.Playing.{input_among, AnswersOperation, Plays};
 
-use crate::event::{Deed, Event, EventReply};
+use crate::event::{Event, EventReply, Operation};
 use plain::{Items, NoMemory};
 use site_steps::{Input, Reply, Scratch, Site, answer};
 use std::alloc::Global;
 
-/// Whoever holds a deed knows by this that its texts are UTF-8. Does nothing.
-pub(crate) fn has_texts(deed: &Deed)
-    ensures { HasTexts deed.now }
+/// Proves that the strings of an operation are UTF-8. No-op.
+pub(crate) fn has_texts(operation: &Operation)
+    ensures { HasTexts operation.now }
 {
-    if let Deed::PutPolicy(id, text) = deed {
+    if let Operation::PutPolicy(id, text) = operation {
         let _ = id.as_str();
         let _ = text.as_str();
     }
 }
 
-/// Returns the input that a deed hands to its site, with the messages and summaries that were made; None if it names
-/// one that was not made yet.
+/// Returns the input that an operation gives its site, with the messages and summaries that were made; `None` if it
+/// names one that was not made yet.
 fn input_by<'a>(
-    deed: &'a Deed,
+    operation: &'a Operation,
     messages: &'a [Items<u8>],
     summaries: &'a [Items<u8>],
 ) -> Option<Input<'a>>
-    ensures { option_map input_of result ≡ input_among messages.now summaries.now deed.now }
+    ensures { option_map input_of result ≡ input_among messages.now summaries.now operation.now }
 {
-    match deed {
-        Deed::PutPolicy(id, text) => Some(Input::PutPolicy(id.as_str(), text.as_str())),
-        Deed::DeletePolicy(id) => Some(Input::DeletePolicy(id.as_str())),
-        Deed::PutEntity(bytes) => Some(Input::PutEntity(bytes.as_slice())),
-        Deed::DeleteEntity(uid) => Some(Input::DeleteEntity(uid)),
-        Deed::Authorize(bytes) => Some(Input::Authorize(bytes.as_slice())),
-        Deed::Summary => Some(Input::Summary),
-        Deed::Offer => Some(Input::State),
-        Deed::OfferDelta(number) => match summaries.get(*number) {
+    match operation {
+        Operation::PutPolicy(id, text) => Some(Input::PutPolicy(id.as_str(), text.as_str())),
+        Operation::DeletePolicy(id) => Some(Input::DeletePolicy(id.as_str())),
+        Operation::PutEntity(bytes) => Some(Input::PutEntity(bytes.as_slice())),
+        Operation::DeleteEntity(uid) => Some(Input::DeleteEntity(uid)),
+        Operation::Authorize(bytes) => Some(Input::Authorize(bytes.as_slice())),
+        Operation::Summary => Some(Input::Summary),
+        Operation::Offer => Some(Input::State),
+        Operation::OfferDelta(number) => match summaries.get(*number) {
             Some(bytes) => Some(Input::Delta(bytes.as_slice())),
             None => None,
         },
-        Deed::Deliver(number) => match messages.get(*number) {
+        Operation::Deliver(number) => match messages.get(*number) {
             Some(bytes) => Some(Input::Take(bytes.as_slice())),
             None => None,
         },
     }
 }
 
-/// Returns what a site replies to a deed; None where the message or summary that it names was not made yet.
+/// Returns a site's reply to an operation; `None` if the message or summary that it names was not made yet.
 pub(crate) fn step(
     alloc: Global,
     scratch: &mut Scratch,
     site: &mut Site,
-    deed: &Deed,
+    operation: &Operation,
     messages: &[Items<u8>],
     summaries: &[Items<u8>],
 ) -> Option<Reply>
-    ensures step { AnswersDeed (schema_of site.old) site.old.name (store_in site.old)
-        (input_among messages.now summaries.now deed.now) result (store_in site.new) }
+    ensures step { AnswersOperation (schema_of site.old) site.old.name (store_in site.old)
+        (input_among messages.now summaries.now operation.now) result (store_in site.new) }
     ensures same { IsSameSite site.old site.new }
 {
-    match input_by(deed, messages, summaries) {
+    match input_by(operation, messages, summaries) {
         Some(input) => Some(answer(alloc, scratch, site, &input)),
         None => None,
     }
 }
 
-/// Keeps the message that was made, and numbers it.
+/// Stores the message that was made, and returns its number.
 fn keep_message(messages: &mut Vec<Items<u8>>, reply: Reply) -> Result<EventReply, NoMemory>
-    ensures answer { IfOk result (λ a. a ≡ answer_among (length messages.old.items) 0 Deed.Offer reply) }
-    ensures kept { OnOk result (messages.new.items ≡ messages.old.items ++ message_bytes Deed.Offer reply) }
+    ensures answer { IfOk result (λ a. a ≡ answer_among (length messages.old.items) 0 Operation.Offer reply) }
+    ensures kept { OnOk result (messages.new.items ≡ messages.old.items ++ message_bytes Operation.Offer reply) }
 {
     let number = messages.len();
     match reply {
@@ -86,10 +86,10 @@ fn keep_message(messages: &mut Vec<Items<u8>>, reply: Reply) -> Result<EventRepl
     }
 }
 
-/// Keeps the summary that was made, and numbers it.
+/// Stores the summary that was made, and returns its number.
 fn keep_summary(summaries: &mut Vec<Items<u8>>, reply: Reply) -> Result<EventReply, NoMemory>
-    ensures answer { IfOk result (λ a. a ≡ answer_among 0 (length summaries.old.items) Deed.Summary reply) }
-    ensures kept { OnOk result (summaries.new.items ≡ summaries.old.items ++ bytes_of_summary Deed.Summary reply) }
+    ensures answer { IfOk result (λ a. a ≡ answer_among 0 (length summaries.old.items) Operation.Summary reply) }
+    ensures kept { OnOk result (summaries.new.items ≡ summaries.old.items ++ bytes_made Operation.Summary reply) }
 {
     let number = summaries.len();
     match reply {
@@ -102,27 +102,27 @@ fn keep_summary(summaries: &mut Vec<Items<u8>>, reply: Reply) -> Result<EventRep
     }
 }
 
-/// Keeps what was made by a deed with this reply, and answers it.
+/// Stores what an operation with this reply made, and returns the event's reply.
 pub(crate) fn keep(
     messages: &mut Vec<Items<u8>>,
     summaries: &mut Vec<Items<u8>>,
-    deed: &Deed,
+    operation: &Operation,
     reply: Reply,
 ) -> Result<EventReply, NoMemory>
     ensures answer { IfOk result
-        (λ a. a ≡ answer_among (length messages.old.items) (length summaries.old.items) deed.now reply) }
-    ensures messages { OnOk result (messages.new.items ≡ messages.old.items ++ message_bytes deed.now reply) }
-    ensures summaries { OnOk result (summaries.new.items ≡ summaries.old.items ++ bytes_of_summary deed.now reply) }
+        (λ a. a ≡ answer_among (length messages.old.items) (length summaries.old.items) operation.now reply) }
+    ensures messages { OnOk result (messages.new.items ≡ messages.old.items ++ message_bytes operation.now reply) }
+    ensures summaries { OnOk result (summaries.new.items ≡ summaries.old.items ++ bytes_made operation.now reply) }
 {
-    match deed {
-        Deed::Offer => keep_message(messages, reply),
-        Deed::OfferDelta(_) => keep_message(messages, reply),
-        Deed::Summary => keep_summary(summaries, reply),
+    match operation {
+        Operation::Offer => keep_message(messages, reply),
+        Operation::OfferDelta(_) => keep_message(messages, reply),
+        Operation::Summary => keep_summary(summaries, reply),
         _ => Ok(EventReply::Replied(reply)),
     }
 }
 
-/// One event: nothing is done where it names a site, a message or a summary that is not there.
+/// Runs one event; nothing changes if it names a site, a message or a summary that does not exist.
 fn play_one(
     alloc: Global,
     scratch: &mut Scratch,
@@ -134,7 +134,7 @@ fn play_one(
     ensures { IfOk result (λ a. Plays sites.old.items messages.old.items summaries.old.items event.now a sites.new.items
         messages.new.items summaries.new.items) }
 {
-    has_texts(&event.deed);
+    has_texts(&event.operation);
     if event.site == 0 {
         return Ok(EventReply::Unknown);
     }
@@ -145,18 +145,18 @@ fn play_one(
         alloc,
         scratch,
         &mut sites[event.site - 1],
-        &event.deed,
+        &event.operation,
         messages.as_slice(),
         summaries.as_slice(),
     );
     let Some(reply) = reply else {
         return Ok(EventReply::Unknown);
     };
-    let answer = keep(messages, summaries, &event.deed, reply)?;
+    let answer = keep(messages, summaries, &event.operation, reply)?;
     Ok(answer)
 }
 
-/// Plays events one after another.
+/// Runs events one after another.
 pub(crate) fn play(
     alloc: Global,
     sites: &mut Vec<Site>,

@@ -1,4 +1,4 @@
-//! A world, played from its events.
+//! A system of sites, run from its events.
 ghost use Rattle.std.specs.Prelude.{◌≤◌, IfOk, List, []};
 ghost use Rattle.site_steps.specs.schema.Schemas.{StatedSchema};
 ghost use Rattle.site_steps.specs.schema.Views.{schema_view};
@@ -15,20 +15,20 @@ use plain::{Items, NoMemory, Shared};
 use site_steps::{Schema, Site, SiteName};
 use std::alloc::Global;
 
-/// Sites that exchanged messages: the sites themselves, what was made, and what the events were answered.
+/// The state of a system: the sites, the messages and summaries that were made, and the replies to the events.
 #[derive(Drop)]
 pub struct World {
-    /// In the order of their numbers.
+    /// The sites, in the order of their numbers.
     pub sites: Vec<Site>,
     /// The messages that were made so far, as bytes, numbered from 0.
     pub messages: Vec<Items<u8>>,
-    /// And the summaries.
+    /// The summaries that were made so far, as bytes, numbered from 0.
     pub summaries: Vec<Items<u8>>,
-    /// To each event its answer.
+    /// The reply to each event.
     pub replies: Vec<EventReply>,
 }
 
-/// Plays events at sites that have nothing stored yet, each of one schema and with its name.
+/// Runs events at empty sites of one schema, each with its name.
 fn simulate_at(alloc: Global, mut sites: Vec<Site>, events: &[Event]) -> Result<World, NoMemory>
     ensures { IfOk result (λ w. (schema : StatedSchema) (names : List Named)
         → AreSitesOf schema names (start names).stores sites.items
@@ -45,7 +45,7 @@ fn simulate_at(alloc: Global, mut sites: Vec<Site>, events: &[Event]) -> Result<
     })
 }
 
-/// Returns a site with nothing stored, whose name is the five digits of its number.
+/// Creates an empty site, whose name is the five digits of its number.
 fn new_site(alloc: Global, schema: &Shared<Schema>, number: u16) -> Result<Site, NoMemory>
     ensures { IfOk result (IsSiteOf (schema_view schema.now) (five_digits number) (store_of [])) }
 {
@@ -53,7 +53,7 @@ fn new_site(alloc: Global, schema: &Shared<Schema>, number: u16) -> Result<Site,
     Ok(Site::new(alloc, schema.share()?, name.as_str()))
 }
 
-/// So many sites of a schema, with nothing stored: `00001`, `00002` and so on.
+/// Creates `count` empty sites of a schema: `00001`, `00002` and so on.
 fn new_sites(alloc: Global, schema: &Shared<Schema>, count: u16) -> Result<Vec<Site>, NoMemory>
     ensures { IfOk result (λ sites. AreSitesOf (schema_view schema.now) (first_sites count)
         (start (first_sites count)).stores sites.items) }
@@ -65,10 +65,14 @@ fn new_sites(alloc: Global, schema: &Shared<Schema>, count: u16) -> Result<Vec<S
     Ok(sites)
 }
 
-/// Plays events at so many sites of a schema, `00001`, `00002` and so on, which have nothing stored yet: what it
-/// answers is a world, and so keeps what is promised of worlds ([`worlds_keep_promises`]). Fails where there is no
-/// memory for the sites, or to keep what was made, or its answer; then no world is answered. Any other want of memory
-/// is an answer to its event.
+/// Runs events at `count` sites of a schema, `00001`, `00002` and so on, which are empty at the start.
+///
+/// The result is a system as the theorems describe it ([`worlds_keep_promises`]).
+///
+/// # Errors
+///
+/// `NoMemory` if there is no memory for the sites, or to store what was made, or a reply. Any other failed allocation
+/// is the reply to its event.
 pub fn simulate(
     alloc: Global,
     schema: &Shared<Schema>,
@@ -82,6 +86,7 @@ pub fn simulate(
         w.replies.items) }
 {
     first_sites_are_distinct();
-    worlds_keep_promises(schema.get());
+    worlds_keep_promises();
+    schema.get().is_stated();
     simulate_at(alloc, new_sites(alloc, schema, count)?, events)
 }

@@ -1,4 +1,4 @@
--- What is put of two files, and what it comes to.
+-- The puts of two files, and their result.
 use Rattle.std.proofs.Common.{◌≡◌, ℕ, ◌+◌, ◌<◌, ◌≤◌, List, [], ◌∷◌, length, map, drop, get_or, Option, Some, None}
 use Rattle.std.proofs.Common.{Result, Ok, Err, OnOk, IfErr, refl, sym, ap, ◌∙◌, subst, String, string_bytes, option_map}
 use Rattle.std.proofs.Common.{option_and_then, Bor, zero, suc, arith}
@@ -22,7 +22,7 @@ use Rattle.schema_decisions.specs.answer_lines.Refusals.{bad_shape, no_memory}
 use Rattle.plain.specs.Refused.{OrNoMemory}
 use Rattle.schema_decisions.specs.decision_texts.EntityArrays.{entities_in, entities_of}
 use Rattle.schema_decisions.specs.UnderSchema.{reading_under}
-use Rattle.site_steps.specs.Seen.{Seen, schema_of, store_in, IsSameSite}
+use Rattle.site_steps.specs.SiteViews.{SiteView, schema_of, store_in, IsSameSite}
 use Rattle.grammar_files.specs.grammar_tokens.Lexing.{IsBadAt, BadIsNotLexed}
 use Rattle.schema_decisions.specs.policy_grammar.declared.policy.Policy.{Policy}
 use Rattle.schema_decisions.specs.policy_grammar.CoreOf.{IsCoreOf}
@@ -110,7 +110,7 @@ policies_refused law schema n s bytes ps ts (Err e) a cut puts = λ other. by_pu
 
 -- ---- an array that was judged
 
--- what the JSON comes to, if there is any
+-- the result of the JSON array, if there is one
 abbrev judged_array : StatedSchema → Option Items → Result (List Entity) Refusal
 judged_array s o = or_fault (bad_shape None) o >>= λ (ds : Items). entities_in (reading_under s) ds
 
@@ -162,18 +162,18 @@ entities_refused schema n s bytes es xs (Err e) read array puts = λ other. by_s
 
 -- ---- at one site
 
--- what is said of one site, is said of another of its schema and name
-pub alike : (a b : Seen) (P : StatedSchema → List ℕ → Type 0) → IsSameSite a b → P (schema_of b) b.name → P (schema_of a) a.name
+-- a statement about one site holds of another with its schema and name
+pub alike : (a b : SiteView) (P : StatedSchema → List ℕ → Type 0) → IsSameSite a b → P (schema_of b) b.name → P (schema_of a) a.name
 alike a b P same h = subst (λ (x : StatedSchema). P x a.name) (ap schema_view same.0) (subst (λ (n : List ℕ). P (schema_of b) n) same.1 h)
 
--- the entities are refused, behind policies that were put
-pub refused_behind : (a b : Seen) (ps es : Option (List ℕ)) (r : Refusal) → IsSameSite a b → LoadsIfNamed (LoadsPolicies (schema_of a) a.name) (store_in a) ps (store_in b)
+-- the entities are rejected, after policies that were put
+pub refused_behind : (a b : SiteView) (ps es : Option (List ℕ)) (r : Refusal) → IsSameSite a b → LoadsIfNamed (LoadsPolicies (schema_of a) a.name) (store_in a) ps (store_in b)
     → OrNoMemory no_memory (RefusesIfNamed (RefusesEntities (schema_of b) b.name) (store_in b) es) r → OrNoMemory no_memory (IsRefused (schema_of a) a.name (store_in a) ps es) r
 refused_behind a b ps es r same loads refused = λ other. by_entities (store_in b) loads
     (alike a b (λ (x : StatedSchema) (n : List ℕ). RefusesIfNamed (RefusesEntities x n) (store_in b) es r) same (refused other))
 
 -- both are put
-pub state_loaded : (a b d : Seen) (ps es : Option (List ℕ)) (bytes : List ℕ) → IsSameSite a b → IsSameSite b d → LoadsIfNamed (LoadsPolicies (schema_of a) a.name) (store_in a) ps (store_in b)
+pub state_loaded : (a b d : SiteView) (ps es : Option (List ℕ)) (bytes : List ℕ) → IsSameSite a b → IsSameSite b d → LoadsIfNamed (LoadsPolicies (schema_of a) a.name) (store_in a) ps (store_in b)
     → LoadsIfNamed (LoadsEntities (schema_of b) b.name) (store_in b) es (store_in d) → bytes ≡ state_text (schema_of d).label (store_in d)
     → updates_stated (schema_of d).label bytes ≡ Ok (updates (store_in d)) → IsLoadedState (schema_of a) a.name (store_in a) ps es bytes
 state_loaded a b d ps es bytes same more policies entities text back = record {

@@ -1,4 +1,4 @@
--- Puts one after another: one step for each, and the fault of one.
+-- Puts one after another: one step for each, and the error of one.
 use Rattle.std.proofs.Common.{◌≡◌, inl, inr, ℕ, suc, ◌+◌, ◌<◌, List, [], ◌∷◌, length, map, drop, get_or, Option, Some}
 use Rattle.std.proofs.Common.{None, option_map, Err, refl, sym, ap, ◌∙◌, subst, add-one, drop-cons}
 use Rattle.serde_json.specs.Data.{Data}
@@ -10,14 +10,14 @@ use Rattle.plain.specs.Refused.{OrNoMemory}
 use Rattle.schema_decisions.specs.answer_lines.Refusals.{no_memory}
 use Rattle.site_steps.specs.declared.fault.SiteFault.{SiteFault}
 use Rattle.site_steps.specs.declared.fault.SiteFault.TheVariants as fault
-use Rattle.site_steps.specs.Seen.{Seen, schema_of, IsSameSite}
+use Rattle.site_steps.specs.SiteViews.{SiteView, schema_of, IsSameSite}
 use Rattle.site_steps.specs.Steps.{PutsPolicy, PutsEntity}
-use Rattle.site_loading.specs.Puts.{Deed, policy_put, entity_put, put_refusal, Accepts, RefusesAt, AcceptsAll}
+use Rattle.site_loading.specs.Puts.{Operation, policy_put, entity_put, put_refusal, Accepts, RefusesAt, AcceptsAll}
 use Rattle.site_loading.specs.Puts.{RefusesFirst}
 
 -- ---- one put
 
--- what is refused leaves the store as it was
+-- a rejected put leaves the store unchanged
 refused_policy : (schema : StatedSchema) (n : List ℕ) (s t : Store) (id text : List ℕ) (f : SiteFault) → PutsPolicy schema n s id text (Err f) t → PutsPolicy schema n s id text (Err f) s
 refused_policy schema n s t id text fault.NoMemory h = refl
 refused_policy schema n s t id text fault.ClockFull h = (h.0, (h.1.0, refl))
@@ -50,33 +50,34 @@ entity_refused schema n s t json place f r h e = λ _. (f, refused_entity schema
 
 -- ---- one after another
 
--- From a store some puts lead to another, and these are left: what they lead to, all lead to.
-pub record Along (schema : StatedSchema) (n : List ℕ) (s : Store) (all : List Deed) (m : Store) (place : ℕ) (left : List Deed) : Type 0 where
+-- After some of the puts `all`, which led from s to m, `left` remain: what these lead to from m, `all` lead to from
+-- s.
+pub record Along (schema : StatedSchema) (n : List ℕ) (s : Store) (all : List Operation) (m : Store) (place : ℕ) (left : List Operation) : Type 0 where
   pub go : (t : Store) → AcceptsAll schema n m left t → AcceptsAll schema n s all t
   pub stop : (r : Refusal) → RefusesFirst schema n m place left r → RefusesFirst schema n s 0 all r
 
-pub begins : (schema : StatedSchema) (n : List ℕ) (s : Store) (all : List Deed) → Along schema n s all s 0 all
+pub begins : (schema : StatedSchema) (n : List ℕ) (s : Store) (all : List Operation) → Along schema n s all s 0 all
 begins schema n s all = record { go = λ t h. h; stop = λ r h. h }
 
-pub steps : (schema : StatedSchema) (n : List ℕ) (s m t : Store) (all left more : List Deed) (place : ℕ) (deed : Deed) → left ≡ deed ∷ more → Along schema n s all m place left
-    → Accepts schema n m deed t → Along schema n s all t (place + 1) more
-steps schema n s m t all left more place deed e a took =
+pub steps : (schema : StatedSchema) (n : List ℕ) (s m t : Store) (all left more : List Operation) (place : ℕ) (operation : Operation) → left ≡ operation ∷ more → Along schema n s all m place left
+    → Accepts schema n m operation t → Along schema n s all t (place + 1) more
+steps schema n s m t all left more place operation e a took =
     let along = subst (Along schema n s all m place) e a in
     record {
       go = λ u h. along.go u (t, took, h);
       stop = λ r h. along.stop r (inr (t, took, subst (λ (k : ℕ). RefusesFirst schema n t k more r) (add-one place) h));
     }
 
-pub stops : (schema : StatedSchema) (n : List ℕ) (s m : Store) (all left more : List Deed) (place : ℕ) (deed : Deed) (r : Refusal) → left ≡ deed ∷ more → Along schema n s all m place left
-    → OrNoMemory no_memory (RefusesAt schema n m place deed) r → OrNoMemory no_memory (RefusesFirst schema n s 0 all) r
-stops schema n s m all left more place deed r e a refused = λ other. (subst (Along schema n s all m place) e a).stop r (inl (refused other))
+pub stops : (schema : StatedSchema) (n : List ℕ) (s m : Store) (all left more : List Operation) (place : ℕ) (operation : Operation) (r : Refusal) → left ≡ operation ∷ more → Along schema n s all m place left
+    → OrNoMemory no_memory (RefusesAt schema n m place operation) r → OrNoMemory no_memory (RefusesFirst schema n s 0 all) r
+stops schema n s m all left more place operation r e a refused = λ other. (subst (Along schema n s all m place) e a).stop r (inl (refused other))
 
-pub ends : (schema : StatedSchema) (n : List ℕ) (s m : Store) (all left : List Deed) (place : ℕ) → left ≡ [] → Along schema n s all m place left → AcceptsAll schema n s all m
+pub ends : (schema : StatedSchema) (n : List ℕ) (s m : Store) (all left : List Operation) (place : ℕ) → left ≡ [] → Along schema n s all m place left → AcceptsAll schema n s all m
 ends schema n s m all left place e a = (subst (Along schema n s all m place) e a).go m refl
 
 -- ---- the members of an array, one after another
 
--- Of the members that were to come some were put, and those that are to come now are left.
+-- Of the members to come some were put, and those to come now remain.
 abbrev pub AreAlong : StatedSchema → List ℕ → Store → Option (List Data) → Store → ℕ → Option (List Data) → Type 0
 AreAlong schema n s before m place behind = (ds : List Data) → before ≡ Some ds → (left : List Data) × (behind ≡ Some left) × Along schema n s (map entity_put ds) m place (map entity_put left)
 
@@ -111,7 +112,7 @@ all_put schema n s m before now place along end ds e =
     let a = along ds e in
     ends schema n s m (map entity_put ds) (map entity_put a.0) place (ap (map entity_put) (no_more a.0 (sym a.1 ∙ end))) a.2
 
--- what is no JSON was not to come
+-- what is not JSON was not to come
 pub none_put : {P : Type 0} (schema : StatedSchema) (n : List ℕ) (s m : Store) (before now : Option (List Data)) (place : ℕ) → AreAlong schema n s before m place now → now ≡ None
     → (ds : List Data) → before ≡ Some ds → P
 none_put schema n s m before now place along end ds e =
@@ -121,18 +122,18 @@ none_put schema n s m before now place along end ds e =
 
 -- ---- at one site
 
--- what one site does, another of its schema and name does
-pub accepts_same : (a b : Seen) (deed : Deed) (s t : Store) → IsSameSite a b → Accepts (schema_of b) b.name s deed t → Accepts (schema_of a) a.name s deed t
-accepts_same a b deed s t same h =
-    subst (λ (x : StatedSchema). Accepts x a.name s deed t) (ap schema_view same.0) (subst (λ (n : List ℕ). Accepts (schema_of b) n s deed t) same.1 h)
+-- a step of one site is one of another with its schema and name
+pub accepts_same : (a b : SiteView) (operation : Operation) (s t : Store) → IsSameSite a b → Accepts (schema_of b) b.name s operation t → Accepts (schema_of a) a.name s operation t
+accepts_same a b operation s t same h =
+    subst (λ (x : StatedSchema). Accepts x a.name s operation t) (ap schema_view same.0) (subst (λ (n : List ℕ). Accepts (schema_of b) n s operation t) same.1 h)
 
-pub refuses_same : (a b : Seen) (deed : Deed) (s : Store) (place : ℕ) (r : Refusal) → IsSameSite a b → OrNoMemory no_memory (RefusesAt (schema_of b) b.name s place deed) r
-    → OrNoMemory no_memory (RefusesAt (schema_of a) a.name s place deed) r
-refuses_same a b deed s place r same h =
-    subst (λ (x : StatedSchema). OrNoMemory no_memory (RefusesAt x a.name s place deed) r) (ap schema_view same.0)
-    (subst (λ (n : List ℕ). OrNoMemory no_memory (RefusesAt (schema_of b) n s place deed) r) same.1 h)
+pub refuses_same : (a b : SiteView) (operation : Operation) (s : Store) (place : ℕ) (r : Refusal) → IsSameSite a b → OrNoMemory no_memory (RefusesAt (schema_of b) b.name s place operation) r
+    → OrNoMemory no_memory (RefusesAt (schema_of a) a.name s place operation) r
+refuses_same a b operation s place r same h =
+    subst (λ (x : StatedSchema). OrNoMemory no_memory (RefusesAt x a.name s place operation) r) (ap schema_view same.0)
+    (subst (λ (n : List ℕ). OrNoMemory no_memory (RefusesAt (schema_of b) n s place operation) r) same.1 h)
 
-pub same_on : (a b c : Seen) → IsSameSite a b → IsSameSite b c → IsSameSite a c
+pub same_on : (a b c : SiteView) → IsSameSite a b → IsSameSite b c → IsSameSite a c
 same_on a b c x y = (y.0 ∙ x.0, y.1 ∙ x.1)
 
 pub turn : {A : Type 0} (xs : List A) (i : ℕ) (x : A) → i < length xs → x ≡ get_or xs i x → drop i xs ≡ x ∷ drop (i + 1) xs

@@ -1,7 +1,7 @@
 pub mod Puts
 pub mod Loads
 pub mod inner
--- crates below, passed on to those above
+-- Specifications of lower crates, re-exported.
 pub use Rattle.schema_decisions.specs as schema_decisions
 pub use Rattle.schema_decisions.specs.decision_texts
 pub use Rattle.schema_decisions.specs.schema

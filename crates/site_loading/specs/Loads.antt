@@ -1,7 +1,7 @@
--- What a site comes to that a file of policies and an array of entities are put into, and why they are refused.
--- Rules of this product: the policies come first, each under its name in the file and with its own text from the file;
--- then the entities, in their order. Each of the two is read whole before any of it is put, and what is no such file
--- is refused as where a request is decided.
+-- Defines the load of a file of policies and an array of entities into a site, and its errors.
+-- Rules of this product: the policies come first, each under its name in the file and with its own text from the
+-- file; then the entities, in their order. Each of the two is read whole before any of it is put, and is rejected as
+-- for a decision if it is not such a file.
 use Rattle.std.specs.Prelude.{◌≡◌, ℕ, List, [], ◌∷◌, length, map, Option, None, Some, option_and_then, option_map}
 use Rattle.std.specs.Prelude.{Ok, Err}
 use Rattle.serde_json.specs.Data.{Data}
@@ -18,55 +18,62 @@ use Rattle.schema_decisions.specs.answer_lines.declared.refusal.Refusal.{Refusal
 use Rattle.schema_decisions.specs.decision_texts.Decisions.{ArePoliciesOf, ArePoliciesRefused}
 use Rattle.schema_decisions.specs.decision_texts.EntityArrays.{entities_of}
 use Rattle.schema_decisions.specs.UnderSchema.{reading_under}
-use Rattle.site_loading.specs.Puts.{Deed, policy_put, entity_put, AcceptsAll, RefusesFirst}
+use Rattle.site_loading.specs.Puts.{Operation, policy_put, entity_put, AcceptsAll, RefusesFirst}
 
 -- ---- policies
 
--- These are the names of the policies in a file, and these their texts: as many, each as it stands there.
+-- `AreNamedTexts bytes names texts` holds if `names` and `texts` are the names and the texts of the policies in the
+-- file `bytes`: equally many, each as in the file.
 pub record AreNamedTexts (bytes : List ℕ) (names texts : List (List ℕ)) : Type 0 where
   pub policies : List Policy
   pub file : ArePoliciesOf bytes names policies
   pub cut : AreTextsOf bytes texts
   pub as_many : length texts ≡ length names
 
--- each policy under its name
-abbrev pub policy_puts : List (List ℕ) → List (List ℕ) → List Deed
+-- `policy_puts names texts` is the list of the puts of each text under its name.
+abbrev pub policy_puts : List (List ℕ) → List (List ℕ) → List Operation
 policy_puts [] texts = []
 policy_puts (name ∷ names) [] = []
 policy_puts (name ∷ names) (text ∷ texts) = policy_put name text ∷ policy_puts names texts
 
 -- ---- entities
 
--- the items of an array; none where the bytes are no JSON array
+-- `items_of bytes` is the list of the items of the JSON array `bytes`; none if it is not one.
 abbrev pub items_of : List ℕ → Option (List Data)
 items_of bytes = option_map list_of (option_and_then as_array (json_of bytes))
 
--- ---- a file that need not be named
+-- ---- a file that may be absent
 
--- one that is not named changes nothing
+-- `LoadsIfNamed Loads s bytes t` holds if `Loads` leads from `s` to `t`, or `bytes` is absent and nothing changes.
 abbrev pub LoadsIfNamed : (Store → List ℕ → Store → Type 0) → Store → Option (List ℕ) → Store → Type 0
 LoadsIfNamed Loads s None t = t ≡ s
 LoadsIfNamed Loads s (Some bytes) t = Loads s bytes t
 
--- and is not refused
+-- `RefusesIfNamed Refuses s bytes refusal` holds if `bytes` is present and rejected with this error.
 abbrev pub RefusesIfNamed : (Store → List ℕ → Refusal → Type 0) → Store → Option (List ℕ) → Refusal → Type 0
 RefusesIfNamed Refuses s None refusal = ⊥
 RefusesIfNamed Refuses s (Some bytes) refusal = Refuses s bytes refusal
 
--- ---- the site with name n takes them, or refuses the first that it doesn't take
+-- ---- for the site named n
 
 module _ (schema : StatedSchema) (n : List ℕ) where
+  -- `LoadsPolicies s bytes t` holds if the site accepts all policies of the file `bytes`, which leads from `s` to
+  -- `t`.
   pub record LoadsPolicies (s : Store) (bytes : List ℕ) (t : Store) : Type 0 where
     pub names : List (List ℕ)
     pub texts : List (List ℕ)
     pub are : AreNamedTexts bytes names texts
     pub puts : AcceptsAll schema n s (policy_puts names texts) t
 
+  -- `RefusesPolicies s bytes refusal` holds if this is the error of the file `bytes`, or of its first policy that is
+  -- rejected.
   pub data RefusesPolicies (s : Store) (bytes : List ℕ) (refusal : Refusal) : Type 0 where
     by_file : ArePoliciesRefused bytes refusal → RefusesPolicies s bytes refusal
     by_put : (names texts : List (List ℕ)) → AreNamedTexts bytes names texts
         → RefusesFirst schema n s 0 (policy_puts names texts) refusal → RefusesPolicies s bytes refusal
 
+  -- `LoadsEntities s bytes t` holds if the site accepts all entities of the array `bytes`, which leads from `s` to
+  -- `t`.
   pub record LoadsEntities (s : Store) (bytes : List ℕ) (t : Store) : Type 0 where
     pub entities : List Entity
     pub read : entities_of (reading_under schema) bytes ≡ Ok entities
@@ -74,13 +81,16 @@ module _ (schema : StatedSchema) (n : List ℕ) where
     pub array : items_of bytes ≡ Some items
     pub puts : AcceptsAll schema n s (map entity_put items) t
 
+  -- `RefusesEntities s bytes refusal` holds if this is the error of the array `bytes`, or of its first entity that is
+  -- rejected.
   pub data RefusesEntities (s : Store) (bytes : List ℕ) (refusal : Refusal) : Type 0 where
     by_array : entities_of (reading_under schema) bytes ≡ Err refusal → RefusesEntities s bytes refusal
     by_stored : (entities : List Entity) (items : List Data) → entities_of (reading_under schema) bytes ≡ Ok entities
         → items_of bytes ≡ Some items → RefusesFirst schema n s 0 (map entity_put items) refusal
         → RefusesEntities s bytes refusal
 
-  -- both are put, where they are named, and these bytes are the state then, which is read back as the store's updates
+  -- `IsLoadedState s policies entities bytes` holds if the policies and then the entities are put, as far as they are
+  -- present, and `bytes` is the state then, which is read back as the store's updates.
   pub record IsLoadedState (s : Store) (policies entities : Option (List ℕ)) (bytes : List ℕ) : Type 0 where
     pub between : Store
     pub last : Store
@@ -89,7 +99,7 @@ module _ (schema : StatedSchema) (n : List ℕ) where
     pub bytes_are : bytes ≡ state_text schema.label last
     pub reads_back : updates_stated schema.label bytes ≡ Ok (updates last)
 
-  -- the policies are refused, or else the entities
+  -- `IsRefused s policies entities refusal` holds if this is the error of the policies, or else of the entities.
   pub data IsRefused (s : Store) (policies entities : Option (List ℕ)) (refusal : Refusal) : Type 0 where
     by_policies : RefusesIfNamed RefusesPolicies s policies refusal → IsRefused s policies entities refusal
     by_entities : (between : Store) → LoadsIfNamed LoadsPolicies s policies between

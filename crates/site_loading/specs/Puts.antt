@@ -1,5 +1,5 @@
--- Policies and entities that are put into a site one after another, until one of them is refused.
--- A rule of this product: each is put, and refused, as it would be by a put of its own.
+-- Defines puts of policies and entities into a site, one after another, up to the first that is rejected.
+-- Rules of this product: each is accepted or rejected as by a put of its own.
 use Rattle.std.specs.Prelude.{◌≡◌, ◌⊎◌, ℕ, suc, List, [], ◌∷◌, Some, Ok, Err}
 use Rattle.serde_json.specs.Data.{Data}
 use Rattle.schema_decisions.specs.schema.Schemas.{StatedSchema}
@@ -13,39 +13,41 @@ use Rattle.site_steps.specs.declared.outcome.Put.{Put}
 use Rattle.site_steps.specs.Faults.{code_of, within_of}
 use Rattle.site_steps.specs.Steps.{PutsPolicy, PutsEntity}
 
--- what is put: a policy's text under its id, or the entity that JSON states
-pub data Deed : Type 0 where
-  policy_put : List ℕ → List ℕ → Deed
-  entity_put : Data → Deed
+-- An `Operation` puts a policy's text under its id, or the entity that JSON states.
+pub data Operation : Type 0 where
+  policy_put : List ℕ → List ℕ → Operation
+  entity_put : Data → Operation
 
--- a fault of a put, told at the place of what was put in its file, counted from 0
+-- `put_refusal place f` is the error `f` of a put, at the index `place` in its file.
 abbrev pub put_refusal : ℕ → SiteFault → Refusal
 put_refusal place NoMemory = no_memory
 put_refusal place f = record { code = code_of f; place = Some place; within = within_of f }
 
--- the site with name n
+-- for the site named n
 module _ (schema : StatedSchema) (n : List ℕ) where
-  -- takes the put, and goes on from s to t
-  abbrev pub Accepts : Store → Deed → Store → Type 0
+  -- `Accepts s operation t` holds if the site with store `s` accepts `operation`, which leads to `t`.
+  abbrev pub Accepts : Store → Operation → Store → Type 0
   Accepts s (policy_put id text) t = (put : Put) × PutsPolicy schema n s id text (Ok put) t
   Accepts s (entity_put json) t = (stamp : Stamp) × PutsEntity schema n s (Some json) (Ok stamp) t
 
-  -- refuses it for this fault
-  abbrev pub Refuses : Store → Deed → SiteFault → Type 0
+  -- `Refuses s operation f` holds if the site rejects `operation` with the error `f`.
+  abbrev pub Refuses : Store → Operation → SiteFault → Type 0
   Refuses s (policy_put id text) f = PutsPolicy schema n s id text (Err f) s
   Refuses s (entity_put json) f = PutsEntity schema n s (Some json) (Err f) s
 
-  -- refuses what is put from this place of a file
-  abbrev pub RefusesAt : Store → ℕ → Deed → Refusal → Type 0
-  RefusesAt s place deed refusal = (f : SiteFault) × Refuses s deed f × (refusal ≡ put_refusal place f)
+  -- `RefusesAt s place operation refusal` holds if the site rejects `operation`, at the index `place`, with this
+  -- error.
+  abbrev pub RefusesAt : Store → ℕ → Operation → Refusal → Type 0
+  RefusesAt s place operation refusal = (f : SiteFault) × Refuses s operation f × (refusal ≡ put_refusal place f)
 
-  -- takes all of them, one after another
-  abbrev pub AcceptsAll : Store → List Deed → Store → Type 0
+  -- `AcceptsAll s operations t` holds if the site accepts all of `operations`, one after another.
+  abbrev pub AcceptsAll : Store → List Operation → Store → Type 0
   AcceptsAll s [] t = t ≡ s
-  AcceptsAll s (deed ∷ deeds) t = (m : Store) × Accepts s deed m × AcceptsAll m deeds t
+  AcceptsAll s (operation ∷ operations) t = (m : Store) × Accepts s operation m × AcceptsAll m operations t
 
-  -- takes the first of them, which stand in their file from this place on, and refuses the next
-  abbrev pub RefusesFirst : Store → ℕ → List Deed → Refusal → Type 0
+  -- `RefusesFirst s place operations refusal` holds if the site accepts the first of `operations` and rejects the
+  -- next with this error, where `place` is the index of the first of all.
+  abbrev pub RefusesFirst : Store → ℕ → List Operation → Refusal → Type 0
   RefusesFirst s place [] refusal = ⊥
-  RefusesFirst s place (deed ∷ deeds) refusal = RefusesAt s place deed refusal
-      ⊎ ((m : Store) × Accepts s deed m × RefusesFirst m (suc place) deeds refusal)
+  RefusesFirst s place (operation ∷ operations) refusal = RefusesAt s place operation refusal
+      ⊎ ((m : Store) × Accepts s operation m × RefusesFirst m (suc place) operations refusal)

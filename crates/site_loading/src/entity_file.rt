@@ -1,9 +1,9 @@
-//! The entities of an array, each put in its turn.
+//! Puts of the entities of an array, one after another.
 ghost use Rattle.std.specs.Prelude.{◌≡◌, ◌<◌, ◌^◌, List, length, map, Some, IfErr, OnOk};
 ghost use Rattle.serde_json.specs.Data.{Data};
 ghost use Rattle.serde_json.specs.View.{view};
 ghost use Rattle.schema_decisions.specs.json_values.Arrays.{to_come};
-ghost use Rattle.site_steps.specs.Seen.{schema_of, store_in, IsSameSite};
+ghost use Rattle.site_steps.specs.SiteViews.{schema_of, store_in, IsSameSite};
 ghost use Rattle.plain.specs.Refused.{OrNoMemory};
 ghost use Rattle.schema_decisions.specs.answer_lines.Refusals.{no_memory};
 ghost use Rattle.site_loading.specs.Puts.{entity_put, Accepts, AcceptsAll, RefusesAt, RefusesFirst};
@@ -32,7 +32,7 @@ fn put_entity(site: &mut Site, place: usize, value: &Value) -> Result<(), Refusa
     }
 }
 
-/// Puts the entities that are still to come of an array, in their order, up to the first that is refused.
+/// Puts the remaining entities of an array, in their order, up to the first that is rejected.
 fn put_each(alloc: Global, site: &mut Site, members: &mut Members<'_>) -> Result<(), Refusal>
     requires few { length members.old.reader < 2 ^ 63 }
     requires json { (ds : List Data) × (to_come members.old ≡ Some ds) }
@@ -55,11 +55,16 @@ fn put_each(alloc: Global, site: &mut Site, members: &mut Members<'_>) -> Result
     }
 }
 
-/// Puts the entities of an array, each in its turn.
+/// Puts the entities of an array, one after another. The array is read twice, one member's JSON at a time.
 ///
-/// Refused in this order: the array, as it is read where a request is decided (30 to 38, at the entity's place in the
-/// array, from 0, or 30 without a place where there is no array); then the first put that is refused, at the entity's
-/// place. The array is read twice, one member's JSON at a time.
+/// # Errors
+///
+/// In this order:
+///
+/// - 30 to 38, at the entity's index in the array: the array, as it is read for a decision; 30 without a place if
+///   there is no array.
+/// - The error of the first rejected put, at the entity's index.
+/// - `NoMemory` (1): an allocation failed; possible at any point.
 pub(crate) fn load_entities(alloc: Global, site: &mut Site, bytes: &[u8]) -> Result<(), Refusal>
     ensures loaded { OnOk result (LoadsEntities (schema_of site.old) site.old.name (store_in site.old) bytes.now
         (store_in site.new)) }

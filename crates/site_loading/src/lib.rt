@@ -1,4 +1,4 @@
-//! A file of policies and an array of entities, put into a site, as its own puts.
+//! Loads a file of policies and an array of entities into a site by single puts.
 #![tactic(auto)]
 
 mod entity_file;

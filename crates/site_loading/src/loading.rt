@@ -1,6 +1,6 @@
-//! The state of a site that files are put into.
+//! The state of a site after a load of files.
 ghost use Rattle.std.specs.Prelude.{◌≡◌, option_map, IfOk, IfErr, OnOk};
-ghost use Rattle.site_steps.specs.Seen.{schema_of, store_in, IsSameSite};
+ghost use Rattle.site_steps.specs.SiteViews.{schema_of, store_in, IsSameSite};
 ghost use Rattle.plain.specs.Refused.{OrNoMemory};
 ghost use Rattle.schema_decisions.specs.answer_lines.Refusals.{no_memory};
 ghost use Rattle.site_loading.specs.Loads.{IsLoadedState, IsRefused, LoadsIfNamed, RefusesIfNamed};
@@ -52,14 +52,21 @@ fn load_entities_if_named(
     }
 }
 
-/// Returns the state of a site, as a message, once the policies of a file and the entities of an array are put into it,
-/// where they are given: each policy under its name in the file with its own text from the file, then each entity. It
-/// is what [`Site::state`] gives after these puts, and reads back as the store's updates.
+/// Puts the given policies of a file and entities of an array into a site, and returns its state as a message.
 ///
-/// Refused whole, in this order: the file of policies (10 to 19, at a byte); the first policy whose put is refused, at
-/// its place in the file, from 0 (18 for a text of over 262,144 bytes, 40 to 46, 62); the array of entities (30 to 38,
-/// at the entity's place in it, from 0, or without a place where there is no array); the first entity whose put is
-/// refused, at its place (61, 62). `NoMemory` (1) may come at any point.
+/// Each policy is put under its name in the file with its own text from the file, then each entity. The result is
+/// that of [`Site::state`] after these puts, and reads back as the store's updates.
+///
+/// # Errors
+///
+/// The first of these, in this order; there is then no state:
+///
+/// - 10 to 19, at a byte offset: the file of policies.
+/// - At the policy's index in the file: the first rejected put of a policy (18 for a text of over 262,144 bytes, 40
+///   to 46, 62).
+/// - 30 to 38, at the entity's index in the array: the array of entities; 30 without a place if there is no array.
+/// - At the entity's index: the first rejected put of an entity (61, 62).
+/// - `NoMemory` (1): an allocation failed; possible at any point.
 pub fn loaded_state(
     alloc: Global,
     site: Site,

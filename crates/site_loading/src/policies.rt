@@ -1,7 +1,7 @@
-//! The policies of a file, each put with its own text.
+//! Puts of the policies of a file, each with its own text.
 ghost use Rattle.std.specs.Prelude.{◌≡◌, length, map, string_bytes, IfOk, IfErr, OnOk};
 ghost use Rattle.grammar_files.specs.Cuts.{AreTextsOf};
-ghost use Rattle.site_steps.specs.Seen.{schema_of, store_in, IsSameSite};
+ghost use Rattle.site_steps.specs.SiteViews.{schema_of, store_in, IsSameSite};
 ghost use Rattle.plain.specs.Refused.{OrNoMemory};
 ghost use Rattle.schema_decisions.specs.answer_lines.Refusals.{no_memory};
 ghost use Rattle.site_loading.specs.Puts.{policy_put, Accepts, AcceptsAll, RefusesAt, RefusesFirst};
@@ -46,7 +46,7 @@ fn texts_of<'t>(alloc: Global, bytes: &'t [u8]) -> Result<Vec<&'t str>, NoMemory
     }
 }
 
-/// Puts policies under these names with these texts, in their order, up to the first that is refused.
+/// Puts policies under these names with these texts, in their order, up to the first that is rejected.
 fn put_each(site: &mut Site, policies: &[(String, Policy)], texts: &[&str]) -> Result<(), Refusal>
     requires { length texts.now ≡ length policies.now }
     ensures accepted { OnOk result (AcceptsAll (schema_of site.old) site.old.name (store_in site.old)
@@ -62,10 +62,15 @@ fn put_each(site: &mut Site, policies: &[(String, Policy)], texts: &[&str]) -> R
     Ok(())
 }
 
-/// Puts the policies of a file, each under its name in the file with its own text from the file, in the file's order.
+/// Puts the policies of a file in its order, each under its name in the file with its own text from the file.
 ///
-/// Refused in this order: the file, as it is read anywhere (10 to 19, at a byte); then the first put that is refused,
-/// at the policy's place in the file, from 0.
+/// # Errors
+///
+/// In this order:
+///
+/// - 10 to 19, at a byte offset: the file.
+/// - The error of the first rejected put, at the policy's index in the file.
+/// - `NoMemory` (1): an allocation failed; possible at any point.
 pub(crate) fn load_policies(alloc: Global, site: &mut Site, bytes: &[u8]) -> Result<(), Refusal>
     ensures loaded { OnOk result (LoadsPolicies (schema_of site.old) site.old.name (store_in site.old) bytes.now
         (store_in site.new)) }

@@ -1,4 +1,4 @@
-//! The refusal of what is put.
+//! The errors of puts.
 ghost use Rattle.std.specs.Prelude.{◌≡◌};
 ghost use Rattle.site_loading.specs.Puts.{put_refusal};
 
@@ -6,8 +6,7 @@ use plain::NoMemory;
 use schema_decisions::Refusal;
 use site_steps::SiteFault;
 
-/// Returns a fault of a put, told at the place of what was put in its file, counted from 0. Want of memory has no
-/// place.
+/// Converts the error of a put; its place is the index in the file of what was put. `NoMemory` has no place.
 pub(crate) fn put_refusal(place: usize, fault: SiteFault) -> Refusal
     ensures { result ≡ put_refusal place fault }
 {

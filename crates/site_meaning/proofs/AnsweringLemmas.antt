@@ -1,4 +1,4 @@
--- What is said of what stands beside the texts is said of the store.
+-- An answer over the parsed texts is an answer over the store.
 use Rattle.std.specs.Prelude.{◌≡◌, ◌↔◌, ℕ, List, Bool, true, false, IsTrue, Result, Ok, Err, IfOk}
 use Rattle.std.proofs.Common.{◌∙◌, sym}
 use Rattle.values.specs.declared.entity_uid.EntityUid.{EntityUid}
@@ -11,7 +11,7 @@ use Rattle.entity_hierarchy.specs.schema.Schemas.{StatedSchema}
 use Rattle.entity_hierarchy.specs.entity_data.declared.entity.Entity.{Entity}
 use Rattle.stamped_store.specs.Store.{StoreEntries, updates, abstract_store, abstract_updates}
 use Rattle.stamped_store.specs.Reading.{AreEntriesRead}
-use Rattle.site_meaning.specs.Said.{world_under, parents_with, IsAnswerOver, MakesCycle, MakesNoCycle}
+use Rattle.site_meaning.specs.StoreMeaning.{world_under, parents_with, IsAnswerOver, MakesCycle, MakesNoCycle}
 use Rattle.site_meaning.specs.TextsRead.{policies_read, entity_at}
 use Rattle.site_meaning.proofs.PolicyLemmas.{policies_are}
 use Rattle.site_meaning.proofs.EntityLemmas.{entities_are}

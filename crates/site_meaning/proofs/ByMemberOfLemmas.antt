@@ -8,7 +8,7 @@ use Rattle.entity_hierarchy.specs.evaluator.Operators.{World}
 use Rattle.entity_hierarchy.specs.authoriser.Answers.{IsAnswer}
 use Rattle.entity_hierarchy.specs.entity_data.declared.entity.Entity.{Entity}
 use Rattle.entity_hierarchy.specs.Laws.{MemberOfIsKept}
-use Rattle.site_meaning.specs.Said.{data_in}
+use Rattle.site_meaning.specs.StoreMeaning.{data_in}
 use Rattle.site_meaning.specs.ByMemberOf.{StoredActionsAnswerAlike, StoredActionsCycleAlike, StoredActionsAllowAlike}
 
 module _ (Policies : List ℕ → List ℕ → Policy → Type 0) (Entities : EntityUid → List ℕ → Entity → Type 0) where

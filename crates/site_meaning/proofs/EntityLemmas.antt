@@ -1,4 +1,4 @@
--- The entities that stand beside the texts of a store are those that it says, and there is one at each uid.
+-- The parsed entities of a store are those of its meaning, and there is one at each uid.
 use Rattle.std.specs.Prelude.{◌≡◌, ◌↔◌, ℕ, List, [], ◌∷◌, ◌++◌, Option, Some, None, true, false, cond, refl}
 use Rattle.std.specs.Prelude.{option_and_then, option_map}
 use Rattle.std.proofs.Common.{sym, ap, ◌∙◌, subst}
@@ -22,7 +22,7 @@ use Rattle.stamped_store.specs.Store.{Store, Update, StoreEntries, updates, abst
 use Rattle.stamped_store.specs.Store.{entity_name}
 use Rattle.stamped_store.specs.Contents.{text_under}
 use Rattle.stamped_store.specs.Reading.{AllNamed, IsBodyRead, IsEntryRead}
-use Rattle.site_meaning.specs.Said.{IsReadFrom, AreEntities, HaveOneReading}
+use Rattle.site_meaning.specs.StoreMeaning.{IsReadFrom, AreEntities, HaveOneReading}
 use Rattle.site_meaning.specs.TextsRead.{entity_read, entity_at}
 
 equal_of : (r : Ordering) → is_eq r ≡ true → r ≡ Equal

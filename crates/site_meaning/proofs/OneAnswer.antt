@@ -16,8 +16,8 @@ use Rattle.entity_hierarchy.specs.entity_data.declared.data.EntityData.{EntityDa
 use Rattle.entity_hierarchy.specs.entity_data.Entities.{kept_parents, action_or}
 use Rattle.stamped_store.specs.Store.{Store, entity_name}
 use Rattle.stamped_store.specs.Contents.{text_under, entities_of}
-use Rattle.site_meaning.specs.Said.{ArePolicies, IsReadFrom, AreEntities, HaveOneReading, data_of, world_under}
-use Rattle.site_meaning.specs.Said.{IsAnswerOver}
+use Rattle.site_meaning.specs.StoreMeaning.{ArePolicies, IsReadFrom, AreEntities, HaveOneReading, data_of, world_under}
+use Rattle.site_meaning.specs.StoreMeaning.{IsAnswerOver}
 use Rattle.site_meaning.proofs.PolicyLemmas.{one_policies}
 use Rattle.site_meaning.proofs.EntityLemmas.{one_entities}
 
@@ -35,14 +35,14 @@ first_in (u ∷ ts) t m = ⊎_elim
     (λ later. Contains-there u.0 (firsts ts) t.0 (first_in ts t later))
     (Contains-cases u ts t m)
 
--- where there is an entity there is a text
+-- a uid with an entity has a text
 text_of : (Reads : List ℕ → Entity → Type 0) (b : Option (List ℕ)) (o : Option Entity) (a : EntityUid) → IsReadFrom Reads b o
     → Contains (kept_parents (option_map data_of o)) a → (text : List ℕ) × (b ≡ Some text)
 text_of Reads None None a h m = Contains-none a m
 text_of Reads None (Some e) a h m = absurd h
 text_of Reads (Some text) o a h m = (text, refl)
 
--- what has parents is an action, or an entity with a text
+-- a uid with parents is an action, or an entity with a text
 parent_of : (actions : Option (List EntityUid)) (o : Option EntityData) (a : EntityUid) {G : Type 0} → Contains (kept_parents (action_or actions o)) a
     → ((us : List EntityUid) → actions ≡ Some us → G) → (Contains (kept_parents o) a → G) → G
 parent_of None o a h f g = g h

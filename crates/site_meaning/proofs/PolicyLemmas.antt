@@ -1,4 +1,4 @@
--- The policies that stand beside the texts of a store are those that it says; these ascend, and there is one list.
+-- The parsed policies of a store are those of its meaning; they ascend, and there is one list of them.
 use Rattle.std.specs.Prelude.{T, ◌&&◌, ◌≡◌, ◌↔◌, Vec, Result, Ok, Err, IfOk, ℕ, List, [], ◌∷◌, ◌++◌, map, Option, Some}
 use Rattle.std.specs.Prelude.{None, Bool, true, false, Contains, refl, string_bytes}
 use Rattle.std.proofs.Common.{sym, ◌∙◌, subst}
@@ -29,7 +29,7 @@ use Rattle.stamped_store.specs.Store.{Store, Update, StoreEntries, updates, abst
 use Rattle.stamped_store.specs.Store.{entity_name, policy_name}
 use Rattle.stamped_store.specs.Contents.{text_under, policy_text, policies_of}
 use Rattle.stamped_store.specs.Reading.{AllNamed, IsBodyRead, IsEntryRead}
-use Rattle.site_meaning.specs.Said.{ArePolicies, HaveOneReading}
+use Rattle.site_meaning.specs.StoreMeaning.{ArePolicies, HaveOneReading}
 use Rattle.site_meaning.specs.TextsRead.{policy_read, policies_read}
 use Rattle.site_meaning.proofs.Zips.{one_list, of_first, of_second}
 

@@ -1,4 +1,4 @@
--- Where the uids of entries ascend, those of entries with a text are those at which there is an entity, and ascend too.
+-- If the uids of entries ascend, those of entries with a text are those that have an entity, and ascend too.
 use Rattle.std.specs.Prelude.{◌≡◌, Vec, Result, Ok, Err, IfOk, List, [], ◌∷◌, ◌++◌, Option, Some, None, is_some, Bool}
 use Rattle.std.specs.Prelude.{false, cond, refl, option_and_then}
 use Rattle.std.proofs.Common.{sym, ap, ◌∙◌, subst}
@@ -24,7 +24,7 @@ use Rattle.site_meaning.specs.inner.Listing.{uid_with, uids_with_text}
 abbrev Entries : Type 0
 Entries = List (EntityUid × Entry Entity)
 
--- each entry is the one that is found at its key
+-- each entry is found at its key
 abbrev AreFound : Entries → Entries → Type 0
 AreFound all es = AllByRecursion (λ (e : EntityUid × Entry Entity). value_at uid_cmp all e.0 ≡ Some e.1) es
 

@@ -1,4 +1,4 @@
--- Lists side by side: one list at most, and what stands in one stands in the other.
+-- Related lists: there is at most one, and each item of one has a related item in the other.
 use Rattle.std.specs.Prelude.{◌≡◌, List, [], ◌∷◌, Contains, refl}
 use Rattle.std.specs.List.{AllZip}
 use Rattle.std.proofs.Common.{subst, ⊎_elim}

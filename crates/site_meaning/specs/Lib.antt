@@ -1,9 +1,9 @@
-pub mod Said
+pub mod StoreMeaning
 pub mod ByMemberOf
 pub mod TextsRead
 pub mod Listed
 pub mod inner
--- crates below, passed on to those above
+-- Specifications of lower crates, re-exported.
 pub use Rattle.entity_hierarchy.specs as entity_hierarchy
 pub use Rattle.entity_hierarchy.specs.ancestor_search
 pub use Rattle.entity_hierarchy.specs.authoriser

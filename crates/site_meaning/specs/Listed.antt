@@ -1,4 +1,4 @@
--- The uids that are listed of entries are those at which there is an entity.
+-- Proves that the uids listed of entries are those that have an entity.
 use Rattle.std.specs.Prelude.{◌≡◌, List, [], ◌∷◌, Contains, Option, Some, None, IsSome, is_some, Bool, true, false}
 use Rattle.std.specs.Prelude.{cond, refl, option_and_then, option_map}
 use Rattle.std.proofs.Common.{subst, sym, ◌∙◌, inl, inr}
@@ -14,7 +14,7 @@ use Rattle.entity_hierarchy.specs.entity_data.declared.entity.Entity.{Entity}
 use Rattle.entity_hierarchy.specs.entity_data.Entities.{AreListed}
 use Rattle.stamped_store.specs.declared.entry.Entry.{Entry}
 use Rattle.stamped_store.specs.Stored.{value_at}
-use Rattle.site_meaning.specs.Said.{data_of, data_in}
+use Rattle.site_meaning.specs.StoreMeaning.{data_of, data_in}
 use Rattle.site_meaning.specs.TextsRead.{entity_at, uids_read}
 
 out_of_filter : (p : EntityUid → Bool) (xs : List EntityUid) (u : EntityUid) → Contains (filter p xs) u

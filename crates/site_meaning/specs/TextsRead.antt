@@ -1,4 +1,4 @@
--- What stands beside the texts of a store, as they were read.
+-- Defines the parsed forms that a store holds with its texts.
 use Rattle.std.specs.Prelude.{ℕ, List, [], ◌∷◌, Option, Some, None, is_some, string_bytes, option_and_then, option_map}
 use Rattle.std.specs.List.{filter, flat_map}
 use Rattle.std.specs.Map.{keys_of}
@@ -13,23 +13,23 @@ use Rattle.stamped_store.specs.declared.entry.Entry.{Entry}
 use Rattle.stamped_store.specs.declared.entry.ReadText.{ReadText}
 use Rattle.stamped_store.specs.Stored.{value_at}
 
--- the policy under an id, where there is a text
+-- `policy_read id t` is the parsed policy with this id, if there is a text `t`, else nothing.
 abbrev pub policy_read : List ℕ → Option (ReadText Policy) → List NamedPolicy
 policy_read id None = []
 policy_read id (Some t) = record { id = id; policy = t.read } ∷ []
 
--- the policies of these entries, in their order
+-- `policies_read es` is the list of the parsed policies of the entries `es`, in their order.
 abbrev pub policies_read : List (String Global × Entry Policy) → List NamedPolicy
 policies_read es = flat_map (λ e. policy_read (string_bytes e.0) e.1.body) es
 
--- the entity that stands beside a text
+-- `entity_read body` is the parsed entity of `body`, if that is a text.
 abbrev pub entity_read : Option (ReadText Entity) → Option Entity
 entity_read body = option_map (λ t. t.read) body
 
--- the entity under a uid among these entries
+-- `entity_at es uid` is the parsed entity of `uid` among the entries `es`, if there is one.
 abbrev pub entity_at : List (EntityUid × Entry Entity) → EntityUid → Option Entity
 entity_at es uid = option_and_then (λ e. entity_read e.body) (value_at uid_cmp es uid)
 
--- the uids among these entries at which there is an entity, in their order
+-- `uids_read es` is the list of the uids of the entries `es` that have an entity, in their order.
 abbrev pub uids_read : List (EntityUid × Entry Entity) → List EntityUid
 uids_read es = filter (λ uid. is_some (entity_at es uid)) (keys_of es)

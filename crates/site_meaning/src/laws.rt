@@ -1,4 +1,4 @@
-//! Laws of what a store says, by the contract of a function that does nothing.
+//! Theorems about the meaning of a store; their functions do nothing.
 ghost use Rattle.std.specs.Prelude.{◌≡◌, ◌↔◌, ℕ, List, Option, Some, Contains, map};
 ghost use Rattle.values.specs.declared.entity_uid.EntityUid.{EntityUid};
 ghost use Rattle.values.specs.declared.request.Request.{Request as PlainRequest};
@@ -9,7 +9,7 @@ ghost use Rattle.entity_hierarchy.specs.schema.Schemas.{StatedSchema, IsSchemaOf
 ghost use Rattle.entity_hierarchy.specs.entity_data.declared.entity.Entity.{Entity as PlainEntity};
 ghost use Rattle.stamped_store.specs.Store.{Store, policy_name, entity_name};
 ghost use Rattle.stamped_store.specs.Contents.{text_under};
-ghost use Rattle.site_meaning.specs.Said.{ArePolicies, AreEntities, HaveOneReading, IsAnswerOver};
+ghost use Rattle.site_meaning.specs.StoreMeaning.{ArePolicies, AreEntities, HaveOneReading, IsAnswerOver};
 ghost use Rattle.site_meaning.specs.ByMemberOf.{StoredActionsAnswerAlike, StoredActionsCycleAlike};
 ghost use Rattle.site_meaning.specs.ByMemberOf.{StoredActionsAllowAlike};
 
@@ -17,8 +17,8 @@ use entity_hierarchy::{Entity, Policy, actions_may_be_closed, answers_are_lawful
 use stamped_store::Readings;
 use stamped_store::laws::contents_are_told;
 
-/// Where a text may be read as one value at most under its name, a store has one list of policies at most, and at each
-/// uid one entity at most: exactly those whose name has a text. The ids of the policies ascend.
+/// Proves that a store has at most one list of policies, and at most one entity at each uid, if a text has at most
+/// one value under its name: exactly those whose name has a text. The ids of the policies ascend. No-op.
 pub fn stores_have_one_reading<R: Readings<Policy, Entity>>()
     ensures policies { (r : R) (s : Store) (ps qs : List NamedPolicy) → HaveOneReading (R.reads_policy r)
         → ArePolicies (R.reads_policy r) s ps → ArePolicies (R.reads_policy r) s qs → ps ≡ qs }
@@ -38,8 +38,8 @@ pub fn stores_have_one_reading<R: Readings<Policy, Entity>>()
     contents_are_told();
 }
 
-/// Where each text of a store can be read, each request has an answer over it, under a schema that bytes state; and
-/// where a text may be read as one value at most, it has one answer at most. So stores that are equal answer equally.
+/// Proves that a request has one answer over a store, under a schema that bytes state: at least one if each text can
+/// be read, and at most one if a text has at most one value. So equal stores give equal answers. No-op.
 pub fn requests_have_one_answer<R: Readings<Policy, Entity>>()
     ensures some { (r : R) (bytes : List ℕ) (schema : StatedSchema) (s : Store) (ps : List NamedPolicy)
         (es : EntityUid → Option PlainEntity) (q : PlainRequest) → IsSchemaOf bytes schema
@@ -54,9 +54,12 @@ pub fn requests_have_one_answer<R: Readings<Policy, Entity>>()
     contents_are_told();
 }
 
-/// Under a schema that bytes state, an answer over a store is one over the world in which each action has as parents
-/// what its `memberOf` states, and no more, and the other way round; and an entity makes a cycle once it is put, or
-/// none, exactly where it does so there. Whatever texts may be read as, and whatever uid the entity has.
+/// Proves that answers and cycles are those over the entity data in which each action has only the parents that its
+/// `memberOf` states.
+///
+/// Under a schema that bytes state, an answer over a store is an answer over that data, and the converse; and putting
+/// an entity makes a cycle, or makes none, if and only if it does so there. This holds whatever the texts are read
+/// as, and whatever uid the entity has. No-op.
 pub fn stored_actions_answer_alike<R: Readings<Policy, Entity>>()
     ensures answers { (r : R) → StoredActionsAnswerAlike (R.reads_policy r) (R.reads_entity r) }
     ensures cycles { (r : R) → StoredActionsCycleAlike (R.reads_entity r) }

@@ -1,7 +1,7 @@
-//! What a store of stamped texts says: its policies and entities, and that it has one answer to each request.
+//! The meaning of a store of stamped texts: its policies, its entities, and the one answer to each request.
 //!
-//! Policies and entities are those that stand beside its texts, as they were read. What a policy's text may be read as
-//! is a parameter of the contracts. Who answers by them is `site_store`.
+//! The store holds each text with its parsed form. What a text may be read as is a parameter of the contracts.
+//! `site_store` answers requests by these definitions.
 #![tactic(auto)]
 
 mod laws;
@@ -9,7 +9,7 @@ mod policies;
 mod stored_entities;
 
 pub use entity_hierarchy::{
-    Answer, Entity, EntityFault, Known, Lookup, Schema, World, actions_may_be_closed,
+    Answer, Entity, EntityFault, Lookup, PreparedRequest, Schema, World, actions_may_be_closed,
     answers_are_lawful, canonical_text, decide_known, entities_read_back,
     expressions_have_one_outcome, paths_are_decided, read_entity, read_request,
     requests_have_one_outcome, scopes_do_not_err, stated_schemas_are_well_formed, world_under,

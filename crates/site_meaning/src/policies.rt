@@ -7,13 +7,13 @@ ghost use Rattle.site_meaning.specs.TextsRead.{policies_read};
 
 use entity_hierarchy::{Entity, Policy};
 use plain::NoMemory;
-use stamped_store::PolicyStore;
+use stamped_store::StampedStore;
 use std::alloc::Global;
 
-/// Returns the policies that stand beside the texts of a store, in the order of their names.
+/// Returns the parsed policies of a store, in the order of their names.
 fn read_policies<'s>(
     alloc: Global,
-    store: &'s PolicyStore<Policy, Entity>,
+    store: &'s StampedStore<Policy, Entity>,
 ) -> Result<Vec<(&'s str, &'s Policy)>, NoMemory>
     ensures read { IfOk result (λ ps. named ps.items ≡ policies_read store.now.policies) }
     ensures in_order { updates (abstract_store store.now) ≡ abstract_updates store.now }
@@ -27,11 +27,16 @@ fn read_policies<'s>(
     Ok(found)
 }
 
-/// Returns the policies of a store that have a text, each as its text was read, ascending by id: what `decide` takes.
-/// One pass over all names of policies. Errors: `NoMemory` alone.
+/// Returns the policies of a store that have a text, parsed, in ascending order of ids, as `decide` takes them.
+///
+/// One pass over all names of policies.
+///
+/// # Errors
+///
+/// `NoMemory` alone.
 pub fn policies_in<'s>(
     alloc: Global,
-    store: &'s PolicyStore<Policy, Entity>,
+    store: &'s StampedStore<Policy, Entity>,
 ) -> Result<Vec<(&'s str, &'s Policy)>, NoMemory>
     ensures read { IfOk result (λ ps. named ps.items ≡ policies_read store.now.policies) }
     ensures ascending { IfOk result (λ ps. AreIdsAscending (map (λ p. p.id) (named ps.items))) }

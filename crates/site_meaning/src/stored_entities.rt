@@ -1,4 +1,4 @@
-//! The entities of a store, for whoever asks.
+//! The entities of a store as a source of entity data.
 ghost use Rattle.std.specs.Prelude.{◌≡◌, IfOk};
 ghost use Rattle.std.specs.Option.{option_copied};
 ghost use Rattle.entity_hierarchy.specs.ancestor_search.Hierarchy.{IsAscending, names};
@@ -7,33 +7,33 @@ ghost use Rattle.std.specs.Map.{keys_of};
 ghost use Rattle.values.specs.Names.{uid_cmp};
 ghost use Rattle.site_meaning.specs.inner.Listing.{uids_with_text};
 ghost use Rattle.site_meaning.specs.TextsRead.{entity_at, uids_read};
-ghost use Rattle.site_meaning.specs.Said.{data_in};
+ghost use Rattle.site_meaning.specs.StoreMeaning.{data_in};
 ghost use Rattle.site_meaning.specs.Listed.{entities_listed};
 
 use entity_hierarchy::{Entity, EntitySource, Policy};
 use plain::NoMemory;
-use stamped_store::PolicyStore;
+use stamped_store::StampedStore;
 use std::alloc::Global;
 use values::{EntityUid, Record};
 
-/// The entities of a store that have a text, each as its text was read.
+/// The entities of a store that have a text, parsed.
 #[derive(Clone, Copy)]
 pub struct StoredEntities<'s> {
     /// The store.
-    pub store: &'s PolicyStore<Policy, Entity>,
+    pub store: &'s StampedStore<Policy, Entity>,
 }
 
 impl<'s> StoredEntities<'s> {
-    /// Those of this store. Takes no memory.
-    pub fn of(store: &'s PolicyStore<Policy, Entity>) -> Self
+    /// Creates the source of this store's entities. Does not allocate.
+    pub fn of(store: &'s StampedStore<Policy, Entity>) -> Self
         ensures { result.store.now ≡ store.now }
     {
         StoredEntities { store }
     }
 }
 
-/// Returns the entity under a uid, as its text was read; None where there is no text. Takes no memory.
-fn entity_in<'s>(store: &'s PolicyStore<Policy, Entity>, uid: &EntityUid) -> Option<&'s Entity>
+/// Returns the parsed entity of a uid; `None` if it has no text. Does not allocate.
+fn entity_in<'s>(store: &'s StampedStore<Policy, Entity>, uid: &EntityUid) -> Option<&'s Entity>
     ensures { option_copied result ≡ entity_at store.now.entities uid.now }
 {
     match store.get_entity(uid) {
@@ -74,7 +74,7 @@ impl EntitySource for StoredEntities<'_> {
 /// Returns the uids of those entries that have a text, in their order.
 fn uids_with_text<'s>(
     alloc: Global,
-    store: &'s PolicyStore<Policy, Entity>,
+    store: &'s StampedStore<Policy, Entity>,
 ) -> Result<Vec<&'s EntityUid>, NoMemory>
     ensures found { IfOk result (λ us. names us.items ≡ uids_with_text store.now.entities) }
     ensures ordered { IsStrictlySortedBy uid_cmp (keys_of store.now.entities) }
@@ -88,10 +88,10 @@ fn uids_with_text<'s>(
     Ok(found)
 }
 
-/// Returns the uids of the entities of a store, ascending.
+/// Returns the uids of a store's entities, in ascending order.
 fn uids_in<'s>(
     alloc: Global,
-    store: &'s PolicyStore<Policy, Entity>,
+    store: &'s StampedStore<Policy, Entity>,
 ) -> Result<Vec<&'s EntityUid>, NoMemory>
     ensures all { IfOk result (λ us. names us.items ≡ uids_read store.now.entities) }
     ensures ascending { IfOk result (λ us. IsAscending (names us.items)) }

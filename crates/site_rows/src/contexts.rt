@@ -4,9 +4,9 @@ use crate::line::{BAD_ROW, Line, NO_MEMORY};
 use crate::replies::push_fault;
 use crate::written::first_word;
 use entities::{Entity, EntityFault, Schema, canonical_text, read_context};
+use http_service::SiteFault;
 use json_words::read_json;
 use plain::{Items, NoMemory, Shared};
-use site::SiteFault;
 use std::alloc::Global;
 use values::{EntityUid, Record, TypeName};
 

@@ -4,8 +4,8 @@ use crate::line::{BAD_ROW, Line, NO_MEMORY};
 use crate::replies::{push_reply, push_standing};
 use crate::written::first_word;
 use entities::{Schema, read_schema};
+use http_service::{Input, Reply, Site, SiteName, run};
 use plain::{NoMemory, Shared};
-use site::{Input, Reply, Site, SiteName, run};
 use std::alloc::Global;
 
 /// A site that was started, with its name.

@@ -1,8 +1,8 @@
 //! Inputs as a case writes them.
 use crate::line::BETWEEN;
 use crate::written::{expanded, expanded_text, first_word};
+use http_service::Input;
 use plain::{Items, NoMemory, Text, beside};
-use site::Input;
 use std::alloc::Global;
 use values::{EntityUid, SharedText, TypeName};
 

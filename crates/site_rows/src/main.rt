@@ -16,6 +16,7 @@
 //!   `tried NAME` how many policies its last answer tried.
 //! - `context TYPE ID JSON` reads the context of a request for this action, and prints it as the attributes of an
 //!   entity.
+//! - `network ERROR` prints the message of an error of a served stream (`served read`) or of a request (`read`).
 //! - `world COUNT EVENT` plays events at so many empty sites, and prints the reply to each event and the state of each
 //!   site. ` ¶ ` separates events. An event is the number of a site and one of the first five inputs, or `summary`,
 //!   `offer`, `offer_delta NUMBER` or `deliver NUMBER`.
@@ -41,6 +42,7 @@ mod contexts;
 mod given;
 mod inputs;
 mod line;
+mod network;
 mod prefixes;
 mod repeats;
 mod replies;
@@ -68,6 +70,7 @@ fn push_outcome(alloc: Global, given: &mut Given, row: &str, line: &mut Line) {
             streams::push_stream(alloc, given.schema(), word, text, line)
         }
         "prefixes" => prefixes::push_prefixes(alloc, given, text, line),
+        "network" => network::push_network(text, line),
         "standing" | "tried" => given.push_measure(word, text, line),
         "says" => given.push_messages(alloc, text, line),
         name => given.push_replies(alloc, name, text, line),

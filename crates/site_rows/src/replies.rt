@@ -1,7 +1,6 @@
 //! Replies as a case prints them.
 use crate::line::{Line, NO_MEMORY};
-use http_service::{Answer, answer_line};
-use site::{Found, Put, Reply, Site, SiteFault, Stamp, Taken};
+use http_service::{Answer, Found, Put, Reply, Site, SiteFault, Stamp, Taken, answer_line};
 use std::alloc::Global;
 
 /// Appends the place of an error, or `-` without one.

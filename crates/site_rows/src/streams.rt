@@ -5,11 +5,8 @@ use crate::repeats::Repeats;
 use crate::replies::push_state;
 use crate::written::{first_word, number_of, push_escaped, push_unescaped, text_in};
 use entities::Schema;
-use http_service::serve;
-use http_streams::serve::StreamFault;
-use http_streams::{Fed, Kept, Plan};
+use http_service::{Fed, Kept, Plan, Site, SiteName, StreamFault, serve};
 use plain::{NoMemory, Shared, beside};
-use site::{Site, SiteName};
 use std::alloc::Global;
 
 /// More calls of a device, and more replies, than a case has.

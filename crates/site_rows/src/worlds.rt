@@ -4,24 +4,24 @@ use crate::line::{BAD_ROW, BETWEEN, Line, NO_MEMORY};
 use crate::replies::{push_fault, push_reply, push_state};
 use crate::written::{first_word, number_of};
 use entities::Schema;
+use http_service::{Event, EventReply, Operation, SiteFault, World, simulate};
 use plain::{NoMemory, Shared};
-use site::{Deed, Event, EventReply, SiteFault, World, simulate};
 use std::alloc::Global;
 
 /// Drops the parts of an input that is not an event.
-fn no_operation<T: Drop>(_parts: T) -> Option<Deed> {
+fn no_operation<T: Drop>(_parts: T) -> Option<Operation> {
     None
 }
 
 /// Returns the operation of an event, if an input is one.
-fn operation_by(input: OwnedInput) -> Option<Deed> {
+fn operation_by(input: OwnedInput) -> Option<Operation> {
     match input {
-        OwnedInput::PutPolicy(id, text) => Some(Deed::PutPolicy(id, text)),
-        OwnedInput::DeletePolicy(id) => Some(Deed::DeletePolicy(id)),
-        OwnedInput::PutEntity(bytes) => Some(Deed::PutEntity(bytes)),
-        OwnedInput::DeleteEntity(uid) => Some(Deed::DeleteEntity(uid)),
-        OwnedInput::Authorize(bytes) => Some(Deed::Authorize(bytes)),
-        OwnedInput::Summary => Some(Deed::Summary),
+        OwnedInput::PutPolicy(id, text) => Some(Operation::PutPolicy(id, text)),
+        OwnedInput::DeletePolicy(id) => Some(Operation::DeletePolicy(id)),
+        OwnedInput::PutEntity(bytes) => Some(Operation::PutEntity(bytes)),
+        OwnedInput::DeleteEntity(uid) => Some(Operation::DeleteEntity(uid)),
+        OwnedInput::Authorize(bytes) => Some(Operation::Authorize(bytes)),
+        OwnedInput::Summary => Some(Operation::Summary),
         OwnedInput::Take(bytes) => no_operation(bytes),
         OwnedInput::Delta(bytes) => no_operation(bytes),
         OwnedInput::GetPolicy(id) => no_operation(id),
@@ -30,7 +30,7 @@ fn operation_by(input: OwnedInput) -> Option<Deed> {
 }
 
 /// Returns the operation that a string describes, if it is an input too.
-fn input_operation(alloc: Global, text: &str) -> Result<Option<Deed>, NoMemory> {
+fn input_operation(alloc: Global, text: &str) -> Result<Option<Operation>, NoMemory> {
     match input_of(alloc, text)? {
         Some(input) => Ok(operation_by(input)),
         None => Ok(None),
@@ -38,26 +38,26 @@ fn input_operation(alloc: Global, text: &str) -> Result<Option<Deed>, NoMemory> 
 }
 
 /// Returns the offer of a delta against the summary of a number.
-fn delta_offered(text: &str) -> Option<Deed> {
+fn delta_offered(text: &str) -> Option<Operation> {
     match number_of(text) {
-        Some(number) => Some(Deed::OfferDelta(number)),
+        Some(number) => Some(Operation::OfferDelta(number)),
         None => None,
     }
 }
 
 /// Returns the delivery of the message of a number.
-fn delivered(text: &str) -> Option<Deed> {
+fn delivered(text: &str) -> Option<Operation> {
     match number_of(text) {
-        Some(number) => Some(Deed::Deliver(number)),
+        Some(number) => Some(Operation::Deliver(number)),
         None => None,
     }
 }
 
 /// Returns the operation of an event that a string describes, if it describes one.
-fn operation_of(alloc: Global, text: &str) -> Result<Option<Deed>, NoMemory> {
+fn operation_of(alloc: Global, text: &str) -> Result<Option<Operation>, NoMemory> {
     let (word, about) = first_word(text);
     match word {
-        "offer" => Ok(Some(Deed::Offer)),
+        "offer" => Ok(Some(Operation::Offer)),
         "offer_delta" => Ok(delta_offered(about)),
         "deliver" => Ok(delivered(about)),
         _ => input_operation(alloc, text),
@@ -71,7 +71,7 @@ fn event_of(alloc: Global, text: &str) -> Result<Option<Event>, NoMemory> {
         return Ok(None);
     };
     match operation_of(alloc, operation)? {
-        Some(deed) => Ok(Some(Event { site, deed })),
+        Some(operation) => Ok(Some(Event { site, operation })),
         None => Ok(None),
     }
 }

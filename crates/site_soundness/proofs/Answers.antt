@@ -1,4 +1,4 @@
--- Each policy that errs in an answer over a store errs for one of the two causes that are left.
+-- Each error in an answer over a store is one of the two that remain.
 use Rattle.std.proofs.Common.{◌≡◌, ◌↔◌, ℕ, List, [], ◌∷◌, map, Option, Some, None, Result, Ok, Err, refl, subst, inl}
 use Rattle.std.proofs.Common.{inr}
 use Rattle.std.specs.Prelude.{Contains, IsSome, ⊤, option_map}
@@ -19,7 +19,7 @@ use Rattle.site_meaning.specs.evaluator.Operators.{World}
 use Rattle.site_meaning.specs.evaluator.Outcomes.{EvaluationResult}
 use Rattle.site_meaning.specs.evaluator.Evaluation.{EvaluatesTo}
 use Rattle.sync_messages.specs.typing.Types.{boolean_type}
-use Rattle.sync_messages.specs.typing.Conforming.{Fits, IsHarmless}
+use Rattle.sync_messages.specs.typing.Conforming.{Fits, IsPermittedError}
 use Rattle.site_meaning.specs.authoriser.declared.answer.Answer.{Answer}
 use Rattle.site_meaning.specs.authoriser.declared.answer.ErringPolicy.{ErringPolicy}
 use Rattle.site_meaning.specs.authoriser.declared.outcome.Outcome.{Outcome}
@@ -39,9 +39,9 @@ use Rattle.sync_messages.specs.message_format.declared.bodies.BodyFault.TheVaria
 use Rattle.site_meaning.specs.entities.Canonical.{canonical_text}
 use Rattle.site_meaning.specs.entities.declared.fault.EntityFault.{EntityFault}
 use Rattle.sync_messages.specs.Texts.{ReadsPolicy, ReadsEntity, entity_of_text, refused_by}
-use Rattle.site_meaning.specs.Said.{AreEntities, IsReadFrom, data_of, data_in}
+use Rattle.site_meaning.specs.StoreMeaning.{AreEntities, IsReadFrom, data_of, data_in}
 use Rattle.sync_messages.specs.validator.Passing.{Passes}
-use Rattle.site_soundness.specs.Answers.{ErrsHarmlessly, StoredPoliciesGoRight, StoredAnswersGoRight}
+use Rattle.site_soundness.specs.Answers.{HasPermittedErrors, StoredPoliciesGoRight, StoredAnswersGoRight}
 use Rattle.site_soundness.specs.Worlds.{AreRead, WhatIsStoredGoesRight, entity_kept}
 use Rattle.site_soundness.proofs.Values.{bound, is_it, demanded}
 use Rattle.site_soundness.proofs.Stored.{mapped}
@@ -52,7 +52,7 @@ read_of : (r : Result Entity EntityFault) (e : Entity) → refused_by r ≡ Ok e
 read_of (Ok y) e h = cc
 read_of (Err f) e h = absurd cc
 
--- the entity that a text is read as was read from JSON, and has the uid that it is kept under
+-- the entity that a text is read as was read from JSON, and has the uid of its entry
 text_was_read : (s : StatedSchema) (uid : EntityUid) (text : List ℕ) (e : Entity) → ReadsEntity s uid text e
     → ((d : Data) × (entity_stated_in s d ≡ Ok e)) × (e.uid ≡ uid)
 unfolding entity_of_text
@@ -138,7 +138,7 @@ all_pass s (t ∷ ts) (q ∷ qs) h p m = elim (Contains-cases q qs p m) [
 -- ---- what errs in an answer
 
 abbrev Harmless : ErringPolicy → Type 0
-Harmless e = IsHarmless (fault_of e.error)
+Harmless e = IsPermittedError (fault_of e.error)
 
 one_errs : (W : World) (q : Request) (p : NamedPolicy) (id : List ℕ) (effect : Effect) (o : Outcome) → PolicyEvaluatesTo W q p.policy o
     → ((r : EvaluationResult) → EvaluatesTo W q (expression_of p.policy) r → Fits boolean_type r)
@@ -168,7 +168,7 @@ errors_are (p ∷ permits) [] es = refl
 
 answer_errs : (W : World) (q : Request) (ps : List NamedPolicy) (a : Answer) → IsAnswer W q ps a
     → ((p : NamedPolicy) → Contains ps p → (r : EvaluationResult) → EvaluatesTo W q (expression_of p.policy) r → Fits boolean_type r)
-    → ErrsHarmlessly a
+    → HasPermittedErrors a
 answer_errs W q ps a (inl denial) right e m =
     Contains-none e (subst (λ (x : Answer). Contains x.errors e) denial.rest m)
 answer_errs W q ps a (inr is) right e m =
@@ -177,15 +177,15 @@ answer_errs W q ps a (inr is) right e m =
     (subst (λ (es : List ErringPolicy). Contains es e) (errors_are (satisfied Permit js) (satisfied Forbid js) (erring js))
     (subst (λ (x : Answer). Contains x.errors e) is.answer m))
 
-pub stored_policies_go_right : MemberOfIsKept → MemberOfGivesAlike → WhatIsStoredGoesRight → TellsContents → StoredPoliciesGoRight
-stored_policies_go_right kept alike right tells bytes schema stated s d q states policies are_policies entities are p at r gives =
+pub stored_policies_are_sound : MemberOfIsKept → MemberOfGivesAlike → WhatIsStoredGoesRight → TellsContents → StoredPoliciesGoRight
+stored_policies_are_sound kept alike right tells bytes schema stated s d q states policies are_policies entities are p at r gives =
     right bytes schema stated (data_in entities) (are_read schema s entities are)
     (uids schema s entities are) (are_listed tells schema s entities are)
     d q states p.policy (all_pass schema (policies_of s) policies are_policies p at) r
     ((alike bytes schema stated (data_in entities) q (expression_of p.policy) r).0
     (subst (λ (W : World). EvaluatesTo W q (expression_of p.policy) r) (kept bytes schema stated (data_in entities)) gives))
 
-pub stored_answers_go_right : MemberOfIsKept → MemberOfGivesAlike → WhatIsStoredGoesRight → TellsContents → StoredAnswersGoRight
-stored_answers_go_right kept alike right tells bytes schema stated s d q states a is =
+pub stored_answers_are_sound : MemberOfIsKept → MemberOfGivesAlike → WhatIsStoredGoesRight → TellsContents → StoredAnswersGoRight
+stored_answers_are_sound kept alike right tells bytes schema stated s d q states a is =
     answer_errs _ q is.policies a is.is_answer (λ p at r gives.
-    (stored_policies_go_right kept alike right tells bytes schema stated s d q states is.policies is.are_policies is.entities is.are_entities p at r gives).0)
+    (stored_policies_are_sound kept alike right tells bytes schema stated s d q states is.policies is.are_policies is.entities is.are_entities p at r gives).0)

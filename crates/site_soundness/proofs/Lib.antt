@@ -3,5 +3,5 @@ pub mod Readings
 pub mod Worlds
 pub mod Stored
 pub mod Answers
--- crates below, passed on to those above
+-- Lemmas of lower crates, re-exported.
 pub use Rattle.sync_messages.proofs.of_grammar_core

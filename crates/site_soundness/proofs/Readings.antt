@@ -1,4 +1,4 @@
--- What is read of entities and requests is of the types that a schema declares.
+-- Entities and requests that are read have the types that a schema declares.
 use Rattle.std.proofs.Common.{◌≡◌, ℕ, List, [], ◌∷◌, Bool, true, false, not, cond, Option, Some, Result, Ok, Err, refl}
 use Rattle.std.proofs.Common.{sym, ap, subst}
 use Rattle.std.specs.Prelude.{Contains, ◌&&◌, codes, ⊤}

@@ -1,4 +1,4 @@
--- Policies that pass go right over entities that were read.
+-- Validation is sound over entities that were read.
 use Rattle.std.proofs.Common.{◌≡◌, List, [], ◌∷◌, ◌++◌, map, Option, Some, None, refl, sym, ap, subst, inl, inr}
 use Rattle.std.specs.Prelude.{Contains, IsSome}
 use Rattle.values.specs.declared.entity_uid.EntityUid.{EntityUid}
@@ -14,7 +14,7 @@ use Rattle.sync_messages.specs.type_checker.FromSchemas.{typing_environment_of}
 use Rattle.sync_messages.specs.validator.Outcomes.{PassingPoliciesGoRight}
 use Rattle.site_soundness.specs.Worlds.{WhatIsReadConforms, WhatIsStoredGoesRight}
 
--- each entity with parents is kept, or an action
+-- each entity with parents is stored, or an action
 module _ (s : StatedSchema) (wf : IsWellFormed s) (entities : EntityMap) (us : List EntityUid) (listed : AreListed entities us) where
   listed_at : (b a : EntityUid) (above : Option (List EntityUid)) (o : Option EntityData) → s.ancestors b ≡ above → entities b ≡ o
       → Contains (kept_parents (action_or above o)) a → Contains (s.actions ++ us) b

@@ -1,4 +1,4 @@
--- What JSON is read as by a type is of that type.
+-- A value that JSON is read as by a type is of that type.
 use Rattle.std.proofs.Common.{◌≡◌, ◌∙◌, ℕ, List, [], ◌∷◌, Bool, true, false, not, cond, Option, Some, None, Result, Ok}
 use Rattle.std.proofs.Common.{Err, Less, Equal, Greater, refl, sym, ap, subst, inl, inr}
 use Rattle.std.specs.Prelude.{Contains, is_some, codes, ⊤, ◌&&◌, ◌||◌}
@@ -104,7 +104,7 @@ set_is_of made t x vs e h =
 
 -- ---- records
 
--- what stands in the list at a key
+-- the first field is found by its key
 find_same : (k l : List ℕ) (v : PlainValue) (fs : List Field) → text_cmp k l ≡ Equal → find_field k ((l, v) ∷ fs) ≡ Some v
 find_same k l v fs h = rw h refl
 
@@ -153,11 +153,11 @@ is_declared k (field l u r fs) t e = declared_here k l u r fs t (is_declared k f
 
 -- ---- a required field is there
 
--- what stands in the object stands in what was read
+-- the object has a member with this key
 abbrev pub IsThere : List ℕ → Members → Type 0
 IsThere k ms = is_some (get_member k ms) ≡ true
 
--- the fields that are required stand in the object
+-- the required fields are members of the object
 required_here : (k l : List ℕ) (u : Cedar) (r : Bool) (fs : CedarFields) (ms : Members) (t : StaticType) → (not r || is_some (get_member l ms)) ≡ true
     → (static_type.field_declared_at k (static_fields fs) ≡ static_type.required t → IsThere k ms)
     → (b : Bool) → b ≡ bytes_eq k l → cond b (declared_as r (static u)) (static_type.field_declared_at k (static_fields fs)) ≡ static_type.required t → IsThere k ms
@@ -181,7 +181,7 @@ required_is_there (field l u r fs) ms there k t e =
 abbrev pub AreOf : CedarFields → List Field → Type 0
 AreOf fs vs = (k : List ℕ) (v : PlainValue) → Contains vs (k, v) → (t : Cedar) × (declared_at k fs ≡ Some t) × Of v (static t)
 
--- each that stands in the object is there
+-- each member of the object is among the fields that were read
 abbrev pub AreThere : Members → List Field → Type 0
 AreThere ms vs = (k : List ℕ) → IsThere k ms → is_some (find_field k vs) ≡ true
 

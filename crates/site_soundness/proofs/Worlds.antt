@@ -9,7 +9,7 @@ use Rattle.values.specs.declared.entity_uid.EntityUid.{EntityUid}
 use Rattle.values.specs.declared.request.Request.{Request}
 use Rattle.values.specs.Values.{record_of, fields_of}
 use Rattle.values.specs.Fields.{Field}
-use Rattle.site_meaning.specs.ancestor_search.Hierarchy.{Path, Above, IsAllAbove}
+use Rattle.site_meaning.specs.ancestor_search.Hierarchy.{Path, IsAncestor, IsAllAbove}
 use Rattle.site_meaning.specs.ancestor_search.Decided.{is_same}
 use Rattle.site_meaning.specs.ancestor_search.Deciding.{Contains-none, Contains-cases}
 use Rattle.site_meaning.specs.schema_types.Cedar.{Cedar}
@@ -83,7 +83,7 @@ all_may sets s uid ps us h p c =
     let same : uid_set ps ≡ us = is_it (uid_set ps) us a.2 in
     parents_may s uid ps a.0 a.1 p (((sets ps).1 p).1 (subst (λ (l : List EntityUid). Contains l p) (sym same) c))
 
--- what holds of an entity that is read
+-- facts about an entity that is read
 record IsPlain (s : StatedSchema) (e : Entity) : Type 0 where
   plain : is_action_type e.uid.type_name ≡ false
   parents : (p : EntityUid) → Contains e.parents p → s.may_have_parent e.uid.type_name p.type_name ≡ true
@@ -166,7 +166,7 @@ module _ (told_types : ActionTypeTestIsExact) (sets : SetsHoldTheirMembers) (typ
       let above = some_at (s.ancestors c) ((wf.actions c).0 (wf.ancestors_declared u c us e first)) in
       wf.ancestors_join u c a us above.0 e first above.1 (climb c above.0 above.1 cs a h.1)
 
-  -- what has the type of an action and is none has no parents
+  -- an entity of an action type has no stored parents
   alone_at : (u p : EntityUid) (o : Option EntityData) → entities u ≡ o → is_action_type u.type_name ≡ true → Contains (store.kept_parents o) p → ⊥
   alone_at u p (Some kept) e action h = apart (is_action_type u.type_name) action (kept_plain u kept e).plain
   alone_at u p None e action h = Contains-none p h
@@ -194,7 +194,7 @@ module _ (told_types : ActionTypeTestIsExact) (sets : SetsHoldTheirMembers) (typ
   allowed_at u p plain None None e f h = Contains-none p h
 
   module _ (e : EnvironmentOf) (q : Request) where
-    pub ancestors_of_others : (u a : EntityUid) → IsFalse (is_action_type u.type_name) → Above W.parents a u → IsTrue (s.may_have_parent u.type_name a.type_name)
+    pub ancestors_of_others : (u a : EntityUid) → IsFalse (is_action_type u.type_name) → IsAncestor W.parents a u → IsTrue (s.may_have_parent u.type_name a.type_name)
     ancestors_of_others u a plain above =
         tells (typing_environment_of s e) W.parents (λ l m n h i. wf.parents_join l m n h i) (λ v p not_action h. allowed_at v p not_action (s.ancestors v) (entities v) refl refl h) u a plain above
 

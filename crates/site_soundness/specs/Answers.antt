@@ -1,7 +1,7 @@
--- What can still go wrong in an answer over a store whose texts were read under a schema.
+-- Defines the errors that are possible in an answer over a store whose texts were read under a schema.
 -- Source: cedar-spec, cedar-lean/Cedar/Thm/Validation.lean (`validation_is_sound`: a policy that passes the validator
--- errs for no type, no attribute and no extension). Rule of this product: what is stored was read under the schema, so
--- the premises of that theorem are met by each store.
+-- has no error of type, attribute or extension).
+-- Rules of this product: what is stored was read under the schema, so each store meets the premises of that theorem.
 use Rattle.std.specs.Prelude.{◌≢◌, ℕ, List, Contains, Option, true, Ok}
 use Rattle.serde_json.specs.Data.{Data}
 use Rattle.values.specs.declared.entity_uid.EntityUid.{EntityUid}
@@ -11,7 +11,7 @@ use Rattle.site_meaning.specs.policy_grammar.Whole.{expression_of}
 use Rattle.site_meaning.specs.evaluator.Outcomes.{EvaluationResult}
 use Rattle.site_meaning.specs.evaluator.Evaluation.{EvaluatesTo}
 use Rattle.sync_messages.specs.typing.Types.{boolean_type}
-use Rattle.sync_messages.specs.typing.Conforming.{Fits, IsHarmless}
+use Rattle.sync_messages.specs.typing.Conforming.{Fits, IsPermittedError}
 use Rattle.site_meaning.specs.authoriser.declared.answer.Answer.{Answer}
 use Rattle.site_meaning.specs.authoriser.declared.answer.ErringPolicy.{ErringPolicy}
 use Rattle.site_meaning.specs.authoriser.Answers.{NamedPolicy, fault_of}
@@ -21,15 +21,15 @@ use Rattle.site_meaning.specs.entities.Requests.{StatesRequest}
 use Rattle.sync_messages.specs.validator.Passing.{IsImpossible}
 use Rattle.site_meaning.specs.stamped_store.Store.{Store}
 use Rattle.sync_messages.specs.Texts.{ReadsPolicy, ReadsEntity}
-use Rattle.site_meaning.specs.Said.{ArePolicies, AreEntities, IsAnswerOver, world_under}
+use Rattle.site_meaning.specs.StoreMeaning.{ArePolicies, AreEntities, IsAnswerOver, world_under}
 
--- Each policy that errs in the answer errs since an entity is not stored, or since a number leaves its bounds: for no
--- type, no attribute and no extension function.
-abbrev pub ErrsHarmlessly : Answer → Type 0
-ErrsHarmlessly a = (e : ErringPolicy) → Contains a.errors e → IsHarmless (fault_of e.error)
+-- `HasPermittedErrors a` holds if each error in the answer `a` is `EntityDoesNotExist` or `ArithBoundsError`: no
+-- error of type, of an attribute or of an extension function.
+abbrev pub HasPermittedErrors : Answer → Type 0
+HasPermittedErrors a = (e : ErringPolicy) → Contains a.errors e → IsPermittedError (fault_of e.error)
 
--- Over a store, each text of which was read under a schema that bytes state, and of a request that the schema allows:
--- each policy gives a boolean, or errs for one of these two causes; and where it is impossible it is never true.
+-- Over a store whose texts were each read under a schema that bytes state, and a request that the schema allows, each
+-- policy gives a boolean, or one of these two errors; if it is impossible, it is never true.
 abbrev pub StoredPoliciesGoRight : Type 0
 StoredPoliciesGoRight = (bytes : List ℕ) (schema : StatedSchema) → IsSchemaOf bytes schema → (s : Store)
     → (d : Data) (q : Request) → StatesRequest schema d q
@@ -39,8 +39,8 @@ StoredPoliciesGoRight = (bytes : List ℕ) (schema : StatedSchema) → IsSchemaO
     → EvaluatesTo (world_under schema entities) q (expression_of p.policy) r
     → Fits boolean_type r × (IsImpossible schema p.policy → r ≢ Ok (boolean true))
 
--- So no policy errs otherwise in an answer over such a store.
+-- So an answer over such a store has no other error.
 abbrev pub StoredAnswersGoRight : Type 0
 StoredAnswersGoRight = (bytes : List ℕ) (schema : StatedSchema) → IsSchemaOf bytes schema → (s : Store)
     → (d : Data) (q : Request) → StatesRequest schema d q → (a : Answer)
-    → IsAnswerOver (λ _. ReadsPolicy schema) (ReadsEntity schema) schema s q a → ErrsHarmlessly a
+    → IsAnswerOver (λ _. ReadsPolicy schema) (ReadsEntity schema) schema s q a → HasPermittedErrors a

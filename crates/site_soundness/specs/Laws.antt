@@ -1,4 +1,4 @@
--- What is read under a schema is of the types that the schema declares.
+-- Defines that what is read under a schema has the types that the schema declares.
 -- Source: cedar-spec, cedar-lean/Cedar/Validation/RequestEntityValidator.lean (`instanceOfType`,
 -- `instanceOfEntitySchema`, `instanceOfRequestType`).
 use Rattle.std.specs.Prelude.{◌≡◌, List, Contains, Ok}
@@ -17,28 +17,30 @@ use Rattle.sync_messages.specs.typing.Environment.{Environment}
 use Rattle.sync_messages.specs.typing.Membership.{Of}
 use Rattle.sync_messages.specs.type_checker.FromSchemas.{static, field_types_in, attributes_of, typing_environment_of}
 
--- what JSON is read as by a type is of that type
+-- A value that JSON is read as by a type is of that type.
 abbrev pub ValuesAreOfTheirTypes : Type 0
 ValuesAreOfTheirTypes = (t : Cedar) (d : Data) (v : PlainValue) → typed_value t d ≡ Ok v → Of v (static t)
 
--- so it is of the fields of a record: each required one is there, and none that is not declared
+-- The fields of a record that JSON is read as are of the record's type: each required one is present, and only
+-- declared ones are.
 abbrev pub RecordsAreOfTheirTypes : Type 0
 RecordsAreOfTheirTypes = (t : Cedar) (d : Data) (fs : List Field) → record_in t d ≡ Ok fs
     → Of (record_of (fields_of fs)) (record_type (field_types_in t))
 
--- the attributes of an entity are those of its type
+-- The attributes of an entity are of its entity type.
 abbrev pub EntitiesAreOfTheirTypes : Type 0
 EntitiesAreOfTheirTypes = (s : StatedSchema) (d : Data) (e : Entity) → entity_stated_in s d ≡ Ok e
     → Of (record_of (fields_of e.attrs)) (record_type (attributes_of s e.uid.type_name))
 
--- the request is of the environment's kind
+-- `IsOfKind env q` holds if the request `q` is of the environment `env`: its action, the types of its principal and
+-- its resource, and its context.
 pub record IsOfKind (env : Environment) (q : Request) : Type 0 where
   pub principal : q.principal.type_name ≡ env.principal
   pub action : q.action ≡ env.action
   pub resource : q.resource.type_name ≡ env.resource
   pub context : Of (record_of (fields_of q.context)) (record_type env.context)
 
--- a request is of one of the schema's environments
+-- A request is of one of the schema's environments.
 abbrev pub RequestsAreOfAnEnvironment : Type 0
 RequestsAreOfAnEnvironment = (s : StatedSchema) (d : Data) (q : Request) → StatesRequest s d q
     → (e : EnvironmentOf) × Contains s.environments e × IsOfKind (typing_environment_of s e) q

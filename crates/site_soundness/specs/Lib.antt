@@ -1,7 +1,7 @@
 pub mod Laws
 pub mod Worlds
 pub mod Answers
--- crates below, passed on to those above
+-- Specifications of lower crates, re-exported.
 pub use Rattle.sync_messages.specs as sync_messages
 pub use Rattle.sync_messages.specs.entities
 pub use Rattle.sync_messages.specs.grammar_core

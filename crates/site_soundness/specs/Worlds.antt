@@ -1,8 +1,8 @@
--- That entities and requests that are read under a schema conform to it, and that policies that pass go right over
--- them.
--- Sources: cedar-spec, cedar-lean/Cedar/Validation/RequestEntityValidator.lean (`validateRequest`, `validateEntities`,
--- by which `InstanceOfWellFormedEnvironment` holds) and cedar-lean/Cedar/Thm/Validation.lean (`validation_is_sound`).
--- Here what is read is what is validated.
+-- Defines that what is read under a schema conforms to it, and that validation is sound over it.
+-- Sources: cedar-spec, cedar-lean/Cedar/Validation/RequestEntityValidator.lean (`validateRequest`,
+-- `validateEntities`, by which `InstanceOfWellFormedEnvironment` holds) and cedar-lean/Cedar/Thm/Validation.lean
+-- (`validation_is_sound`).
+-- Here reading validates: there is no separate step.
 use Rattle.std.specs.Prelude.{◌≡◌, ◌≢◌, ℕ, List, Contains, Some, true, Ok}
 use Rattle.serde_json.specs.Data.{Data}
 use Rattle.values.specs.declared.entity_uid.EntityUid.{EntityUid}
@@ -24,24 +24,24 @@ use Rattle.sync_messages.specs.typing.Conforming.{Conforms, Fits}
 use Rattle.sync_messages.specs.type_checker.FromSchemas.{typing_environment_of}
 use Rattle.sync_messages.specs.validator.Passing.{Passes, IsImpossible}
 
--- what is kept under a uid, as an entity
+-- `entity_kept u kept` is the entity with the uid `u` and the data `kept`.
 abbrev pub entity_kept : EntityUid → EntityData → Entity
 entity_kept u kept = record { uid = u; attrs = kept.attrs; parents = kept.parents }
 
--- each entity that is kept was read under the schema from some JSON
+-- `AreRead s entities` holds if each of `entities` was read under the schema `s` from some JSON.
 abbrev pub AreRead : StatedSchema → EntityMap → Type 0
 AreRead s entities = (u : EntityUid) (kept : EntityData) → entities u ≡ Some kept
     → (d : Data) × (entity_stated_in s d ≡ Ok (entity_kept u kept))
 
--- Under a schema that bytes state, entities each of which was read, with the schema's actions, and a request that was
+-- Under a schema that bytes state, entities that were each read, with the schema's actions, and a request that was
 -- read conform to an environment of the schema.
 abbrev pub WhatIsReadConforms : Type 0
 WhatIsReadConforms = (bytes : List ℕ) (s : StatedSchema) → IsSchemaOf bytes s → (entities : EntityMap)
     → AreRead s entities → (d : Data) (q : Request) → StatesRequest s d q
     → (e : EnvironmentOf) × Contains s.environments e × Conforms (typing_environment_of s e) (closed_world s entities) q
 
--- So a policy that passes gives a boolean over finitely many such entities, or errs since an entity is not stored or a
--- number leaves its bounds; and where it is impossible it is never true.
+-- So over finitely many such entities, a policy that passes gives a boolean, `EntityDoesNotExist` or
+-- `ArithBoundsError`; if it is impossible, it is never true.
 abbrev pub WhatIsStoredGoesRight : Type 0
 WhatIsStoredGoesRight = (bytes : List ℕ) (s : StatedSchema) → IsSchemaOf bytes s → (entities : EntityMap)
     → AreRead s entities → (us : List EntityUid) → AreListed entities us → (d : Data) (q : Request)

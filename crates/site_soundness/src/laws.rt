@@ -1,4 +1,4 @@
-//! Laws of the definitions; the functions do nothing.
+//! Theorems about the definitions; their functions do nothing.
 ghost use Rattle.site_soundness.specs.Laws.{ValuesAreOfTheirTypes, RecordsAreOfTheirTypes};
 ghost use Rattle.site_soundness.specs.Laws.{EntitiesAreOfTheirTypes, RequestsAreOfAnEnvironment};
 ghost use Rattle.site_soundness.specs.Worlds.{WhatIsReadConforms, WhatIsStoredGoesRight};
@@ -8,13 +8,13 @@ use site_meaning::{
     actions_may_be_closed, contents_are_told, paths_are_decided, stated_schemas_are_well_formed,
 };
 use sync_messages::{
-    action_types_are_told, entities_read_back, parents_tell_ancestors, passing_policies_go_right,
+    action_types_are_told, entities_read_back, parents_tell_ancestors, passing_policies_are_sound,
 };
 use values::sets_hold_their_members;
 
-/// Proves that whatever JSON is read as by a declared type is of that type, as the rules of typing have it: a value,
-/// the attributes of an entity, and the context of a request, whose principal, action and resource are those of an
-/// environment of the schema.
+/// Proves that what JSON is read as by a declared type has that type by the typing rules: a value, the attributes of
+/// an entity, and the context of a request, whose principal, action and resource are those of an environment of the
+/// schema. No-op.
 pub fn what_is_read_is_of_its_type()
     ensures values { ValuesAreOfTheirTypes }
     ensures records { RecordsAreOfTheirTypes }
@@ -24,8 +24,8 @@ pub fn what_is_read_is_of_its_type()
     sets_hold_their_members();
 }
 
-/// Proves that entities each of which was read under a schema, with the schema's actions, and a request that was read
-/// under it conform to the schema: the premise under which policies that pass go right.
+/// Proves that entities that were each read under a schema, with the schema's actions, and a request that was read
+/// under it conform to the schema: the premise of the soundness of validation. No-op.
 pub fn what_is_read_conforms()
     ensures { WhatIsReadConforms }
 {
@@ -36,22 +36,24 @@ pub fn what_is_read_conforms()
     parents_tell_ancestors();
 }
 
-/// Proves that a policy that passes goes right over what is stored: where each stored entity was read under the schema,
-/// and so was the request, it gives a boolean, or errs since an entity is not stored or a number leaves its bounds; and
-/// where it is impossible it is never true.
+/// Proves that validation is sound over what is stored: if each stored entity and the request were read under the
+/// schema, a policy that passes gives a boolean, `EntityDoesNotExist` or `ArithBoundsError`; if it is impossible, it
+/// is never true. No-op.
 pub fn what_is_stored_goes_right()
     ensures { WhatIsStoredGoesRight }
 {
     stated_schemas_are_well_formed();
     what_is_read_conforms();
     paths_are_decided();
-    passing_policies_go_right();
+    passing_policies_are_sound();
 }
 
-/// Proves that over a store, once each of its texts was read under the schema, each policy gives a boolean, or errs
-/// since an entity is not stored or since a number leaves its bounds, and is never true where it is impossible; so no
-/// answer over the store tells of an error of type, of attribute or of an extension function.
-pub fn stored_answers_go_right()
+/// Proves that answers over a store are sound.
+///
+/// If each text of the store was read under the schema, each policy gives a boolean, `EntityDoesNotExist` or
+/// `ArithBoundsError`, and an impossible one is never true. So no answer over the store reports an error of type, of
+/// an attribute or of an extension function. No-op.
+pub fn stored_answers_are_sound()
     ensures policies { StoredPoliciesGoRight }
     ensures answers { StoredAnswersGoRight }
 {

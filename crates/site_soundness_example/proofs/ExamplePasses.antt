@@ -1,4 +1,4 @@
--- The policy passes, and is true; without `has` it is refused.
+-- The policy passes, and is true; without `has` it is rejected.
 use Rattle.std.proofs.Common.{◌≡◌, ◌∙◌, ◌++◌, List, [], ◌∷◌, Bool, true, false, Ok, refl, sym, ap, subst, arith, zero}
 use Rattle.std.proofs.Common.{suc}
 use Rattle.std.proofs.lemmas.Int.{ints}
@@ -81,7 +81,7 @@ aged_names =
     (fold_literal (List Name) names_step (literal.Long (pos 0)))
     (fold_field (List Name) names_step (form.Variable variable.Principal) (codes "age") ∙ principal_names)
 
--- those of a policy with this scope
+-- the names of a policy with this scope
 names_with : (condition : Expr) → names_in condition ≡ []
     → names_in (form.And truth (form.And action_part (form.And truth condition))) ≡ entity view ∷ []
 names_with condition e =

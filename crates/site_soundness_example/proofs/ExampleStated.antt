@@ -1,4 +1,4 @@
--- The schema is what the text states.
+-- The text states the schema.
 use Rattle.std.proofs.Common.{◌≡◌, ◌∙◌, ℕ, List, [], ◌∷◌, Bool, true, false, Option, Some, None, Ok, refl, sym, ap}
 use Rattle.std.proofs.Common.{subst, inl, inr, arith}
 use Rattle.std.specs.Prelude.{codes, Contains, IsSome, if◌then◌else◌}
@@ -6,7 +6,7 @@ use Rattle.std.specs.Str.{bytes_eq}
 use Rattle.std.specs.List.Sorted.{IsStrictlySortedBy}
 use Rattle.std.proofs.lemmas.Slice.Eq.{bytes_eq-Decides}
 use Rattle.values.specs.declared.entity_uid.EntityUid.{EntityUid}
-use Rattle.site_soundness.specs.ancestor_search.Hierarchy.{Parents, Above, IsAllAbove, IsAscending}
+use Rattle.site_soundness.specs.ancestor_search.Hierarchy.{Parents, IsAncestor, IsAllAbove, IsAscending}
 use Rattle.site_soundness.specs.ancestor_search.Decided.{is_same}
 use Rattle.site_soundness.specs.ancestor_search.Deciding.{Contains-here, Contains-cases, Contains-none, same_uid}
 use Rattle.site_soundness.specs.schema_types.Raw as raw
@@ -126,7 +126,7 @@ no_type_parent u c m = none (is_same (type_uid user) u) m
     none true m = Contains-none c m
     none false m = Contains-none c m
 
-no_path : (parents : Parents) → ((u c : EntityUid) → Contains (parents u) c → ⊥) → (a b : EntityUid) → Above parents a b → ⊥
+no_path : (parents : Parents) → ((u c : EntityUid) → Contains (parents u) c → ⊥) → (a b : EntityUid) → IsAncestor parents a b → ⊥
 no_path parents none a b ([], p) = none b a p
 no_path parents none a b (c ∷ cs, p) = none b c p.0
 

@@ -1,5 +1,4 @@
--- A schema's text, an entity and a request that are read under it, and a policy that passes, written out. So what is
--- said of a schema that bytes state, and of what conforms to it, is said of something.
+-- Defines an example: a schema's text, an entity and a request that are read under it, and a policy that passes.
 use Rattle.std.specs.Prelude.{ℕ, List, [], ◌∷◌, ◌++◌, pos, false, codes, Some, None, if◌then◌else◌}
 use Rattle.std.specs.Str.{bytes_eq}
 use Rattle.sha2.specs.Sha256.{sha256}
@@ -22,23 +21,26 @@ use Rattle.site_soundness.specs.entity_data.declared.data.EntityData.{EntityData
 use Rattle.site_soundness.specs.entity_data.Entities.{EntityMap}
 use Rattle.site_soundness.specs.typing.Example.{alice, view, has_age, is_aged}
 
--- the text of a schema: a user may have an age, and users view users
+-- `schema_text` is the text of a schema in which a user may have an age, and users view users.
 unfoldable pub schema_text : List ℕ
 schema_text =
     codes "{\"\":{\"actions\":{\"view\":{\"appliesTo\":{\"principalTypes\":[\"User\"],\"resourceTypes\":[\"User\"]}}},"
     ++ codes "\"entityTypes\":{\"User\":{\"shape\":{\"attributes\":{\"age\":{\"required\":false,\"type\":\"Long\"}},"
     ++ codes "\"type\":\"Record\"}}}}}"
 
+-- `user` is the entity type of users.
 abbrev pub user : List ℕ
 user = codes "User"
 
+-- `user_shape` is the type of a user's attributes.
 abbrev pub user_shape : Cedar
 user_shape = record_of (field (codes "age") cedar.long false no_fields)
 
+-- `viewing` is the environment in which a user views a user.
 abbrev pub viewing : EnvironmentOf
 viewing = record { place = place_of view user user; context = record_of no_fields }
 
--- the schema that the text states
+-- `schema` is the schema that `schema_text` states.
 abbrev pub schema : StatedSchema
 schema = record {
   label = encode_lower (sha256 schema_text);
@@ -50,27 +52,30 @@ schema = record {
   may_have_parent = λ child parent. false;
 }
 
--- Alice, who is 30, as JSON
+-- `alice_json` is the JSON of Alice, who is 30.
 abbrev pub alice_json : Data
 alice_json = object (member (codes "attrs") (object (member (codes "age") (number (unsigned 30)) no_members))
     (member (codes "uid") (uid_json alice) no_members))
 
+-- `alice_data` is the data of Alice.
 abbrev pub alice_data : EntityData
 alice_data = record { attrs = (codes "age", long (pos 30)) ∷ []; parents = [] }
 
--- she alone is stored
+-- `entities` has Alice alone.
 abbrev pub entities : EntityMap
 entities u = if is_same alice u then Some alice_data else None
 
--- Alice is to view Alice
+-- `request_json` is the JSON of the request in which Alice views Alice.
 abbrev pub request_json : Data
 request_json = object (member (codes "action") (uid_json view) (member (codes "principal") (uid_json alice)
     (member (codes "resource") (uid_json alice) no_members)))
 
+-- `request` is that request.
 abbrev pub request : Request
 request = record { principal = alice; action = view; resource = alice; context = [] }
 
--- permit(principal, action == Action::"view", resource) when { principal has age && 0 < principal.age };
+-- `policy` is `permit(principal, action == Action::"view", resource) when { principal has age && 0 < principal.age
+-- };`.
 abbrev pub policy : Policy
 policy = record {
   effect = Permit;
@@ -82,7 +87,7 @@ policy = record {
   condition = form.And has_age is_aged;
 }
 
--- permit(principal, action == Action::"view", resource) when { 0 < principal.age };
+-- `unsure_policy` is `permit(principal, action == Action::"view", resource) when { 0 < principal.age };`.
 abbrev pub unsure_policy : Policy
 unsure_policy = record {
   effect = Permit;

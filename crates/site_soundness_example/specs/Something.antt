@@ -1,5 +1,4 @@
--- What is said of schemas that bytes state, and of what is read under one, is said of something: none of the premises
--- under which policies that pass go right is void.
+-- Defines that the example meets the premises of soundness: none of them is vacuous.
 use Rattle.std.specs.Prelude.{[], ◌∷◌, true, Ok}
 use Rattle.values.specs.Values.{boolean}
 use Rattle.site_soundness.specs.policy_grammar.Whole.{expression_of}
@@ -18,23 +17,23 @@ use Rattle.site_soundness.specs.Worlds.{AreRead}
 use Rattle.site_soundness_example.specs.Example.{schema_text, schema, viewing, entities, request_json, request, policy}
 use Rattle.site_soundness_example.specs.Example.{unsure_policy}
 
--- bytes that state a schema,
+-- The bytes state a schema.
 abbrev pub SomethingIsStated : Type 0
 SomethingIsStated = IsSchemaOf schema_text schema
 
--- entities and a request that are read under it,
+-- The entities and the request are read under it.
 abbrev pub SomethingIsRead : Type 0
 SomethingIsRead = AreRead schema entities × AreListed entities (alice ∷ []) × StatesRequest schema request_json request
 
--- which conform to an environment of it,
+-- They conform to an environment of it.
 abbrev pub SomethingConformsUnderASchema : Type 0
 SomethingConformsUnderASchema = Conforms (typing_environment_of schema viewing) (closed_world schema entities) request
 
--- and a policy that asks for an optional attribute behind `has`: it passes, and is true there.
+-- A policy that tests for an optional attribute by `has` before it accesses it passes, and is true there.
 abbrev pub SomethingPasses : Type 0
 SomethingPasses = Passes schema policy
     × EvaluatesTo (closed_world schema entities) request (expression_of policy) (Ok (boolean true))
 
--- Without `has` it is refused.
+-- Without `has` it is rejected.
 abbrev pub SomethingIsRefused : Type 0
 SomethingIsRefused = IsCheckRefused schema unsure_policy (of_typing attribute_may_be_missing)

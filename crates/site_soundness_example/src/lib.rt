@@ -1,4 +1,4 @@
-//! An example to the laws of what is read under a schema: none of their premises is void.
+//! An example that meets the premises of the theorems about what is read under a schema.
 #![tactic(auto)]
 
 mod laws;

@@ -1,4 +1,4 @@
--- What is handed in, judged: faults as those of a site, and the one text of an entity read back.
+-- Checks of inputs: their errors as those of a site, and the round trip of an entity's canonical text.
 use Rattle.std.specs.Prelude.{◌≡◌, ◌↔◌, ℕ, List, Bool, true, false, IsTrue, Some, None, Result, Ok, IfOk, cond}
 use Rattle.std.proofs.Common.{sym, subst, refl, ap, ◌∙◌}
 use Rattle.std.specs.Str.{bytes_eq, is_utf8, IsUtf8}
@@ -31,7 +31,7 @@ use Rattle.site_steps.specs.Faults.{of_reading, of_checking}
 use Rattle.site_steps.specs.inner.Recording.{IsJudged, IsStatedBy}
 
 module _ (s : StatedSchema) (id text : List ℕ) (named : IsId id) (r : SiteFault) where
-  -- a text that is no policy's
+  -- a text that is not a policy's
   unread : (f : ReadFault) → IsPolicyRefused text f → r ≡ fault.Policy f → IsNotAdmitted s id text r
   unread f h e = subst (λ x. IsNotAdmitted s id text x) (sym e) (no_policy f named h)
 
@@ -79,7 +79,7 @@ pub json_utf8 : (bytes : List ℕ) (d : Data) → json_of bytes ≡ Some d → I
 unfolding json_of
 json_utf8 bytes d h = utf8_where bytes (is_utf8 bytes) d refl h
 
--- a text whose JSON is that of an entity, and which is its one text, is read as this entity under its uid
+-- the canonical text of an entity that JSON states is read as this entity under its uid
 pub reads_again : (s : StatedSchema) (e : Entity) (text : List ℕ) → text ≡ canonical_text e
     → json_of text ≡ Some (canonical_json e) → entity_stated_in s (canonical_json e) ≡ Ok e → ReadsEntity s e.uid text e
 unfolding entity_of_text

@@ -10,5 +10,5 @@ pub mod OneAnswered
 pub mod OneOutcome
 pub mod SomeOutcome
 pub mod RightRuns
--- crates below, passed on to those above
+-- Lemmas of lower crates, re-exported.
 pub use Rattle.site_store.proofs.of_stamped_store

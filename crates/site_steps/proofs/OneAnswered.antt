@@ -1,4 +1,4 @@
--- What is taken, asked or written by an input has one outcome at most, where memory suffices.
+-- A message or query has at most one outcome if there is memory.
 use Rattle.std.specs.Prelude.{◌≡◌, ◌++◌, ℕ, List, length, Option, Some, None, option_map, Result, Ok, Err, refl}
 use Rattle.std.proofs.Common.{sym, ap, ◌∙◌, subst}
 use Rattle.serde_json.specs.Data.{Data}
@@ -12,7 +12,7 @@ use Rattle.site_store.specs.entities.Laws.{OneRequest, NotBoth, OneRefusal}
 use Rattle.site_store.specs.stamped_store.declared.entry.Stamp.{Stamp}
 use Rattle.site_store.specs.stamped_store.Deltas as deltas
 use Rattle.site_store.specs.stamped_store.Store.{Store, updates, store_of}
-use Rattle.site_store.specs.site_meaning.Said.{IsAnswerOver}
+use Rattle.site_store.specs.site_meaning.StoreMeaning.{IsAnswerOver}
 use Rattle.site_soundness.specs.message_format.declared.fault.MessageFault.{MessageFault}
 use Rattle.site_soundness.specs.message_format.Summaries.{summary_stated}
 use Rattle.site_soundness.specs.message_format.declared.update.Update.{Update as SentUpdate}
@@ -53,7 +53,7 @@ message_comes schema s bytes (Err fault.WouldCycle) t h m = absurd h.0
 message_comes schema s bytes (Err fault.ClockFull) t h m = absurd h.0
 message_comes schema s bytes (Err (fault.Request f)) t h m = absurd h.0
 
--- taken from the law of messages
+-- by the theorem about messages
 pub record MessagesAreOne (schema : StatedSchema) : Type 0 where
   pub updates : (bytes : List ℕ) (us vs : List (SentUpdate Policy Entity)) → IsMessageOf schema bytes us
       → IsMessageOf schema bytes vs → us ≡ vs
@@ -184,7 +184,7 @@ one_written bytes (Ok x) (Ok y) h m k w = same_ok x y (h ∙ sym k)
 one_written bytes (Ok x) (Err g) h m k w = absurd (written_whole bytes g k w)
 one_written bytes (Err f) y h m k w = absurd (written_whole bytes f h m)
 
--- a delta is that against the summary that was sent, or this is refused
+-- a delta is that against the summary that was sent, or this is rejected
 pub data DeltaComes (schema : StatedSchema) (s : Store) (summary : List ℕ) : Result (List ℕ) SiteFault → Type 0 where
   told : (written : List ℕ) (m : deltas.Summary) → summary_stated schema.label summary ≡ Ok m
       → written ≡ delta_text schema.label (deltas.delta s m) → DeltaComes schema s summary (Ok written)

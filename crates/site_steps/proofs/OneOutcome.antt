@@ -1,4 +1,4 @@
--- Each input of a site has one outcome at most, where memory suffices.
+-- Each input of a site has at most one outcome if there is memory.
 use Rattle.std.specs.Prelude.{◌≡◌, ℕ, List, Option, Result, refl}
 use Rattle.std.proofs.Common.{sym, ap, ◌∙◌}
 use Rattle.json_words.specs.Json.{json_of}
@@ -14,7 +14,7 @@ use Rattle.site_soundness.specs.validator.Outcomes.{PoliciesHaveOneOutcome, Pass
 use Rattle.site_store.specs.stamped_store.declared.entry.Stamp.{Stamp}
 use Rattle.site_store.specs.stamped_store.Deltas as deltas
 use Rattle.site_store.specs.stamped_store.Store.{Store, policy_name, entity_name}
-use Rattle.site_store.specs.site_meaning.Said.{AreEntities, IsAnswerOver}
+use Rattle.site_store.specs.site_meaning.StoreMeaning.{AreEntities, IsAnswerOver}
 use Rattle.site_soundness.specs.message_format.Summaries.{summary_text}
 use Rattle.site_soundness.specs.message_format.Messages.{state_text}
 use Rattle.site_steps.specs.declared.fault.SiteFault.{SiteFault}
@@ -136,7 +136,7 @@ in_delta schema n s bytes (reply.Answered x) t h m = absurd h
 in_delta schema n s bytes (reply.Found x) t h m = absurd h
 in_delta schema n s bytes (reply.Written x) t h m = (x, refl, h, m)
 
--- taken from the laws of what a site calls
+-- by the theorems about a site's callees
 pub record LawsOfOne (schema : StatedSchema) : Type 0 where
   pub texts : HasOneReading IsPolicyText IsPolicyRefused
   pub checks : PoliciesHaveOneOutcome

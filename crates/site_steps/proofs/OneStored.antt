@@ -1,4 +1,4 @@
--- What is put or taken away by an input has one outcome at most, where memory suffices.
+-- A put or deletion has at most one outcome if there is memory.
 use Rattle.std.specs.Prelude.{◌≡◌, ◌↔◌, ◌<◌, ◌++◌, ◌∷◌, [], ℕ, List, Bool, true, false, IsTrue, Option, Some, None}
 use Rattle.std.specs.Prelude.{IsSome, Result, Ok, Err, refl}
 use Rattle.std.proofs.Common.{sym, ap, ◌∙◌, subst, arith}
@@ -21,7 +21,7 @@ use Rattle.site_store.specs.stamped_store.declared.entry.Stamp.{Stamp}
 use Rattle.site_store.specs.stamped_store.Contents.{text_under}
 use Rattle.site_store.specs.stamped_store.Greatest.{greatest_count}
 use Rattle.site_store.specs.stamped_store.Store.{Store, updates, store_of, issued, policy_name, entity_name}
-use Rattle.site_store.specs.site_meaning.Said.{AreEntities, MakesCycle, MakesNoCycle, parents_with}
+use Rattle.site_store.specs.site_meaning.StoreMeaning.{AreEntities, MakesCycle, MakesNoCycle, parents_with}
 use Rattle.site_steps.specs.declared.fault.SiteFault.{SiteFault}
 use Rattle.site_steps.specs.declared.fault.SiteFault.TheVariants as fault
 use Rattle.site_steps.specs.declared.outcome.Put.{Put}
@@ -37,7 +37,7 @@ one_record n s name body a b t u h k =
     let stamp : a ≡ b = h.next ∙ sym k.next in
     (stamp, h.store ∙ ap (λ (x : Stamp). store_of (updates s ++ (name, issued x body) ∷ [])) stamp ∙ sym k.store)
 
--- a clock that is full is below no limit
+-- the count of a full clock is below no limit
 not_full : (n : List ℕ) (s : Store) (name : Name) (body : Option (List ℕ)) (a : Stamp) (t u : Store)
     → Records n s name body a t → IsClockFull s u → ⊥
 not_full n s name body a t u h k = less_itself (greatest_count s) most_count h.clock k.0

@@ -1,4 +1,4 @@
--- What commands leave in the store, by cases of their outcome.
+-- The store after a command, by cases of its result.
 use Rattle.std.specs.Prelude.{◌≡◌, ◌++◌, ◌∷◌, [], ℕ, List, Bool, true, false, Option, Some, None, IsSome, is_some}
 use Rattle.std.specs.Prelude.{⊤, Result, Ok, Err, OnOk, OnErr, IfOk, MatchResult}
 use Rattle.std.proofs.Common.{sym, ap, ◌∙◌, subst, refl}
@@ -18,11 +18,11 @@ use Rattle.site_store.specs.stamped_store.Store.{policy_name, entity_name}
 use Rattle.site_store.specs.stamped_store.Store.{KeepsOtherNames, abstract_store}
 use Rattle.site_soundness.specs.message_format.Summaries.{IsStamped}
 use Rattle.site_soundness.specs.message_format.Updates.{AreInRange, stamped}
-use Rattle.site_store.specs.site_meaning.Said.{MakesCycle, MakesNoCycle}
+use Rattle.site_store.specs.site_meaning.StoreMeaning.{MakesCycle, MakesNoCycle}
 use Rattle.site_steps.specs.declared.fault.SiteFault.{SiteFault}
 use Rattle.site_steps.specs.declared.fault.SiteFault.TheVariants as fault
 use Rattle.site_steps.specs.Admitted.{IsEntityUnder, IsNotAdmitted, bad_id, no_policy, not_passing, entity_stated}
-use Rattle.site_steps.specs.Seen.{IsHeld, IsSite}
+use Rattle.site_steps.specs.SiteViews.{IsHeld, IsSite}
 use Rattle.site_steps.specs.Steps.{Records, PutsPolicy, PutsEntity, Deletes}
 use Rattle.site_steps.specs.inner.Recording.{RecordsOr, PutsUnless, IsNext, put_result, IsStatedBy, StatesNone, IsJudged}
 use Rattle.plain.specs.Refused.{OrNoMemory}
@@ -108,7 +108,7 @@ refuses_policy schema n s id text fault.ClockFull h =
     absurd (none_clock_full schema id text fault.ClockFull (h (λ e. cc)) refl)
 refuses_policy schema n s id text (fault.Request f) h = (h (λ e. cc), refl)
 
--- what was recorded stands, also as the outcome of a put
+-- what was recorded is in the store, also as the result of a put
 pub put_stands : (s : Store) (name : Name) (x y : List ℕ) (impossible : Bool) (r : Result Stamp SiteFault) → x ≡ y
     → IfOk r (λ stamp. get s name ≡ Some (issued stamp (Some x)))
     → IfOk (put_result impossible r) (λ put. get s name ≡ Some (issued put.stamp (Some y)))
@@ -149,7 +149,7 @@ puts_entity schema n s json b (Ok false) uid r t i named makes apart h =
 puts_entity schema n s json b (Err e) uid r t i named makes apart h =
     subst (λ q. PutsEntity schema n s json q t) (sym h.0) h.1
 
--- what was put stands, whether or not it might have been on a cycle
+-- what was put is in the store, whether or not it might have been cyclic
 pub put_or_not : {E : Type 0} → ((s : Store) (name : Name) (n : List ℕ) (body : Option (List ℕ))
     → get (store_of (updates s ++ (name, issued (issue s n) body) ∷ [])) name ≡ Some (issued (issue s n) body))
     → (n : List ℕ) (s : Store) (cycle : Result Bool E) (uid : EntityUid) (text : List ℕ) (r : Result Stamp SiteFault)

@@ -1,4 +1,4 @@
--- In no reply of a run does a policy err for a type, an attribute or an extension function.
+-- No reply of a run has an error of type, of an attribute or of an extension function.
 use Rattle.std.specs.Prelude.{ℕ, List, [], ◌∷◌, Option, Some, None, Ok, Err}
 use Rattle.serde_json.specs.Data.{Data}
 use Rattle.site_store.specs.authoriser.declared.answer.Answer.{Answer}
@@ -6,7 +6,7 @@ use Rattle.json_words.specs.Json.{json_of}
 use Rattle.site_store.specs.schema.Schemas.{StatedSchema, IsSchemaOf}
 use Rattle.site_store.specs.stamped_store.Store.{Store}
 use Rattle.site_steps.specs.Steps.{Answers}
-use Rattle.site_soundness.specs.Answers.{ErrsHarmlessly, StoredAnswersGoRight}
+use Rattle.site_soundness.specs.Answers.{HasPermittedErrors, StoredAnswersGoRight}
 use Rattle.site_steps.specs.Inputs.{Input}
 use Rattle.site_steps.specs.Inputs as input
 use Rattle.site_steps.specs.declared.reply.Reply.{Reply}
@@ -15,7 +15,7 @@ use Rattle.site_steps.specs.Right.{IsHarmlessReply, AreHarmlessReplies, RunsGoRi
 use Rattle.site_steps.specs.Runs.{Step, Run}
 
 module _ (law : StoredAnswersGoRight) (bytes : List ℕ) (schema : StatedSchema) (stated : IsSchemaOf bytes schema) where
-  answer_right : (s : Store) (json : Option Data) (a : Answer) → Answers schema s json (Ok a) → ErrsHarmlessly a
+  answer_right : (s : Store) (json : Option Data) (a : Answer) → Answers schema s json (Ok a) → HasPermittedErrors a
   answer_right s None a h = absurd h.1
   answer_right s (Some d) a h = law bytes schema stated s d h.0 h.1 a h.2
 
@@ -43,5 +43,5 @@ module _ (law : StoredAnswersGoRight) (bytes : List ℕ) (schema : StatedSchema)
   run_right n s (i ∷ is) [] t h = absurd h
   run_right n s (i ∷ is) (r ∷ rs) t h = (step_right n s i r h.0 h.1, run_right n h.0 is rs t h.2)
 
-pub runs_go_right : StoredAnswersGoRight → RunsGoRight
-runs_go_right law bytes schema stated n s is rs t h = run_right law bytes schema stated n s is rs t h
+pub runs_are_sound : StoredAnswersGoRight → RunsGoRight
+runs_are_sound law bytes schema stated n s is rs t h = run_right law bytes schema stated n s is rs t h

@@ -1,4 +1,4 @@
--- What enters in a run is in the store after it.
+-- The updates that a run applies are in the store after it.
 use Rattle.std.specs.Prelude.{◌≡◌, ℕ, List, [], ◌∷◌, ◌++◌, Option, Ok, Err, take, refl}
 use Rattle.std.specs.List.{AllByRecursion}
 use Rattle.std.proofs.Common.{sym, ap, ◌∙◌, subst, append_assoc, append-nil}
@@ -31,7 +31,7 @@ use Rattle.site_store.specs.schema.SchemaEntries.{SchemaEntries}
 use Rattle.site_soundness.specs.sync_messages.declared.texts.SchemaTexts.{SchemaTexts}
 use Rattle.site_steps.specs.Runs.{IsNoMessageOf, Step, Run, HoldsAfter, took_by, took, update_of_entity, updates_of_message}
 
--- updates of a message are valid where they are in range and are read
+-- updates of a message that are in range and read are valid
 pub all_valid : (schema : StatedSchema) (us : List (SentUpdate Policy Entity)) → AreInRange (plain_updates us)
     → AllByRecursion (IsUpdateRead (IsPolicyUnder schema) (IsEntityUnder schema)) us → AllByRecursion (IsValidUnder schema) us
 all_valid schema [] h k = tt
@@ -76,8 +76,7 @@ delete_kept n s name (fault.Request f) t h = absurd h
 
 -- ---- what entered by a step is in the store after it
 
--- taken from the law of stores: the store of a store's updates is that store, and what is joined in groups is joined
--- at once
+-- by the theorem about stores: the store of a store's updates is that store, and joins in groups are joins at once
 pub record AreStores : Type 0 where
   pub own : (s : Store) → store_of (updates s) ≡ s
   pub grouped : (us vs : List Update) → store_of (updates (store_of us) ++ vs) ≡ store_of (us ++ vs)
@@ -85,7 +84,7 @@ pub record AreStores : Type 0 where
 unchanged : AreStores → (s t : Store) → t ≡ s → t ≡ store_of (updates s ++ [])
 unchanged law s t h = h ∙ sym (law.own s) ∙ ap store_of (sym (append-nil (updates s)))
 
--- updates that enter one after another enter together
+-- updates that are applied one after another are applied together
 stores_more : AreStores → (s m t : Store) (us vs : List Update) → m ≡ store_of (updates s ++ us)
     → t ≡ store_of (updates m ++ vs) → t ≡ store_of (updates s ++ (us ++ vs))
 stores_more law s m t us vs h k =
@@ -189,7 +188,7 @@ run_push schema n s [] (x ∷ rs) m i r t h k = absurd h
 run_push schema n s (x ∷ is) [] m i r t h k = absurd h
 run_push schema n s (x ∷ is) (y ∷ rs) m i r t h k = (h.0, h.1, run_push schema n h.0 is rs m i r t h.2 k)
 
--- a step at a site that is the same
+-- a step at a site with the same schema and name
 pub same_step : (a b : StatedSchema) (m n : List ℕ) (s : Store) (i : Input) (r : Reply) (t : Store) → a ≡ b → m ≡ n
     → Step a m s i r t → Step b n s i r t
 same_step a b m n s i r t e f h =
@@ -197,7 +196,7 @@ same_step a b m n s i r t e f h =
 
 -- ---- equal sets of updates
 
--- the texts of a schema, as what says what texts are read as
+-- the parser of a schema's texts
 abbrev pub texts_of : SchemaEntries → SchemaTexts
 texts_of schema = record { schema = record { ref_ptr = (0, 0); now = schema } }
 
@@ -224,7 +223,7 @@ pub message_valid : (schema : StatedSchema) (bytes : List ℕ) (us : List (SentU
     → AllByRecursion (IsValidUnder schema) us
 message_valid schema bytes us h = all_valid schema us h.in_range h.are_read
 
--- a fault that is due, as a site's
+-- an error that is due, as a site's
 pub message_refused : (schema : StatedSchema) (bytes : List ℕ) (f : MessageFault) → OrNoMemory sending.NoMemory (IsMessageFaultOf schema bytes) f
     → IsNoMessageOf schema bytes (of_message f)
 message_refused schema bytes sending.NoMemory due = tt

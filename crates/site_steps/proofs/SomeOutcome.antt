@@ -1,4 +1,4 @@
--- Each input of a site has an outcome where memory suffices, over a store that a site may hold.
+-- Each input of a site has an outcome if there is memory, over a store that a site may hold.
 use Rattle.std.specs.Prelude.{◌≡◌, ◌↔◌, ◌<◌, ◌≤◌, ◌⊎◌, ◌++◌, ◌∷◌, [], ℕ, List, length, map, Bool, true, false, IsTrue}
 use Rattle.std.specs.Prelude.{Contains, if◌then◌else◌}
 use Rattle.std.specs.Prelude.{Option, Some, None, IsSome, option_and_then, option_map, Result, Ok, Err, refl}
@@ -41,8 +41,8 @@ use Rattle.site_store.specs.stamped_store.EntryOrder.{PlainEntry, entry_cmp}
 use Rattle.site_store.specs.stamped_store.Greatest.{IsGreatestAt, greatest_count}
 use Rattle.site_store.specs.stamped_store.Store.{Store, Update, IsStoreOf, updates, store_of, issue, issued, policy_name}
 use Rattle.site_store.specs.stamped_store.Store.{entity_name}
-use Rattle.site_store.specs.site_meaning.Said.{ArePolicies, AreEntities, IsReadFrom, IsAnswerOver, MakesCycle, MakesNoCycle}
-use Rattle.site_store.specs.site_meaning.Said.{data_of, parents_with, world_under}
+use Rattle.site_store.specs.site_meaning.StoreMeaning.{ArePolicies, AreEntities, IsReadFrom, IsAnswerOver, MakesCycle, MakesNoCycle}
+use Rattle.site_store.specs.site_meaning.StoreMeaning.{data_of, parents_with, world_under}
 use Rattle.site_soundness.specs.message_format.declared.fault.MessageFault.{MessageFault}
 use Rattle.site_soundness.specs.message_format.Summaries.{summary_text, summary_stated, IsStamped}
 use Rattle.site_soundness.specs.message_format.declared.bodies.BodyFault.{BodyFault}
@@ -57,7 +57,7 @@ use Rattle.site_steps.specs.declared.fault.SiteFault.TheVariants as fault
 use Rattle.site_steps.specs.declared.outcome.Taken as taking
 use Rattle.site_steps.specs.declared.outcome.Taken.TheVariants.{All}
 use Rattle.site_steps.specs.Admitted.{IsPolicyUnder, IsEntityUnder, IsAdmitted, bad_id, no_policy, not_passing, entity_stated}
-use Rattle.site_steps.specs.Seen.{MayBeHeld}
+use Rattle.site_steps.specs.SiteViews.{IsValidStore}
 use Rattle.site_steps.specs.Steps.{most_count, Records, IsClockFull, PutsPolicy, PutsEntity, Deletes, Answers, policy_found}
 use Rattle.site_steps.specs.Inputs.{Input}
 use Rattle.site_steps.specs.Inputs as input
@@ -68,7 +68,7 @@ use Rattle.site_soundness.specs.sync_messages.Messages.{IsMessageOf, IsMessageFa
 use Rattle.site_steps.specs.Runs.{TakesMessage, WritesDelta}
 use Rattle.site_steps.specs.Outcomes.{HadMemory, HadMemoryForAll, IsOutcome}
 
--- a result that a command may have, and the store behind it
+-- a result that a command may have, and the store after it
 abbrev Has : {A : Type 0} → (Result A SiteFault → Store → Type 0) → Type 0
 Has {A} HasOutcome = (x : Result A SiteFault) × (t : Store) × HasOutcome x t × HadMemory x
 
@@ -148,7 +148,7 @@ module _ (n : List ℕ) (s : Store) (room : greatest_count s ≤ most_count) (q 
 
 -- ---- what a store says
 
--- taken from the laws of stores
+-- by the theorems about stores
 pub record LawsOfStores : Type 0 where
   pub greatest : (us : List Update) → IsStoreOf us (store_of us)
   pub own : (s : Store) → store_of (updates s) ≡ s
@@ -157,8 +157,8 @@ pub record LawsOfStores : Type 0 where
   pub entities : (s : Store) (uid : EntityUid) (text : List ℕ) → Contains (entities_of s) (uid, text)
       ↔ (text_under s (entity_name uid) ≡ Some text)
 
-module _ (stores : LawsOfStores) (schema : StatedSchema) (s : Store) (held : MayBeHeld schema s) where
-  -- its greatest count is one that stamps may have
+module _ (stores : LawsOfStores) (schema : StatedSchema) (s : Store) (held : IsValidStore schema s) where
+  -- its greatest count is in the range of stamps
   room_in : greatest_count s ≤ most_count
   room_in = elim (stores.reached s) [
     | inl none ↦ subst (λ (n : ℕ). n ≤ most_count) (sym none) (omega arith)
@@ -343,7 +343,7 @@ delta_by schema s bytes (Err f) is = (Err (fault.Message f), is, tt)
 
 -- ---- a step
 
--- taken from the laws of what a site calls
+-- by the theorems about a site's callees
 pub record LawsOfSome (schema : StatedSchema) : Type 0 where
   pub checks : PoliciesHaveOneOutcome
   pub apart : PassingIsNotRefused
@@ -361,7 +361,7 @@ pub record LawsOfSome (schema : StatedSchema) : Type 0 where
 abbrev HasOutcome : StatedSchema → List ℕ → Store → Input → Type 0
 HasOutcome schema n s i = (r : Reply) × (t : Store) × IsOutcome schema n s i r t
 
-pub some_step : (schema : StatedSchema) → LawsOfSome schema → (n : List ℕ) (s : Store) (i : Input) → MayBeHeld schema s
+pub some_step : (schema : StatedSchema) → LawsOfSome schema → (n : List ℕ) (s : Store) (i : Input) → IsValidStore schema s
     → HasOutcome schema n s i
 some_step schema law n s (input.PutPolicy id text) held =
     let a = some_policy schema law.checks law.apart law.texts n s (room_in law.stores schema s held) id text in

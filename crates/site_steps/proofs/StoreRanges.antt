@@ -15,7 +15,7 @@ use Rattle.site_store.specs.ancestor_search.Deciding.{Contains-cases, Contains-n
 use Rattle.values.specs.declared.name.Name.{Name}
 use Rattle.values.specs.Names.{name_cmp, name_cmp-IsTotalOrder}
 use Rattle.site_store.specs.stamped_store.Contents.{text_under}
-use Rattle.site_store.specs.stamped_store.Deltas.{Summary, delta, is_news, stamp_of, summary_of}
+use Rattle.site_store.specs.stamped_store.Deltas.{Summary, delta, is_unseen, stamp_of, summary_of}
 use Rattle.site_store.specs.stamped_store.EntryOrder.{PlainEntry, entry_cmp}
 use Rattle.site_store.specs.stamped_store.Greatest.{IsGreatestAt, greatest_count}
 use Rattle.site_store.specs.stamped_store.SiteNames.{IsSiteName}
@@ -99,7 +99,7 @@ module _ (greatest : (us : List Update) → IsStoreOf us (store_of us)) where
         (ap (λ (m : Store). get m q) (own s) ∙ is) (greatest (updates s) q)).0
 
     pub news_in_range : ((t : Store) (m : Summary) (q : Name) (e : PlainEntry) → (get (delta t m) q ≡ Some e)
-        ↔ ((get t q ≡ Some e) × (is_news (value_at name_cmp m q) (Some e) ≡ true)))
+        ↔ ((get t q ≡ Some e) × (is_unseen (value_at name_cmp m q) (Some e) ≡ true)))
         → (s : Store) (m : Summary) → AreInRange (updates s) → AreInRange (updates (delta s m))
     news_in_range news s m h = all_of InRange (updates (delta s m)) (λ u k.
         one_of InRange (updates s) h u
@@ -110,7 +110,7 @@ module _ (greatest : (us : List Update) → IsStoreOf us (store_of us)) where
     named_by s q None is h there = absurd cc
     named_by s q (Some e) is h there = (one_of InRange (updates s) h (q, e) (update_of s q e is)).name
 
-    -- what has a text has a name that messages may have
+    -- a name with a text is in its range
     pub name_in_range : (s : Store) (q : Name) → AreInRange (updates s) → IsSome (text_under s q) → IsName q
     name_in_range s q h there = named_by s q (get s q) refl h there
 

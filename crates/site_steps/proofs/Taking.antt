@@ -1,4 +1,4 @@
--- Updates that are taken one after the other leave the store of all of them, and what a site keeps may be read.
+-- Updates that are applied one after the other leave the store of all of them, and its texts may be read.
 use Rattle.std.specs.Prelude.{◌≡◌, ◌++◌, ◌∷◌, ◌<◌, [], ℕ, List, Option, Some, None, map, length, take, string_bytes}
 use Rattle.std.proofs.Common.{refl, sym, ap, ◌∙◌, subst, arith, append_assoc, append-nil, length-append}
 use Rattle.std.proofs.lemmas.List.{length-map}
@@ -17,7 +17,7 @@ use Rattle.site_store.specs.stamped_store.Store.{Store, Update, StoreEntries, up
 use Rattle.site_store.specs.stamped_store.Store.{abstract_updates, id_name, entity_name}
 use Rattle.site_soundness.specs.message_format.Updates.{AreValid, IsBodyReadable}
 use Rattle.site_steps.specs.Admitted.{IsPolicyUnder, IsEntityUnder}
-use Rattle.site_steps.specs.Seen.{IsSite, MayBeHeld}
+use Rattle.site_steps.specs.SiteViews.{IsSite, IsValidStore}
 
 pub stores_none : ((s : Store) → store_of (updates s) ≡ s) → (s : Store) → s ≡ store_of (updates s ++ [])
 stores_none own s = sym (own s) ∙ ap store_of (sym (append-nil (updates s)))
@@ -30,7 +30,7 @@ stores_more grouped s m t us vs h k =
     ∙ grouped (updates s ++ us) vs
     ∙ ap store_of (append_assoc (updates s) us vs)
 
--- where the next one is refused, exactly the first ones were taken
+-- if the next one is not applied, exactly the first ones are
 first : {A B : Type 0} (f : A → B) (ys zs : List A) → take (length ys) (map f (ys ++ zs)) ≡ map f ys
 first f [] zs = refl
 first f (y ∷ ys) zs = ap (λ bs. f y ∷ bs) (first f ys zs)
@@ -72,7 +72,7 @@ module _ (schema : StatedSchema) where
   both_valid (u ∷ us) vs h k = (h.0, both_valid us vs h.1 k)
 
   pub may_be_held : (name : List ℕ) (k : StoreEntries Policy Entity) → IsSite schema name k
-      → updates (abstract_store k) ≡ abstract_updates k → MayBeHeld schema (abstract_store k)
+      → updates (abstract_store k) ≡ abstract_updates k → IsValidStore schema (abstract_store k)
   may_be_held name k h in_order = record {
     in_range = h.in_range;
     valid = subst (λ (us : List Update). AreValid (IsPolicyUnder schema) (IsEntityUnder schema) us) (sym in_order)

@@ -1,4 +1,4 @@
--- The texts of a schema, as what says what texts are read as.
+-- The parser of a schema's texts.
 use Rattle.site_store.specs.schema.SchemaEntries.{SchemaEntries}
 use Rattle.site_soundness.specs.sync_messages.declared.texts.SchemaTexts.{SchemaTexts}
 

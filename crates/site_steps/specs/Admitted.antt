@@ -1,8 +1,9 @@
--- What is admitted at a site of a schema: policies, entities, requests and updates as they are handed in. It is the
--- same at every site of that schema, whatever is stored there.
+-- Defines which inputs a site of a schema admits: policies, entities, requests and updates. It is the same at every
+-- site of that schema, whatever is stored there.
 -- Sources: Cedar reference guide 4.0, "Policy validation", "Entities and context: JSON format" and "Authorization
--- request". Rules of this product: a policy's id has 1 to 256 bytes, and is judged before the text; an entity is handed
--- in as JSON; the order of the refusals.
+-- request".
+-- Rules of this product: a policy's id has 1 to 256 bytes, and is checked before the text; an entity is given as
+-- JSON; the order of the errors.
 use Rattle.std.specs.Prelude.{◌≡◌, ℕ, List, Option, Some, None, Result}
 use Rattle.serde_json.specs.Data.{Data}
 use Rattle.json_words.specs.ReadsAs.{◌>>=◌, or_fault}
@@ -30,23 +31,26 @@ use Rattle.site_steps.specs.declared.fault.SiteFault.TheVariants as fault
 
 -- ---- what a text in the store is read as
 
--- A policy's text is read as this policy: it is the policy's, which passes, whatever the id.
+-- `IsPolicyUnder schema id text p` holds if `text` is the text of the policy `p`, which passes validation, whatever
+-- the id.
 abbrev pub IsPolicyUnder : StatedSchema → List ℕ → List ℕ → Policy → Type 0
 IsPolicyUnder schema id text p = ReadsPolicy schema text p
 
--- An entity's text is read as this entity: it is the one canonical text of the entity, which the schema allows and
--- which has this uid.
+-- `IsEntityUnder schema uid text e` holds if `text` is the canonical text of the entity `e`, which the schema allows
+-- and whose uid is `uid`.
 abbrev pub IsEntityUnder : StatedSchema → EntityUid → List ℕ → Entity → Type 0
 IsEntityUnder schema uid text e = ReadsEntity schema uid text e
 
 -- ---- policies
 
--- this text may be put under this id, as this policy: the text is the policy's, and the policy passes
+-- `IsAdmitted schema id text p` holds if `text` may be put under `id`: it is the text of the policy `p`, which
+-- passes.
 pub record IsAdmitted (schema : StatedSchema) (id text : List ℕ) (p : Policy) : Type 0 where
   pub named : IsId id
   pub reads : ReadsPolicy schema text p
 
--- it may not be put: the id is judged first, then the text, then the policy
+-- `IsNotAdmitted schema id text f` holds if `f` is the error of putting `text` under `id`: of the id, else of the
+-- text, else of the policy.
 pub data IsNotAdmitted (schema : StatedSchema) (id text : List ℕ) : SiteFault → Type 0 where
   bad_id : (IsId id → ⊥) → IsNotAdmitted schema id text (fault.Policy BadId)
   no_policy : (f : ReadFault) → IsId id → IsPolicyRefused text f → IsNotAdmitted schema id text (fault.Policy f)
@@ -55,7 +59,8 @@ pub data IsNotAdmitted (schema : StatedSchema) (id text : List ℕ) : SiteFault 
 
 -- ---- entities
 
--- the entity that JSON states, or the first fault; bytes that are no JSON (None) have not its form
+-- `entity_stated schema json` is the entity that `json` states, or the first error; for bytes that are not JSON
+-- (`None`) that is `BadShape`.
 abbrev pub entity_stated : StatedSchema → Option Data → Result Entity EntityFault
 entity_stated schema json = do
   d ← or_fault BadShape json
@@ -63,20 +68,21 @@ entity_stated schema json = do
 
 -- ---- requests
 
--- JSON states this request; bytes that are no JSON (None) state none
+-- `IsRequestOf schema json q` holds if `json` states the request `q`; bytes that are not JSON (`None`) state none.
 abbrev pub IsRequestOf : StatedSchema → Option Data → Request → Type 0
 IsRequestOf schema None q = ⊥
 IsRequestOf schema (Some d) q = StatesRequest schema d q
 
--- it states none, and this is the first fault; bytes that are no JSON (None) have not its form
+-- `IsNoRequest schema json f` holds if `f` is the first error of `json` as a request; for bytes that are not JSON
+-- (`None`) that is `BadShape`.
 abbrev pub IsNoRequest : StatedSchema → Option Data → EntityFault → Type 0
 IsNoRequest schema None f = f ≡ BadShape
 IsNoRequest schema (Some d) f = RequestRefused schema d f
 
 -- ---- updates that another site sent
 
--- An update is valid: its name and stamp are in their ranges, and its text, if it has one, is read as what stands
--- beside it. (`IsValid` of message_format is the second half alone.)
+-- `IsValidUnder schema u` holds if the name and stamp of `u` are in their ranges, and its text, if it has one, is
+-- read as its parsed form. (`IsValid` of message_format is the second half alone.)
 pub record IsValidUnder (schema : StatedSchema) (u : Update Policy Entity) : Type 0 where
   pub in_range : IsStamped (stamped (plain_update u))
   pub is_read : IsUpdateRead (IsPolicyUnder schema) (IsEntityUnder schema) u

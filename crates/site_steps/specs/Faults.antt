@@ -1,4 +1,4 @@
--- The refusals of a site by number, which are a rule of this product, and the faults of what it calls among them.
+-- Defines the codes of a site's errors, which are a rule of this product, and its errors for those of its callees.
 use Rattle.std.specs.Prelude.{ℕ, Option, Some, None}
 use Rattle.site_store.specs.policy_grammar.Faults as policy_faults
 use Rattle.site_store.specs.policy_grammar.declared.fault.ReadFault.{ReadFault}
@@ -13,7 +13,8 @@ use Rattle.site_soundness.specs.message_format.declared.fault.MessageFault.TheVa
 use Rattle.site_steps.specs.declared.fault.SiteFault.{SiteFault}
 use Rattle.site_steps.specs.declared.fault.SiteFault.TheVariants as fault
 
--- the refusal of a text, an entity or a message is told by its own number; that of a request by 63, with its own inside
+-- `code_of f` is the code of the error `f`: for a text, an entity or a message its own code, for a request 63, with
+-- its own code inside.
 abbrev pub code_of : SiteFault → ℕ
 code_of fault.NoMemory = 1
 code_of (fault.Policy f) = policy_faults.code_of f
@@ -25,27 +26,29 @@ code_of fault.WouldCycle = 61
 code_of fault.ClockFull = 62
 code_of (fault.Request f) = 63
 
--- the place at which it shows: a byte of a policy's text, an entry of a message
+-- `place_of f` is the byte offset in a policy's text, or the index of a message's entry, if there is one.
 abbrev pub place_of : SiteFault → Option ℕ
 place_of (fault.Policy f) = policy_faults.place_of f
 place_of (fault.Message f) = message_faults.place_of f
 place_of _ = None
 
--- the number of the refusal inside, where one stands in another
+-- `within_of f` is the code of the inner error, if there is one.
 abbrev pub within_of : SiteFault → Option ℕ
 within_of (fault.Message f) = message_faults.within_of f
 within_of (fault.Request f) = Some (entity_faults.code_of f)
 within_of _ = None
 
--- want of memory is one, wherever it is met
+-- `of_reading f` is the site's error for the parser's error `f`; `NoMemory` stays `NoMemory`.
 abbrev pub of_reading : ReadFault → SiteFault
 of_reading reading.NoMemory = fault.NoMemory
 of_reading f = fault.Policy f
 
+-- `of_checking f` is the site's error for the validator's error `f`; `NoMemory` stays `NoMemory`.
 abbrev pub of_checking : TypeFault → SiteFault
 of_checking checking.NoMemory = fault.NoMemory
 of_checking f = fault.Check f
 
+-- `of_message f` is the site's error for the message's error `f`; `NoMemory` stays `NoMemory`.
 abbrev pub of_message : MessageFault → SiteFault
 of_message sending.NoMemory = fault.NoMemory
 of_message f = fault.Message f

@@ -1,33 +1,33 @@
--- What comes to a site, as it was handed in: nothing of it is judged yet.
+-- Defines the inputs of a site, before any check.
 use Rattle.std.specs.Prelude.{ℕ, List}
 use Rattle.values.specs.declared.entity_uid.EntityUid.{EntityUid}
 use Rattle.site_steps.specs.declared.input.Input as code
 use Rattle.site_steps.specs.declared.input.Input.TheVariants as borrowed
 
--- texts and bytes by their bytes
+-- An `Input` has strings and bytes as lists of bytes.
 pub data Input : Type 0 where
-  -- a policy is put: its id, and its text
+  -- puts a policy: its id, and its text
   PutPolicy : List ℕ → List ℕ → Input
-  -- the policy of this id is deleted
+  -- deletes the policy of this id
   DeletePolicy : List ℕ → Input
-  -- an entity is put: its JSON
+  -- puts an entity: its JSON
   PutEntity : List ℕ → Input
-  -- the entity of this uid is deleted
+  -- deletes the entity of this uid
   DeleteEntity : EntityUid → Input
-  -- the updates of a message are taken: a state or a delta of another site
+  -- applies the updates of a message: a state or a delta of another site
   Take : List ℕ → Input
-  -- a request is decided: its JSON
+  -- decides a request: its JSON
   Authorize : List ℕ → Input
-  -- the text and the stamp of the policy of this id are asked for
+  -- asks for the text and the stamp of the policy of this id
   GetPolicy : List ℕ → Input
-  -- the state is asked for
+  -- asks for the state
   State : Input
-  -- the summary is asked for
+  -- asks for the summary
   Summary : Input
-  -- what is news to another site is asked for: that site's summary
+  -- asks for a delta against another site's summary
   Delta : List ℕ → Input
 
--- an input as the code borrows it
+-- `input_of i` is the input `i` without its borrows.
 abbrev pub input_of : code.Input → Input
 input_of (borrowed.PutPolicy id text) = PutPolicy id.now text.now
 input_of (borrowed.DeletePolicy id) = DeletePolicy id.now

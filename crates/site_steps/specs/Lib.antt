@@ -1,13 +1,13 @@
 pub mod Faults
 pub mod Admitted
-pub mod Seen
+pub mod SiteViews
 pub mod Steps
 pub mod inner
 pub mod Inputs
 pub mod Runs
 pub mod Outcomes
 pub mod Right
--- crates below, passed on to those above
+-- Specifications of lower crates, re-exported.
 pub use Rattle.site_store.specs.ancestor_search
 pub use Rattle.site_store.specs.authoriser
 pub use Rattle.site_store.specs.entities

@@ -1,6 +1,7 @@
--- A run of a site: one step after another, each an input with its reply; and which updates the site took. From
--- these the store at the end is told without the steps between. Rules of this product: a message is refused whole or
--- its updates are taken in order; what is refused, and what is asked, changes nothing.
+-- Defines runs of a site: a sequence of steps, each an input with its reply, and the updates that it applies. These
+-- give the store at the end without the steps between.
+-- Rules of this product: a message is rejected whole or its updates are applied in order; rejected inputs and queries
+-- leave the store unchanged.
 use Rattle.std.specs.Prelude.{◌≡◌, ℕ, List, [], ◌∷◌, ◌++◌, take, Option, Some, None, option_map, Result, Ok, Err}
 use Rattle.json_words.specs.Json.{json_of}
 use Rattle.site_store.specs.policy_grammar.declared.policy.Policy.{Policy}
@@ -31,33 +32,35 @@ use Rattle.site_steps.specs.declared.reply.Reply.TheVariants as reply
 
 -- ---- messages
 
--- bytes are no message of this schema, and this is the first fault, unless memory was refused
+-- `IsNoMessageOf schema bytes f` holds if `f` is `NoMemory` or the first error of `bytes` as a message of `schema`.
 abbrev pub IsNoMessageOf : StatedSchema → List ℕ → SiteFault → Type 0
 IsNoMessageOf schema bytes fault.NoMemory = Unit {0}
 IsNoMessageOf schema bytes (fault.Message f) = IsMessageFaultOf schema bytes f
 IsNoMessageOf schema bytes _ = ⊥
 
--- a message comes: all of its updates are taken, or the first ones, or it is refused whole
+-- `TakesMessage schema s bytes r t` holds if the message `bytes` leads from the store `s` to `t` with result `r`: all
+-- its updates are applied, or the first ones, or it is rejected whole.
 abbrev pub TakesMessage : StatedSchema → Store → List ℕ → Result taking.Taken SiteFault → Store → Type 0
 TakesMessage schema s bytes (Ok taken) t =
     (us : List (SentUpdate Policy Entity)) × IsMessageOf schema bytes us × TakesUpdates s (plain_updates us) taken t
 TakesMessage schema s bytes (Err f) t = IsNoMessageOf schema bytes f × (t ≡ s)
 
--- ---- questions
+-- ---- queries
 
--- the text and the stamp of a policy, or that its id has no text
+-- `Finds s id r` holds if `r` is `NoMemory`, or the text and stamp of the policy `id` in `s`, or that it has no text.
 abbrev pub Finds : Store → List ℕ → Result (Option Found) SiteFault → Type 0
 Finds s id (Ok found) = option_map (λ f. (f.text, f.stamp)) found ≡ policy_found s id
 Finds s id (Err fault.NoMemory) = Unit {0}
 Finds s id (Err _) = ⊥
 
--- these bytes are written, but for want of memory
+-- `Writes bytes r` holds if `r` is `bytes` or `NoMemory`.
 abbrev pub Writes : List ℕ → Result (List ℕ) SiteFault → Type 0
 Writes bytes (Ok written) = written ≡ bytes
 Writes bytes (Err fault.NoMemory) = Unit {0}
 Writes bytes (Err _) = ⊥
 
--- what is news to whoever has this summary
+-- `WritesDelta schema s summary r` holds if `r` is the delta of `s` against the summary in the bytes `summary`, or
+-- their first error as a summary of `schema`, or `NoMemory`.
 abbrev pub WritesDelta : StatedSchema → Store → List ℕ → Result (List ℕ) SiteFault → Type 0
 WritesDelta schema s summary (Ok written) =
     (m : deltas.Summary) × (summary_stated schema.label summary ≡ Ok m)
@@ -68,7 +71,8 @@ WritesDelta schema s summary (Err _) = ⊥
 
 -- ---- one step
 
--- from s, the site with name n may give this reply to the input and go on to t
+-- `Step schema n s i r t` holds if, at the site named `n` with store `s`, input `i` may yield reply `r` and store
+-- `t`.
 abbrev pub Step : StatedSchema → List ℕ → Store → Input → Reply → Store → Type 0
 Step schema n s (input.PutPolicy id text) (reply.Put r) t = PutsPolicy schema n s id text r t
 Step schema n s (input.DeletePolicy id) (reply.Stamped r) t = Deletes n s (policy_name id) r t
@@ -85,29 +89,29 @@ Step schema n s _ _ t = ⊥
 
 -- ---- runs
 
--- From s to t by one step for each input, each with its reply. An example: site `east` begins with nothing. It is given
--- a text for the policy `a`, which gets the stamp (1, `east`); is sent a message in which site `west` has put another
--- text for `a` with the stamp (3, `west`), and takes it; and is asked to delete `a`, which gets the stamp (4, `east`).
--- These are three inputs with three replies; three updates were taken, and the store at the end says that `a` was
--- deleted at (4, `east`).
+-- `Run schema n s is rs t` holds if a chain of steps, one for each of the inputs `is` with its reply of `rs`, leads
+-- from `s` to `t`. An example: site `east` begins with an empty store. It gets a text for the policy `a`, with the
+-- stamp (1, `east`); then a message in which site `west` has put another text for `a` with the stamp (3, `west`);
+-- then a deletion of `a`, with the stamp (4, `east`). These are three inputs with three replies and three applied
+-- updates; in the store at the end, `a` was deleted at (4, `east`).
 abbrev pub Run : StatedSchema → List ℕ → Store → List Input → List Reply → Store → Type 0
 Run schema n s [] [] t = t ≡ s
 Run schema n s [] (r ∷ rs) t = ⊥
 Run schema n s (i ∷ is) [] t = ⊥
 Run schema n s (i ∷ is) (r ∷ rs) t = (m : Store) × Step schema n s i r m × Run schema n m is rs t
 
--- the update that puts the entity that was stated, as its canonical text
+-- `update_of_entity stamp e` is the update that puts the stated entity `e`, as its canonical text.
 abbrev pub update_of_entity : Stamp → Result Entity EntityFault → List Update
 update_of_entity stamp (Ok e) = (entity_name e.uid, issued stamp (Some (canonical_text e))) ∷ []
 update_of_entity stamp (Err f) = []
 
--- the updates that were stated
+-- `updates_of_message us` is the list of the stated updates `us`, empty for an error.
 abbrev pub updates_of_message : Result (List Update) MessageFault → List Update
 updates_of_message (Ok us) = us
 updates_of_message (Err f) = []
 
--- The updates that were taken by an input with this reply: what a command was given a stamp for, or a message's, all or
--- the first k. Those are among them that lose to a greater entry, and so never stand in the store.
+-- `took_by schema i r` is the list of the updates that the input `i` with the reply `r` applied: that of a command
+-- with a stamp, or those of a message, all or the first k, including those that lose to a greater entry.
 abbrev pub took_by : StatedSchema → Input → Reply → List Update
 took_by schema (input.PutPolicy id text) (reply.Put (Ok put)) = (policy_name id, issued put.stamp (Some text)) ∷ []
 took_by schema (input.DeletePolicy id) (reply.Stamped (Ok stamp)) = (policy_name id, issued stamp None) ∷ []
@@ -120,14 +124,15 @@ took_by schema (input.Take bytes) (reply.Taken (Ok (Short k))) =
     take k (updates_of_message (updates_stated schema.label bytes))
 took_by schema _ _ = []
 
--- the updates that were taken in a run, in their order: by each input with its reply
+-- `took schema is rs` is the list of the updates that a run applied, in order, including those that lose to a greater
+-- entry.
 abbrev pub took : StatedSchema → List Input → List Reply → List Update
 took schema [] rs = []
 took schema (i ∷ is) [] = []
 took schema (i ∷ is) (r ∷ rs) = took_by schema i r ++ took schema is rs
 
--- t is what a site of this schema holds after a run, us being the updates that it had and those that it took. Any name
--- will do, and any first store; so will any inputs, and replies that these may have.
+-- `HoldsAfter schema us t` holds if some run of some site of `schema` leaves the store `t`, and `us` are the updates
+-- that the site had and those that it applied, for any name, first store, inputs and replies.
 pub record HoldsAfter (schema : StatedSchema) (us : List Update) (t : Store) : Type 0 where
   pub name : List ℕ
   pub first : Store

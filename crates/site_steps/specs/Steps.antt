@@ -1,7 +1,7 @@
--- What one call of a site may do: from the store s, with this outcome, to the store t. Rules of this product: a local
--- command is judged by its own causes first and by the clock last, and is stamped with one more than the greatest count
--- in the whole store; updates of another site are taken in their order; what is refused changes nothing, nor does what
--- is asked.
+-- Defines the steps of a site: from the store s, with a result, to the store t.
+-- Rules of this product: a local command is checked for its own errors first and for the clock last, and its stamp
+-- has one more than the greatest count in the whole store; updates of another site are applied in their order;
+-- rejected inputs and queries leave the store unchanged.
 use Rattle.std.specs.Prelude.{◌≡◌, ◌↔◌, ◌<◌, ℕ, List, [], ◌∷◌, ◌++◌, length, take, Option, Some, None, IsSome}
 use Rattle.std.specs.Prelude.{IsTrue, Result, Ok, Err, option_and_then, option_map}
 use Rattle.std.specs.FinMap.{get}
@@ -20,7 +20,7 @@ use Rattle.site_store.specs.stamped_store.Deltas.{stamp_of}
 use Rattle.site_store.specs.stamped_store.Greatest.{greatest_count}
 use Rattle.site_store.specs.stamped_store.Store.{Store, Update, updates, store_of, issue, issued, policy_name}
 use Rattle.site_store.specs.stamped_store.Store.{entity_name}
-use Rattle.site_store.specs.site_meaning.Said.{IsAnswerOver, MakesCycle, MakesNoCycle}
+use Rattle.site_store.specs.site_meaning.StoreMeaning.{IsAnswerOver, MakesCycle, MakesNoCycle}
 use Rattle.site_soundness.specs.validator.Passing.{IsImpossible}
 use Rattle.site_steps.specs.declared.fault.SiteFault.{SiteFault}
 use Rattle.site_steps.specs.declared.fault.SiteFault.TheVariants as fault
@@ -30,25 +30,26 @@ use Rattle.site_steps.specs.declared.outcome.Taken.TheVariants.{All, Short}
 use Rattle.site_steps.specs.Admitted.{IsPolicyUnder, IsEntityUnder, IsAdmitted, IsNotAdmitted, entity_stated}
 use Rattle.site_steps.specs.Admitted.{IsRequestOf, IsNoRequest}
 
--- ---- local commands, at the site with name n
+-- ---- local commands, at the site named n
 
--- the greatest count that a stamp may have
+-- `most_count` is the greatest count that a stamp may have.
 abbrev pub most_count : ℕ
 most_count = 1_000_000_000_000_000_000
 
--- A name gets this body with the next stamp: the store is that of its updates and this one. That the body may be put is
--- stated where this is used.
+-- `Records n s name body stamp t` holds if `body` is stored under `name` with the next stamp: `t` is the store of the
+-- updates of `s` and this one. Whether the body may be put is stated where this is used.
 pub record Records (n : List ℕ) (s : Store) (name : Name) (body : Option (List ℕ)) (stamp : Stamp) (t : Store) : Type 0
   where
     pub clock : greatest_count s < most_count
     pub next : stamp ≡ issue s n
     pub store : t ≡ store_of (updates s ++ (name, issued stamp body) ∷ [])
 
--- no stamp is left, and nothing changes
+-- `IsClockFull s t` holds if no stamp is left in `s`, and `t` is `s`.
 abbrev pub IsClockFull : Store → Store → Type 0
 IsClockFull s t = (greatest_count s ≡ most_count) × (t ≡ s)
 
--- a policy is put
+-- `PutsPolicy schema n s id text r t` holds if putting `text` under the policy's id `id` may lead from `s` to `t`
+-- with result `r`.
 abbrev pub PutsPolicy : StatedSchema → List ℕ → Store → List ℕ → List ℕ → Result Put SiteFault → Store → Type 0
 PutsPolicy schema n s id text (Ok put) t =
     (p : Policy) × IsAdmitted schema id text p × (IsTrue put.impossible ↔ IsImpossible schema p)
@@ -58,8 +59,8 @@ PutsPolicy schema n s id text (Err fault.ClockFull) t =
     ((p : Policy) × IsAdmitted schema id text p) × IsClockFull s t
 PutsPolicy schema n s id text (Err f) t = IsNotAdmitted schema id text f × (t ≡ s)
 
--- an entity is put, as its canonical text; whether it would be on a cycle is asked before the clock; None stands for
--- bytes that are no JSON
+-- `PutsEntity schema n s json r t` holds if putting the entity that `json` states, as its canonical text, may lead
+-- from `s` to `t` with result `r`. The cycle is checked before the clock; `None` is bytes that are not JSON.
 abbrev pub PutsEntity : StatedSchema → List ℕ → Store → Option Data → Result Stamp SiteFault → Store → Type 0
 PutsEntity schema n s json (Ok stamp) t =
     (e : Entity) × (entity_stated schema json ≡ Ok e) × MakesNoCycle (IsEntityUnder schema) schema s e
@@ -73,7 +74,8 @@ PutsEntity schema n s json (Err fault.ClockFull) t =
     × IsClockFull s t
 PutsEntity schema n s json (Err _) t = ⊥
 
--- a name that has a text gets a tombstone
+-- `Deletes n s name r t` holds if writing a tombstone at `name`, if that has a text, may lead from `s` to `t` with
+-- result `r`.
 abbrev pub Deletes : List ℕ → Store → Name → Result Stamp SiteFault → Store → Type 0
 Deletes n s name (Ok stamp) t = IsSome (text_under s name) × Records n s name None stamp t
 Deletes n s name (Err fault.NoMemory) t = t ≡ s
@@ -83,15 +85,17 @@ Deletes n s name (Err _) t = ⊥
 
 -- ---- updates that another site sent
 
--- All updates are taken, or exactly the first k: the store is then that of the updates that it had and of these, which
--- has at each name the greatest entry among them (`IsStoreOf` of stamped_store says so).
+-- `TakesUpdates s us taken t` holds if all of the updates `us`, or exactly the first k, are applied to `s`, which
+-- gives `t`: the store of the updates of `s` and of these, with the greatest entry among them at each name (as
+-- `IsStoreOf` of stamped_store states).
 abbrev pub TakesUpdates : Store → List Update → taking.Taken → Store → Type 0
 TakesUpdates s us (All k) t = (k ≡ length us) × (t ≡ store_of (updates s ++ us))
 TakesUpdates s us (Short k) t = (k < length us) × (t ≡ store_of (updates s ++ take k us))
 
--- ---- questions, which change nothing
+-- ---- queries, which change nothing
 
--- a request is decided over the store; None stands for bytes that are no JSON
+-- `Answers schema s json r` holds if `r` is an answer over `s` to the request that `json` states, or its first error,
+-- or `NoMemory`. `None` is bytes that are not JSON.
 abbrev pub Answers : StatedSchema → Store → Option Data → Result Answer SiteFault → Type 0
 Answers schema s json (Ok a) =
     (q : Request) × IsRequestOf schema json q × IsAnswerOver (IsPolicyUnder schema) (IsEntityUnder schema) schema s q a
@@ -99,10 +103,10 @@ Answers schema s json (Err fault.NoMemory) = Unit {0}
 Answers schema s json (Err (fault.Request f)) = IsNoRequest schema json f
 Answers schema s json (Err _) = ⊥
 
--- the text and the stamp of an entry that has a text
+-- `text_of e` is the text and the stamp of the entry `e`, if it has a text.
 abbrev pub text_of : PlainEntry → Option (List ℕ × Stamp)
 text_of e = option_map (λ text. (text, stamp_of e)) e.body
 
--- the text and the stamp that a policy has in a store; none where its id has no text there
+-- `policy_found s id` is the text and the stamp of the policy `id` in the store `s`, if it has a text there.
 abbrev pub policy_found : Store → List ℕ → Option (List ℕ × Stamp)
 policy_found s id = option_and_then text_of (get s (policy_name id))

@@ -8,9 +8,9 @@ ghost use Rattle.site_store.specs.stamped_store.Store.{store_of, updates};
 ghost use Rattle.site_soundness.specs.message_format.Summaries.{summary_text};
 ghost use Rattle.site_soundness.specs.message_format.Messages.{state_text};
 ghost use Rattle.site_soundness.specs.sync_messages.Messages.{IsMessageOf};
-ghost use Rattle.site_soundness.specs.Answers.{ErrsHarmlessly};
+ghost use Rattle.site_soundness.specs.Answers.{HasPermittedErrors};
 ghost use Rattle.site_steps.specs.Admitted.{IsValidUnder};
-ghost use Rattle.site_steps.specs.Seen.{schema_of, store_in, IsSameSite};
+ghost use Rattle.site_steps.specs.SiteViews.{schema_of, store_in, IsSameSite};
 ghost use Rattle.site_steps.specs.Steps.{PutsEntity, Answers};
 ghost use Rattle.site_steps.specs.Inputs.{input_of};
 ghost use Rattle.site_steps.specs.Runs.{IsNoMessageOf, TakesMessage, Finds, Writes, WritesDelta};
@@ -19,7 +19,7 @@ ghost use Rattle.site_steps.specs.Runs.{Step, Run, took};
 
 use crate::fault::SiteFault;
 use crate::input::Input;
-use crate::laws::runs_go_right;
+use crate::laws::runs_are_sound;
 use crate::outcome::Taken;
 use crate::reply::{Found, Reply};
 use crate::site::Site;
@@ -29,10 +29,11 @@ use site_soundness::{MessageFault, Summary, Update, read_summary, read_updates};
 use site_store::{Answer, Entity, EntityFault, Policy, Schema, Stamp, updates_have_one_store};
 use std::alloc::Global;
 
-/// Puts the entity that bytes state, as its canonical text: JSON in UTF-8. Nothing is copied that is not kept.
+/// Puts the entity that bytes state: JSON in UTF-8. The site stores its canonical text.
 ///
-/// Refused as [`Site::put_entity`] refuses; bytes that are no JSON have not an entity's form (30). What is refused
-/// changes nothing, nor does want of memory.
+/// # Errors
+///
+/// As [`Site::put_entity`]; `BadShape` (30) if the bytes are not JSON. The site is then unchanged.
 fn put_entity(
     alloc: Global,
     scratch: &mut Scratch,
@@ -50,7 +51,7 @@ fn put_entity(
     }
 }
 
-/// Returns the updates of a message, each valid under the schema, or its first fault as a site's.
+/// Returns the updates of a message, each valid under the schema; or the message's first error as the site's.
 fn updates_of(
     alloc: Global,
     schema: &Schema,
@@ -66,10 +67,17 @@ fn updates_of(
     }
 }
 
-/// Takes the updates of a message, a state or a delta of another site of the schema, in their order.
+/// Applies the updates of a message, a state or a delta of another site of the schema, in their order.
 ///
-/// A message is refused whole where its bytes are none under the schema, or any update is not valid (50 to 57); then
-/// nothing changes. Where memory is refused, nothing is taken, or exactly the first updates, and the answer says so.
+/// If an allocation fails while updates are applied, exactly the first ones are applied, and the result holds their
+/// number.
+///
+/// # Errors
+///
+/// The site is then unchanged:
+///
+/// - `Message` (50 to 56): the first error of the bytes as a message of the schema; the message is rejected whole.
+/// - `NoMemory` (1): an allocation failed while the message was read.
 pub fn take_bytes(alloc: Global, site: &mut Site, bytes: &[u8]) -> Result<Taken, SiteFault>
     ensures takes { TakesMessage (schema_of site.old) (store_in site.old) bytes.now result (store_in site.new) }
     ensures same { IsSameSite site.old site.new }
@@ -80,10 +88,12 @@ pub fn take_bytes(alloc: Global, site: &mut Site, bytes: &[u8]) -> Result<Taken,
     }
 }
 
-/// Returns the answer to the request that bytes state: JSON in UTF-8. No policy errs in it for a type, an attribute or
-/// an extension function.
+/// Returns the answer to the request that bytes state: JSON in UTF-8. No policy in it has an error of type, of an
+/// attribute or of an extension function.
 ///
-/// Refused as [`Site::authorize`] refuses; bytes that are no JSON have not a request's form (63, with 30 inside).
+/// # Errors
+///
+/// As [`Site::authorize`]; `Request` (63, with 30 inside) if the bytes are not JSON.
 fn authorize(
     alloc: Global,
     scratch: &mut Scratch,
@@ -91,7 +101,7 @@ fn authorize(
     bytes: &[u8],
 ) -> Result<Answer, SiteFault>
     ensures answers { Answers (schema_of site.now) (store_in site.now) (json_of bytes.now) result }
-    ensures right { IfOk result ErrsHarmlessly }
+    ensures right { IfOk result HasPermittedErrors }
 {
     match read_json_by(scratch, alloc, bytes) {
         Ok(Some(json)) => site.authorize(&json),
@@ -113,7 +123,7 @@ fn find_policy(alloc: Global, site: &Site, id: &str) -> Result<Option<Found>, Si
     }
 }
 
-/// Returns the state, as a message to other sites of the schema. Fails for memory alone.
+/// Returns the state, as a message to other sites of the schema. The only error is `NoMemory`.
 fn state(site: &Site) -> Result<Items<u8>, SiteFault>
     ensures { Writes (state_text (schema_of site.now).label (store_in site.now)) result }
 {
@@ -121,7 +131,7 @@ fn state(site: &Site) -> Result<Items<u8>, SiteFault>
     Ok(Items::from_vec(bytes))
 }
 
-/// Returns the summary, as a message to other sites of the schema. Fails for memory alone.
+/// Returns the summary, as a message to other sites of the schema. The only error is `NoMemory`.
 fn summary(site: &Site) -> Result<Items<u8>, SiteFault>
     ensures { Writes (summary_text (schema_of site.now).label (summary_of (store_in site.now))) result }
 {
@@ -129,9 +139,11 @@ fn summary(site: &Site) -> Result<Items<u8>, SiteFault>
     Ok(Items::from_vec(bytes))
 }
 
-/// Returns what is news to whoever has the summary that bytes are, as a message to that site.
+/// Returns a delta against the summary in `bytes`: the entries whose names it lacks or has with a smaller stamp.
 ///
-/// Refused where the bytes are no summary of the schema, as [`read_summary`] refuses.
+/// # Errors
+///
+/// As [`read_summary`], if the bytes are not a summary of the schema; or `NoMemory`.
 fn delta(alloc: Global, site: &Site, bytes: &[u8]) -> Result<Items<u8>, SiteFault>
     ensures { WritesDelta (schema_of site.now) (store_in site.now) bytes.now result }
 {
@@ -145,8 +157,8 @@ fn delta(alloc: Global, site: &Site, bytes: &[u8]) -> Result<Items<u8>, SiteFaul
     }
 }
 
-/// Answers one input: at most one step of the site. `scratch` is memory that is reused for the next input; its old
-/// content has no effect.
+/// Answers one input: at most one step of the site. `scratch` is reused for the next input; its old content has no
+/// effect.
 pub fn answer(alloc: Global, scratch: &mut Scratch, site: &mut Site, input: &Input<'_>) -> Reply
     ensures step { Step (schema_of site.old) site.old.name (store_in site.old) (input_of input.now) result
         (store_in site.new) }
@@ -166,12 +178,15 @@ pub fn answer(alloc: Global, scratch: &mut Scratch, site: &mut Site, input: &Inp
     }
 }
 
-/// Answers inputs in their order, each with its reply. The store is then that of the updates that the site had and of
-/// those that it took: what its commands were given a stamp for, and what the messages held. In no answer does a policy
-/// err for a type, an attribute or an extension function.
+/// Answers inputs in their order, each with its reply.
 ///
-/// Fails where there is no memory for the list of replies; then nothing was done. Other wants of memory are replies,
-/// and the inputs behind them are answered all the same.
+/// The store is then that of the updates that the site had and of those that it applied: what its commands got a
+/// stamp for, and what the messages held. No reply has an error of type, of an attribute or of an extension function.
+///
+/// # Errors
+///
+/// `NoMemory` if there is no memory for the list of replies; the site is then unchanged. Any other failed allocation
+/// is a reply, and the inputs after it are still answered.
 pub fn run(alloc: Global, site: &mut Site, inputs: &[Input<'_>]) -> Result<Vec<Reply>, NoMemory>
     ensures steps { IfOk result (λ replies. Run (schema_of site.old) site.old.name (store_in site.old)
         (map input_of inputs.now) replies.items (store_in site.new)) }
@@ -182,7 +197,7 @@ pub fn run(alloc: Global, site: &mut Site, inputs: &[Input<'_>]) -> Result<Vec<R
     ensures err { OnErr result (site.new ≡ site.old) }
 {
     updates_have_one_store();
-    runs_go_right();
+    runs_are_sound();
     site.schema().is_stated();
     let mut replies = Vec::with_capacity(alloc, inputs.len())?;
     let mut scratch = Scratch::new(alloc);

@@ -1,4 +1,4 @@
-//! The commands of a site: what puts a policy or an entity, and what takes one away.
+//! The commands of a site: puts and deletions of policies and entities.
 ghost use Rattle.std.specs.Prelude.{◌≡◌, ◌≤◌, IfOk, is_some, true, false, option_map, option_and_then, Some, None, Ok};
 ghost use Rattle.std.specs.Prelude.{Err, MatchResult, string_bytes};
 ghost use Rattle.std.specs.Option.{option_copied};
@@ -12,10 +12,10 @@ ghost use Rattle.site_store.specs.stamped_store.Greatest.{greatest_count};
 ghost use Rattle.site_store.specs.stamped_store.Reading.{IsBodyRead};
 ghost use Rattle.site_store.specs.stamped_store.Store.{abstract_store, policy_name, entity_name, issued};
 ghost use Rattle.site_store.specs.stamped_store.Store.{KeepsOtherNames};
-ghost use Rattle.site_store.specs.site_meaning.Said.{MakesCycle, MakesNoCycle};
+ghost use Rattle.site_store.specs.site_meaning.StoreMeaning.{MakesCycle, MakesNoCycle};
 ghost use Rattle.site_soundness.specs.message_format.Summaries.{IsName};
 ghost use Rattle.site_steps.specs.Admitted.{IsPolicyUnder, IsEntityUnder, entity_stated};
-ghost use Rattle.site_steps.specs.Seen.{schema_of, store_in, IsSameSite};
+ghost use Rattle.site_steps.specs.SiteViews.{schema_of, store_in, IsSameSite};
 ghost use Rattle.site_steps.specs.Steps.{PutsPolicy, PutsEntity, Deletes};
 ghost use Rattle.site_steps.specs.inner.Recording.{RecordsOr, PutsUnless, IsNext, put_result};
 
@@ -28,11 +28,11 @@ use crate::under_schema::{readings_stay, would_cycle};
 use plain::NoMemory;
 use serde_json::Value;
 use site_store::{
-    COUNT_MAX, Entity, Entry, Policy, PolicyStore, ReadText, SiteName, Stamp, stamps_are_issued,
+    COUNT_MAX, Entity, Entry, Policy, ReadText, SiteName, Stamp, StampedStore, stamps_are_issued,
 };
 use values::EntityUid;
 
-/// Returns the outcome of a put: its stamp, and whether the policy is impossible.
+/// Returns the result of a put: its stamp, and whether the policy is impossible.
 fn put_of(stamped: Result<Stamp, SiteFault>, impossible: bool) -> Result<Put, SiteFault>
     ensures { result ≡ put_result impossible stamped }
 {
@@ -42,7 +42,7 @@ fn put_of(stamped: Result<Stamp, SiteFault>, impossible: bool) -> Result<Put, Si
     }
 }
 
-/// Returns the outcome of storing an entry: its stamp, or want of memory.
+/// Returns the result of storing an entry: its stamp, or `NoMemory`.
 fn stamped<T: Drop>(taken: Result<(), T>, stamp: &Stamp) -> Result<Stamp, SiteFault>
     ensures { MatchResult taken (λ _. result ≡ Ok stamp.now) (λ _. result ≡ Err SiteFault.NoMemory) }
 {
@@ -52,7 +52,7 @@ fn stamped<T: Drop>(taken: Result<(), T>, stamp: &Stamp) -> Result<Stamp, SiteFa
     }
 }
 
-/// Returns whether an entry is there and has a text.
+/// Returns whether there is an entry with a text.
 fn has_text<P>(entry: Option<&Entry<P>>) -> bool
     ensures { result ≡ is_some (option_and_then (λ e. e.body) (option_map plain_entry (option_copied entry.entry))) }
 {
@@ -62,15 +62,15 @@ fn has_text<P>(entry: Option<&Entry<P>>) -> bool
     }
 }
 
-/// Returns a refusal of what would have been stored, which is dropped.
+/// Returns the error, and drops what would have been stored.
 fn refused<T: Drop>(_dropped: T, fault: SiteFault) -> Result<Stamp, SiteFault>
     ensures { result ≡ Err fault }
 {
     Err(fault)
 }
 
-/// Returns the stamp of the next local command at a site; None where no stamp is left.
-fn next_stamp(store: &PolicyStore<Policy, Entity>, name: SiteName) -> Option<Stamp>
+/// Returns the stamp of the next local command at a site; `None` if no stamp is left.
+fn next_stamp(store: &StampedStore<Policy, Entity>, name: SiteName) -> Option<Stamp>
     requires { greatest_count (abstract_store store.now) ≤ COUNT_MAX }
     ensures { IsNext name (abstract_store store.now) result }
 {
@@ -131,12 +131,19 @@ impl Site {
         }
     }
 
-    /// Puts a policy's text under an id, in place of what is there, and tells whether the policy is impossible: False
-    /// in each environment of the schema.
+    /// Puts a policy's text under an id, in place of what is there.
     ///
-    /// Refused in this order: the id has not 1 to 256 bytes (19); the text is no policy's (10 to 18); the policy does
-    /// not pass under the schema (40 to 46); no stamp is left (62). What is refused changes nothing, nor does want of
-    /// memory.
+    /// Returns the stamp, and whether the policy is impossible: False in each environment of the schema.
+    ///
+    /// # Errors
+    ///
+    /// In this order; the site is then unchanged:
+    ///
+    /// - `Policy` (19): the id does not have 1 to 256 bytes.
+    /// - `Policy` (10 to 18): the text is not that of a policy.
+    /// - `Check` (40 to 46): the policy does not pass validation.
+    /// - `ClockFull` (62): no stamp is left.
+    /// - `NoMemory` (1): an allocation failed; possible at any point.
     pub fn put_policy(&mut self, id: &str, text: &str) -> Result<Put, SiteFault>
         ensures puts { PutsPolicy (schema_of self.old) self.old.name (store_in self.old) id.now text.now result
             (store_in self.new) }
@@ -174,7 +181,7 @@ impl Site {
         has_text(self.store.store().get_entity(uid))
     }
 
-    /// Stamps and stores that a policy is taken away.
+    /// Stamps and stores a tombstone of a policy.
     fn remove_policy(&mut self, id: &str) -> Result<Stamp, SiteFault>
         requires { IsName (policy_name id.now) }
         ensures records { RecordsOr self.old.name (store_in self.old) (policy_name id.now) None result
@@ -186,10 +193,15 @@ impl Site {
         self.record_policy(id, None)
     }
 
-    /// Takes a policy away: its id gets a tombstone.
+    /// Deletes a policy by writing a tombstone.
     ///
-    /// Refused where the id has no text (60), then where no stamp is left (62). What is refused changes nothing, nor
-    /// does want of memory.
+    /// # Errors
+    ///
+    /// In this order; the site is then unchanged:
+    ///
+    /// - `NotThere` (60): the id has no text.
+    /// - `ClockFull` (62): no stamp is left.
+    /// - `NoMemory` (1): an allocation failed; possible at any point.
     pub fn delete_policy(&mut self, id: &str) -> Result<Stamp, SiteFault>
         ensures deletes { Deletes self.old.name (store_in self.old) (policy_name id.now) result (store_in self.new) }
         ensures stands { IfOk result
@@ -206,7 +218,7 @@ impl Site {
         self.remove_policy(id)
     }
 
-    /// Stamps and stores that an entity is taken away.
+    /// Stamps and stores a tombstone of an entity.
     fn remove_entity(&mut self, uid: &EntityUid) -> Result<Stamp, SiteFault>
         requires { IsName (entity_name uid.now) }
         ensures records { RecordsOr self.old.name (store_in self.old) (entity_name uid.now) None result
@@ -218,10 +230,15 @@ impl Site {
         self.record_entity(uid, None)
     }
 
-    /// Takes an entity away: its uid gets a tombstone. Edges to it stay, and lead to an entity that is not stored.
+    /// Deletes an entity by writing a tombstone. Edges to it remain, and lead to an entity that is not stored.
     ///
-    /// Refused where the uid has no text (60), then where no stamp is left (62). What is refused changes nothing, nor
-    /// does want of memory.
+    /// # Errors
+    ///
+    /// In this order; the site is then unchanged:
+    ///
+    /// - `NotThere` (60): the uid has no text.
+    /// - `ClockFull` (62): no stamp is left.
+    /// - `NoMemory` (1): an allocation failed; possible at any point.
     pub fn delete_entity(&mut self, uid: &EntityUid) -> Result<Stamp, SiteFault>
         ensures deletes { Deletes self.old.name (store_in self.old) (entity_name uid.now) result (store_in self.new) }
         ensures stands { IfOk result
@@ -238,7 +255,7 @@ impl Site {
         self.remove_entity(uid)
     }
 
-    /// Returns whether an entity would be on a cycle once it is put.
+    /// Returns whether putting an entity would make it cyclic.
     fn makes_cycle(&self, entity: &Entity) -> Result<bool, NoMemory>
         ensures yes { IfOk result (λ yes. yes ≡ true → MakesCycle (IsEntityUnder (schema_of self.now))
             (schema_of self.now) (store_in self.now) entity.now) }
@@ -248,7 +265,7 @@ impl Site {
         would_cycle(&self.store, entity)
     }
 
-    /// Puts an entity that was read, unless it would be on a cycle.
+    /// Puts a parsed entity, unless it would be cyclic.
     fn put_unless(
         &mut self,
         cycle: Result<bool, NoMemory>,
@@ -270,11 +287,18 @@ impl Site {
 
     /// Puts the entity that JSON states, as its canonical text, in place of what its uid has.
     ///
-    /// Refused in this order: the JSON states no entity under the schema (30 to 38); the entity would be on a cycle
-    /// once it is put (61), whatever cycles of others there are; no stamp is left (62). What is refused changes
-    /// nothing, nor does want of memory. Asking for a cycle takes two look-ups for each parent, and where the kept
-    /// ancestors do not stand a search that is linear in what is above the entity. Where the parents are others than
-    /// before, the ancestors of all below the entity are written anew.
+    /// The check for a cycle takes two look-ups for each parent; if the ancestor cache is absent, a search that is
+    /// linear in the entity's ancestors. If the parents change, the ancestors of all descendants of the entity are
+    /// rewritten.
+    ///
+    /// # Errors
+    ///
+    /// In this order; the site is then unchanged:
+    ///
+    /// - `Entity` (30 to 38): the JSON does not state an entity under the schema.
+    /// - `WouldCycle` (61): the put would make the entity cyclic, whatever cycles of others there are.
+    /// - `ClockFull` (62): no stamp is left.
+    /// - `NoMemory` (1): an allocation failed; possible at any point.
     pub fn put_entity(&mut self, json: &Value) -> Result<Stamp, SiteFault>
         ensures puts { PutsEntity (schema_of self.old) self.old.name (store_in self.old) (Some (view json.now)) result
             (store_in self.new) }

@@ -1,4 +1,4 @@
-//! Why a site refuses.
+//! The errors of a site.
 ghost use Rattle.std.specs.Prelude.{◌≡◌};
 ghost use Rattle.site_steps.specs.Faults.{of_reading, of_checking, of_message, code_of, place_of, within_of};
 ghost use Rattle.site_steps.specs.declared.fault.SiteFault.TheVariants.{NoMemory};
@@ -9,40 +9,40 @@ use site_store::{EntityFault, ReadFault};
 use std::alloc::AllocFailed;
 use thiserror::Error;
 
-/// Why a site refuses. What is refused changes nothing.
+/// The error of a rejected input. The site is then unchanged.
 #[derive(Clone, Copy, Debug, Error)]
 pub enum SiteFault {
-    /// An allocation was refused.
+    /// An allocation failed.
     #[error("site 1: out of memory")]
     NoMemory,
-    /// The id of a policy has not 1 to 256 bytes, or its text is no policy's.
+    /// The id of a policy does not have 1 to 256 bytes, or its text is not that of a policy.
     #[error(transparent)]
     Policy(ReadFault),
-    /// The policy does not pass under the schema.
+    /// The policy does not pass validation under the schema.
     #[error(transparent)]
     Check(TypeFault),
-    /// The JSON is no entity's under the schema.
+    /// The JSON does not state an entity under the schema.
     #[error(transparent)]
     Entity(EntityFault),
-    /// The bytes are no message of the kind that is wanted.
+    /// The bytes are not a message of the kind that is expected.
     #[error(transparent)]
     Message(MessageFault),
-    /// The name that is to be taken away has no text.
+    /// The name to be deleted has no text.
     #[error("site 60: nothing stored under this name")]
     NotThere,
-    /// Once the entity were put it would be on a cycle.
+    /// The put would make the entity cyclic.
     #[error("site 61: entity that would be its own ancestor")]
     WouldCycle,
     /// No stamp is left: the greatest count in the store is 10^18.
     #[error("site 62: no stamp left; the greatest count in the store is 10^18")]
     ClockFull,
-    /// The JSON is no request's under the schema.
+    /// The JSON does not state a request under the schema.
     #[error("site 63: invalid request ({0})")]
     Request(EntityFault),
 }
 
 impl SiteFault {
-    /// Returns the number by which the refusal is told.
+    /// Returns the error's code.
     pub fn code(self) -> u8
         ensures { result ≡ code_of self }
     {
@@ -59,7 +59,7 @@ impl SiteFault {
         }
     }
 
-    /// Returns the byte of a policy's text, or the entry of a message, at which it shows; None for the others.
+    /// Returns the byte offset in a policy's text, or the index of a message's entry; `None` for other errors.
     pub fn place(self) -> Option<usize>
         ensures { result ≡ place_of self }
     {
@@ -70,8 +70,7 @@ impl SiteFault {
         }
     }
 
-    /// Returns the number of the refusal inside, where one stands in another: of an entry of a message, or of a
-    /// request.
+    /// Returns the code of the inner error, if there is one: of an entry of a message, or of a request.
     pub fn within(self) -> Option<u8>
         ensures { result ≡ within_of self }
     {

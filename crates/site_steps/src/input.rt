@@ -1,28 +1,28 @@
-//! What comes to a site.
+//! The inputs of a site.
 
 use values::EntityUid;
 
-/// What comes to a site, as it was handed in: nothing of it is judged yet. Texts and bytes are borrowed.
+/// An input of a site, not checked yet. Strings and bytes are borrowed.
 #[derive(Clone, Copy)]
 pub enum Input<'a> {
-    /// A policy is put: its id, and its text.
+    /// Puts a policy: its id, and its text.
     PutPolicy(&'a str, &'a str),
-    /// The policy of this id is deleted.
+    /// Deletes the policy of this id.
     DeletePolicy(&'a str),
-    /// An entity is put: its JSON, as bytes.
+    /// Puts an entity: its JSON, as bytes.
     PutEntity(&'a [u8]),
-    /// The entity of this uid is deleted.
+    /// Deletes the entity of this uid.
     DeleteEntity(&'a EntityUid),
-    /// The updates of a message are taken: a state or a delta of another site, as bytes.
+    /// Applies the updates of a message: a state or a delta of another site, as bytes.
     Take(&'a [u8]),
-    /// A request is decided: its JSON, as bytes.
+    /// Decides a request: its JSON, as bytes.
     Authorize(&'a [u8]),
-    /// The text and the stamp of the policy of this id are asked for.
+    /// Asks for the text and the stamp of the policy of this id.
     GetPolicy(&'a str),
-    /// The state is asked for, as a message to other sites.
+    /// Asks for the state, as a message to other sites.
     State,
-    /// The summary is asked for, as a message to other sites.
+    /// Asks for the summary, as a message to other sites.
     Summary,
-    /// What is news to another site is asked for: that site's summary, as bytes.
+    /// Asks for a delta against another site's summary, as bytes.
     Delta(&'a [u8]),
 }

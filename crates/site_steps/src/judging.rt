@@ -1,4 +1,4 @@
-//! What is handed in, judged under the schema alone.
+//! Checks of inputs under the schema alone.
 ghost use Rattle.std.specs.Prelude.{◌≡◌, ◌≢◌, ◌↔◌, ℕ, List, IsTrue, IfOk, IfErr, Some, Ok, Err, string_bytes};
 ghost use Rattle.serde_json.specs.View.{view};
 ghost use Rattle.plain.specs.Words.{IsPath};
@@ -34,7 +34,7 @@ fn is_id(id: &str) -> bool
     1 <= id.len() && id.len() <= MOST_ID_BYTES
 }
 
-/// Returns the policy that a text is, whether it passes or not.
+/// Parses a policy, whether it passes validation or not.
 fn policy_of(alloc: Global, text: &str) -> Result<Policy, SiteFault>
     ensures read { IfOk result (IsPolicyText text.now) }
     ensures refused { IfErr result (λ f. (s : StatedSchema) (id : List ℕ) → IsId id
@@ -46,7 +46,7 @@ fn policy_of(alloc: Global, text: &str) -> Result<Policy, SiteFault>
     }
 }
 
-/// Returns whether a policy that passes is impossible.
+/// Validates a policy; returns whether it is impossible.
 fn is_impossible(alloc: Global, schema: &Schema, policy: &Policy) -> Result<bool, SiteFault>
     ensures passes { IfOk result (λ yes. Passes (schema_view schema.now) policy.now
         × (IsTrue yes ↔ IsImpossible (schema_view schema.now) policy.now)) }
@@ -59,7 +59,7 @@ fn is_impossible(alloc: Global, schema: &Schema, policy: &Policy) -> Result<bool
     }
 }
 
-/// A policy that may be put: its id, what its text was read as beside the text, and whether it is impossible.
+/// A policy that may be put: its id, its text with its parsed form, and whether it is impossible.
 #[derive(Drop)]
 pub(crate) struct CheckedPolicy<P> {
     pub(crate) id: String,
@@ -67,7 +67,7 @@ pub(crate) struct CheckedPolicy<P> {
     pub(crate) impossible: bool,
 }
 
-/// Returns what was read, beside its id, its text and its verdict.
+/// Joins a parsed policy with its id, its text and its verdict.
 fn with_verdict<P: Drop>(
     read: P,
     verdict: Result<bool, SiteFault>,
@@ -89,15 +89,14 @@ fn with_verdict<P: Drop>(
     })
 }
 
-/// Returns the text of a put: the one that was handed in.
-fn handed_in(alloc: Global, text: &str) -> Result<Text, NoMemory>
+/// Returns a copy of a text.
+fn copy_text(alloc: Global, text: &str) -> Result<Text, NoMemory>
     ensures { IfOk result (λ t. t ≡ text.now) }
 {
     Text::from_str(alloc, text)
 }
 
-/// Returns the policy that may be put under an id, beside its text, and whether it is impossible. The id is judged
-/// first, then the text, then the policy.
+/// Checks a policy that is to be put: first the id, then the text, then the policy.
 pub(crate) fn judged_policy(
     alloc: Global,
     schema: &Schema,
@@ -117,7 +116,7 @@ pub(crate) fn judged_policy(
         Ok(policy) => {
             let verdict = is_impossible(alloc, schema, &policy);
             let id = String::from_str(alloc, id);
-            let text = handed_in(alloc, text);
+            let text = copy_text(alloc, text);
             with_verdict(policy, verdict, id, text)
         }
         Err(fault) => Err(fault),
@@ -141,7 +140,7 @@ fn entity_of(alloc: Global, schema: &Schema, json: &Value) -> Result<Entity, Sit
     }
 }
 
-/// Returns the one text of an entity that some JSON states: it is read as this entity again.
+/// Returns the canonical text of an entity that some JSON states; it is read as this entity again.
 fn text_of(alloc: Global, schema: &Schema, entity: &Entity) -> Result<Text, NoMemory>
     requires { IsStated (schema_view schema.now) entity.now }
     ensures text { IfOk result (λ t. t ≡ canonical_text entity.now) }
@@ -157,7 +156,7 @@ fn text_of(alloc: Global, schema: &Schema, entity: &Entity) -> Result<Text, NoMe
     }
 }
 
-/// Returns what was read, beside its name and its text.
+/// Joins a parsed value with its name and its text.
 fn with_name_and_text<N: Drop, P: Drop>(
     read: P,
     name: Result<N, NoMemory>,
@@ -171,7 +170,7 @@ fn with_name_and_text<N: Drop, P: Drop>(
     Ok((name, ReadText { text, read }))
 }
 
-/// Returns the entity that JSON states, beside its one text, and its uid.
+/// Returns the entity that JSON states, with its canonical text, and its uid.
 pub(crate) fn stated_entity(
     alloc: Global,
     schema: &Schema,

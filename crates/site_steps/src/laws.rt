@@ -1,4 +1,4 @@
-//! Laws of runs, each the contract of a function that does nothing.
+//! Theorems about runs; their functions do nothing.
 ghost use Rattle.std.specs.Prelude.{◌≡◌, ◌↔◌, ℕ, List, Contains};
 ghost use Rattle.values.specs.declared.request.Request.{Request};
 ghost use Rattle.site_store.specs.authoriser.declared.answer.Answer.{Answer};
@@ -6,7 +6,7 @@ ghost use Rattle.site_store.specs.schema.SchemaEntries.{SchemaEntries as SchemaK
 ghost use Rattle.site_store.specs.schema.Schemas.{StatedSchema, IsSchemaOf};
 ghost use Rattle.site_store.specs.schema.Views.{schema_view};
 ghost use Rattle.site_store.specs.stamped_store.Store.{Store, Update};
-ghost use Rattle.site_store.specs.site_meaning.Said.{IsAnswerOver};
+ghost use Rattle.site_store.specs.site_meaning.StoreMeaning.{IsAnswerOver};
 ghost use Rattle.site_soundness.specs.message_format.Messages.{state_text};
 ghost use Rattle.site_steps.specs.Admitted.{IsPolicyUnder, IsEntityUnder};
 ghost use Rattle.site_steps.specs.Outcomes.{InputsHaveAnOutcome, InputsHaveOneOutcome};
@@ -14,7 +14,7 @@ ghost use Rattle.site_steps.specs.Right.{RunsGoRight};
 ghost use Rattle.site_steps.specs.Runs.{HoldsAfter};
 
 use site_soundness::{
-    SchemaTexts, messages_have_one_outcome, policies_have_one_outcome, stored_answers_go_right,
+    SchemaTexts, messages_have_one_outcome, policies_have_one_outcome, stored_answers_are_sound,
     stored_texts_have_one_reading,
 };
 use site_store::{
@@ -23,9 +23,9 @@ use site_store::{
     updates_have_one_store,
 };
 
-/// Sites of one schema that had and took equal sets of updates hold equal stores, whatever their names, and in
-/// whatever order, as often and in whatever groups the updates came; so they write equal states, and answer a request
-/// equally.
+/// Proves convergence: sites of one schema that had and applied equal sets of updates hold equal stores, whatever
+/// their names, and in whatever order, as often and in whatever groups the updates came. So they write equal states,
+/// and give equal answers. No-op.
 pub fn equal_updates_leave_equal_stores()
     ensures stores { (schema : StatedSchema) (us vs : List Update) (s t : Store) → HoldsAfter schema us s
         → HoldsAfter schema vs t → ((u : Update) → (Contains us u ↔ Contains vs u)) → s ≡ t }
@@ -46,10 +46,11 @@ pub fn equal_updates_leave_equal_stores()
     requests_have_one_answer::<SchemaTexts<'static>>();
 }
 
-/// Under each schema that bytes state and a site keeps, each input to a site has exactly one outcome wherever memory
-/// suffices, over any store that a site of the schema may hold: one reply and one store behind it. So nothing is
-/// refused but for a cause that is told, and nothing is told for two causes: a command that is valid is refused for
-/// an absent name, a cycle or a full clock alone, a message of valid updates never.
+/// Proves that each input of a site has exactly one outcome if there is memory: one reply and one store.
+///
+/// This holds under each schema that bytes state and a site has, over any store that a site of the schema may hold.
+/// So each rejection has the cause that its error names, and no input has two errors: a valid command is rejected for
+/// an absent name, a cycle or a full clock alone, a message of valid updates never. No-op.
 pub fn inputs_have_one_outcome()
     ensures some { (bytes : List ℕ) (schema : SchemaKept) → IsSchemaOf bytes (schema_view schema)
         → InputsHaveAnOutcome (schema_view schema) }
@@ -69,11 +70,12 @@ pub fn inputs_have_one_outcome()
     paths_are_decided();
 }
 
-/// No reply of a run tells of an error of type, of attribute or of an extension function: in an answer a policy errs
-/// since an entity is not stored, or since a number leaves its bounds. What is replied to requests of HTTP is of such
-/// runs, each of one step (`http_service::served_answers_go_right`).
-pub fn runs_go_right()
+/// Proves that no reply of a run has an error of type, of an attribute or of an extension function: each error in an
+/// answer is `EntityDoesNotExist` or `ArithBoundsError`.
+///
+/// Replies to HTTP requests are of such runs, each of one step (`http_service::served_answers_are_sound`). No-op.
+pub fn runs_are_sound()
     ensures { RunsGoRight }
 {
-    stored_answers_go_right();
+    stored_answers_are_sound();
 }

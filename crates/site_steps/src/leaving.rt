@@ -1,4 +1,4 @@
-//! What a run leaves, as a law: the contract of a function that does nothing.
+//! A theorem about runs; its function does nothing.
 ghost use Rattle.std.specs.Prelude.{◌≡◌, ◌++◌, ℕ, List};
 ghost use Rattle.site_store.specs.schema.Schemas.{StatedSchema};
 ghost use Rattle.site_store.specs.stamped_store.Store.{Store, store_of, updates};
@@ -8,7 +8,8 @@ ghost use Rattle.site_steps.specs.Runs.{Run, took};
 
 use site_store::updates_have_one_store;
 
-/// A run leaves the store of the updates that were there and of those that it took, whoever drove it.
+/// Proves that a run leaves the store of the updates that were there and of those that it applied, however the inputs
+/// came. No-op.
 pub fn runs_leave_what_they_took()
     ensures { (schema : StatedSchema) (n : List ℕ) (s : Store) (inputs : List Input) (replies : List Reply) (t : Store)
         → Run schema n s inputs replies t → t ≡ store_of (updates s ++ took schema inputs replies) }

@@ -1,11 +1,11 @@
-//! A site: a store of stamped texts under one schema, changed by its own commands and by messages, and asked; and runs
-//! of a site: what comes to it, what it answers, and what its store is after all of it.
+//! A site: a store of stamped texts under one schema, its commands, messages and queries; and runs of a site.
 //!
-//! The store is the only owner of policies and entities. Answers come from what stands beside its texts, as these were
-//! read, by an index of the policies and the ancestors that it keeps; no contract speaks of these two. The store at the
-//! end of a run is told without the steps between: it is that of the updates that the site had and of those that it
-//! took. So sites of one schema that took equal sets of updates hold equal stores, in whatever order, as often and in
-//! whatever groups the updates came.
+//! The store is the only owner of policies and entities. Answers come from the parsed forms of its texts, with an
+//! index of the policies and a cache of ancestors, which no contract mentions.
+//!
+//! The store at the end of a run is stated without the steps between: it is that of the updates that the site had and
+//! of those that it applied. So sites of one schema that applied equal sets of updates hold equal stores, in whatever
+//! order, as often and in whatever groups the updates came.
 #![tactic(auto)]
 
 mod answering;
@@ -26,7 +26,7 @@ pub use answering::{answer, run, take_bytes};
 pub use fault::SiteFault;
 pub use input::Input;
 pub use json_values::Scratch;
-pub use laws::{equal_updates_leave_equal_stores, inputs_have_one_outcome, runs_go_right};
+pub use laws::{equal_updates_leave_equal_stores, inputs_have_one_outcome, runs_are_sound};
 pub use leaving::runs_leave_what_they_took;
 pub use outcome::{Put, Taken};
 pub use reply::{Found, Reply};

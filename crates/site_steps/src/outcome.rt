@@ -1,21 +1,21 @@
-//! What becomes of commands and messages.
+//! Results of commands and messages.
 
 use site_store::Stamp;
 
-/// A policy that was put.
+/// The result of putting a policy.
 #[derive(Clone, Copy)]
 pub struct Put {
-    /// The stamp that it was given.
+    /// The stamp of the put.
     pub stamp: Stamp,
-    /// Whether it is False in each environment of the schema, so that no request that conforms satisfies it.
+    /// Whether the policy is False in each environment of the schema, so that no conforming request satisfies it.
     pub impossible: bool,
 }
 
-/// What became of the updates of a message.
+/// The result of applying the updates of a message.
 #[derive(Clone, Copy)]
 pub enum Taken {
-    /// All were taken: so many.
+    /// All updates were applied; holds their number.
     All(usize),
-    /// Memory was refused: exactly so many were taken, the first ones.
+    /// An allocation failed; exactly this many updates were applied, the first ones.
     Short(usize),
 }

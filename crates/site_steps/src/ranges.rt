@@ -1,4 +1,4 @@
-//! That the names and the stamps of what a site keeps are those that messages may have.
+//! The ranges of the names and stamps in a site's store.
 ghost use Rattle.std.specs.Prelude.{◌≡◌, ◌≤◌, ◌<◌, ◌++◌, ◌∷◌, [], ℕ, List, IsSome};
 ghost use Rattle.values.specs.declared.name.Name.{Name};
 ghost use Rattle.site_store.specs.stamped_store.Contents.{text_under};
@@ -11,9 +11,9 @@ ghost use Rattle.site_soundness.specs.message_format.Updates.{AreInRange, stampe
 
 use site_store::{COUNT_MAX, deltas_are_joined, stamps_are_issued, updates_have_one_store};
 
-/// Proves that names and stamps stay in their ranges: those of the empty store, and of a store that an update is joined
-/// into whose own are in range; so are those of what is sent of such a store. Its greatest count is at most 10^18, a
-/// name that has a text is in range, and so is a stamp that is issued. Does nothing.
+/// Proves that names and stamps stay in their ranges: those of the empty store, and of a store that an update in
+/// range is joined into; so are those of a delta or a summary of such a store. Its greatest count is at most 10^18, a
+/// name that has a text is in range, and so is a stamp that is issued. No-op.
 pub(crate) fn ranges_stay()
     ensures empty { AreInRange (updates (store_of [])) }
     ensures joined { (s t : Store) (u : Update) → AreInRange (updates s) → IsStamped (stamped u)

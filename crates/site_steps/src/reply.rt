@@ -1,4 +1,4 @@
-//! What a site answers.
+//! The replies of a site.
 
 use crate::fault::SiteFault;
 use crate::outcome::{Put, Taken};
@@ -8,25 +8,25 @@ use site_store::{Answer, Stamp};
 /// A policy that was found.
 #[derive(Drop)]
 pub struct Found {
-    /// Its text.
+    /// The policy's text.
     pub text: Text,
-    /// The stamp that it was given.
+    /// The stamp of its put.
     pub stamp: Stamp,
 }
 
-/// What a site answers to an input.
+/// The reply of a site to an input.
 #[derive(Drop)]
 pub enum Reply {
-    /// To a policy that is put.
+    /// The reply to a put of a policy.
     Put(Result<Put, SiteFault>),
-    /// To an entity that is put, and to what is taken away: the stamp that it was given.
+    /// The reply to a put of an entity, or to a deletion: its stamp.
     Stamped(Result<Stamp, SiteFault>),
-    /// To a message.
+    /// The reply to a message.
     Taken(Result<Taken, SiteFault>),
-    /// To a request.
+    /// The reply to a request.
     Answered(Result<Answer, SiteFault>),
-    /// To the question for a policy; None where its id has no text.
+    /// The reply to a query for a policy; `None` if its id has no text.
     Found(Result<Option<Found>, SiteFault>),
-    /// To the questions for state, summary and delta: the bytes of a message.
+    /// The reply to a query for the state, the summary or a delta: the bytes of a message.
     Written(Result<Items<u8>, SiteFault>),
 }

@@ -1,4 +1,4 @@
-//! A site, what is asked of it, and what it tells other sites.
+//! A site of the replicated store: its queries, and its messages to other sites.
 ghost use Rattle.std.specs.Prelude.{◌≡◌, [], IfOk, option_map, Some, Ok};
 ghost use Rattle.serde_json.specs.View.{view};
 ghost use Rattle.site_store.specs.schema.Views.{schema_view, IsStated};
@@ -8,8 +8,8 @@ ghost use Rattle.site_store.specs.stamped_store.Stamping.{has_stamps_of};
 ghost use Rattle.site_store.specs.stamped_store.Store.{store_of, updates};
 ghost use Rattle.site_soundness.specs.message_format.Summaries.{summary_text, summary_stated};
 ghost use Rattle.site_soundness.specs.message_format.Messages.{state_text, delta_text, updates_stated};
-ghost use Rattle.site_soundness.specs.Answers.{ErrsHarmlessly};
-ghost use Rattle.site_steps.specs.Seen.{schema_of, store_in, MayBeHeld};
+ghost use Rattle.site_soundness.specs.Answers.{HasPermittedErrors};
+ghost use Rattle.site_steps.specs.SiteViews.{schema_of, store_in, IsValidStore};
 ghost use Rattle.site_steps.specs.Steps.{Answers, policy_found, most_count};
 
 use crate::fault::SiteFault;
@@ -18,19 +18,19 @@ use crate::ranges::ranges_stay;
 use crate::under_schema::{answer_under, readings_stay};
 use plain::{NoMemory, Shared};
 use serde_json::Value;
-use site_soundness::{Summary, stored_answers_go_right, write_delta, write_state, write_summary};
-use site_store::{AcceleratedStore, Answer, COUNT_MAX, Schema, SiteName, Stamp};
+use site_soundness::{Summary, stored_answers_are_sound, write_delta, write_state, write_summary};
+use site_store::{Answer, COUNT_MAX, IndexedStore, Schema, SiteName, Stamp};
 use std::alloc::Global;
 use std::marker::Model;
 
-/// A site: a schema, a name, and a store of stamped texts, each kept with what it was read as under the schema.
+/// A site: a schema, a name, and a store of stamped texts with their parsed forms.
 ///
-/// Contracts see these three, and speak of the plain store: at each name at most one stamped body.
+/// Contracts see these three, and state properties of the abstract store: at most one stamped body a name.
 #[derive(Drop)]
 pub struct Site {
     pub(crate) alloc: Global,
     pub(crate) name: SiteName,
-    pub(crate) store: AcceleratedStore,
+    pub(crate) store: IndexedStore,
 }
 
 impl Model for Site {
@@ -39,9 +39,9 @@ impl Model for Site {
     ghost use Rattle.values.specs.ValueCode.{value_code};
     ghost use Rattle.site_store.specs.grammar_core.contracts.expr.Expr as expr;
     ghost use Rattle.site_store.specs.schema.Views.{schema_view};
-    ghost use Rattle.site_steps.specs.Seen.{Seen, IsSite};
+    ghost use Rattle.site_steps.specs.SiteViews.{SiteView, IsSite};
 
-    ghost Value = { Seen };
+    ghost Value = { SiteView };
 
     ghost coded = { Prim.hlevel (codes, cedar.the_row.coded, value_code, expr.the_row.coded) };
 
@@ -51,8 +51,9 @@ impl Model for Site {
 }
 
 impl Site {
-    /// Returns a site with nothing stored, under a schema, which many sites may share. Its name goes into its stamps;
-    /// [`is_site_name`] tells whether a text is one. Takes no memory.
+    /// Creates an empty site. Sites may share `schema`.
+    ///
+    /// `name` goes into the site's stamps and must satisfy [`is_site_name`]. Does not allocate.
     ///
     /// [`is_site_name`]: stamped_store::is_site_name
     pub fn new(alloc: Global, schema: Shared<Schema>, name: &str) -> Self
@@ -66,7 +67,7 @@ impl Site {
         Site {
             alloc,
             name: SiteName::new(name),
-            store: AcceleratedStore::new(alloc, schema),
+            store: IndexedStore::new(alloc, schema),
         }
     }
 
@@ -77,19 +78,21 @@ impl Site {
         self.store.schema()
     }
 
-    /// Whoever holds a site knows by this that bytes state its schema, that each name and stamp of its store is one
-    /// that messages may have, and that each text may be read under the schema. Does nothing.
+    /// Proves the site's invariant: some bytes state its schema, each name and stamp of its store is in its range,
+    /// and each text may be read under the schema. No-op.
     pub fn holds_valid_updates(&self)
         ensures stated { IsStated self.now.schema }
-        ensures held { MayBeHeld (schema_of self.now) (store_in self.now) }
+        ensures held { IsValidStore (schema_of self.now) (store_in self.now) }
         ensures most { most_count ≡ COUNT_MAX }
     {
         self.store.schema().is_stated();
         let _ = self.store.store().policies();
     }
 
-    /// Returns the text and the stamp of the policy of this id; None where it has no text, because it was never put or
-    /// was deleted. In logarithmic time, and without memory.
+    /// Returns the text and the stamp of the policy of this id; `None` if it has no text: it was never put, or was
+    /// deleted.
+    ///
+    /// O(log n). Does not allocate.
     pub fn get_policy(&self, id: &str) -> Option<(&str, Stamp)>
         ensures { option_map (λ f. (f.0.now, f.1)) result ≡ policy_found (store_in self.now) id.now }
     {
@@ -102,16 +105,17 @@ impl Site {
         }
     }
 
-    /// Returns whether some update of the store, a deletion too, was stamped at the site of this name. In time in
-    /// proportion to the store, and without memory.
+    /// Returns whether some update of the store, a deletion too, was stamped at the site of this name.
+    ///
+    /// O(n). Does not allocate.
     pub fn has_stamps_of(&self, name: SiteName) -> bool
         ensures { result ≡ has_stamps_of name (store_in self.now) }
     {
         self.store.store().has_stamps_of(name)
     }
 
-    /// Returns the whole store as a message to other sites of the schema, who read it back as the store's updates.
-    /// Fails for memory alone.
+    /// Returns the state: the whole store as a message to other sites of the schema, which read it back as the
+    /// store's updates. The only error is `NoMemory`.
     pub fn state(&self) -> Result<Vec<u8>, NoMemory>
         ensures text { IfOk result (λ b. b.items ≡ state_text (schema_of self.now).label (store_in self.now)) }
         ensures reads_back { IfOk result
@@ -120,8 +124,8 @@ impl Site {
         write_state(self.alloc, self.store.schema().label(), self.store.store())
     }
 
-    /// Returns the names of the store with their stamps, as a message to other sites of the schema, who tell by it what
-    /// is news to this one. Fails for memory alone.
+    /// Returns the summary: the names of the store with their stamps, as a message to other sites of the schema. The
+    /// only error is `NoMemory`.
     pub fn summary(&self) -> Result<Vec<u8>, NoMemory>
         ensures text { IfOk result
             (λ b. b.items ≡ summary_text (schema_of self.now).label (summary_of (store_in self.now))) }
@@ -132,8 +136,8 @@ impl Site {
         write_summary(self.alloc, self.store.schema().label(), self.store.store())
     }
 
-    /// Returns the part of the store that is news to whoever has this summary, as a message, which is read back as that
-    /// part. Fails for memory alone.
+    /// Returns a delta: the entries whose names `since` lacks or has with a smaller stamp, as a message, which is
+    /// read back as those entries. The only error is `NoMemory`.
     pub fn delta(&self, since: &Summary) -> Result<Vec<u8>, NoMemory>
         ensures text { IfOk result
             (λ b. b.items ≡ delta_text (schema_of self.now).label (delta (store_in self.now) since.now)) }
@@ -150,18 +154,22 @@ impl Site {
     }
 
     /// Returns the answer to the request that JSON states, over what is stored: the policies and entities that the
-    /// texts of the store are read as, and the actions of the schema. No policy errs in it for a type, an attribute or
-    /// an extension function.
+    /// texts of the store are parsed as, and the actions of the schema. No policy in it has an error of type, of an
+    /// attribute or of an extension function.
     ///
-    /// Refused where the JSON states no request under the schema (63, with the refusal's own number inside). Tries the
-    /// policies whose scope names no entity, or one that the request finds, and looks up who is above whom. Where the
-    /// index does not stand, it tries every policy; where the ancestors do not, it searches the hierarchy for cycles:
-    /// linear in the store. Changes nothing.
+    /// Evaluates the policies whose scope names no entity, or one that the request finds, and looks up ancestors in
+    /// the cache. If the index is absent, every policy is evaluated; if the cache is, the hierarchy is searched for
+    /// cycles: linear in the store.
+    ///
+    /// # Errors
+    ///
+    /// - `Request` (63, with the code of the inner error): the JSON does not state a request under the schema.
+    /// - `NoMemory` (1): an allocation failed; possible at any point.
     pub fn authorize(&self, json: &Value) -> Result<Answer, SiteFault>
         ensures answers { Answers (schema_of self.now) (store_in self.now) (Some (view json.now)) result }
-        ensures right { IfOk result ErrsHarmlessly }
+        ensures right { IfOk result HasPermittedErrors }
     {
-        stored_answers_go_right();
+        stored_answers_are_sound();
         let schema = self.store.schema();
         schema.is_stated();
         let request = stated_request(self.alloc, schema, json)?;
@@ -170,26 +178,26 @@ impl Site {
         Ok(answered?)
     }
 
-    /// Makes what is kept beside the store where it does not stand, if memory suffices, as each put, deletion or
-    /// message does: for a site that is asked before anything was put into it. No entry changes.
+    /// Rebuilds the caches that are absent, if there is memory, as each put, deletion or message does. Intended for a
+    /// site that is queried before anything was put into it. No entry changes.
     pub fn rebuild(&mut self)
         ensures { self.new ≡ self.old }
     {
         self.store.rebuild();
     }
 
-    /// Returns whether the kept ancestors stand, and the index of policies; for tests alone.
+    /// Returns whether the ancestor cache and the policy index are present; for tests alone.
     pub fn standing(&self) -> (bool, bool) {
         self.store.standing()
     }
 
-    /// Returns how many policies the last answer tried; for tests alone.
+    /// Returns how many policies the last answer evaluated; for tests alone.
     pub fn tried(&self) -> usize {
         self.store.tried()
     }
 
-    /// Drops what is kept beside the store, as where memory is refused for it, so that the next answers search and try
-    /// everything; for tests alone.
+    /// Drops the caches, as a failed allocation does, so that the next answers search and evaluate everything; for
+    /// tests alone.
     pub fn drop_kept(&mut self)
         ensures { self.new ≡ self.old }
     {

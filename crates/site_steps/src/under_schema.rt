@@ -1,4 +1,4 @@
-//! What lower crates promise for whatever texts may be read as, said of the texts of one schema.
+//! Contracts of lower crates for any parser of texts, instantiated at the texts of one schema.
 ghost use Rattle.std.specs.Prelude.{◌≡◌, [], true, false, IfOk, String, string_bytes};
 ghost use Rattle.std.specs.String.{string_cmp};
 ghost use Rattle.std.specs.declared.alloc.Global.{Global};
@@ -13,17 +13,16 @@ ghost use Rattle.site_store.specs.stamped_store.EntryOrder.{greater};
 ghost use Rattle.site_store.specs.stamped_store.Reading.{IsEntryRead};
 ghost use Rattle.site_store.specs.stamped_store.Store.{StoreEntries, kept, abstract_store};
 ghost use Rattle.site_store.specs.stamped_store.Stored.{taken};
-ghost use Rattle.site_store.specs.site_meaning.Said.{IsAnswerOver, MakesCycle, MakesNoCycle};
+ghost use Rattle.site_store.specs.site_meaning.StoreMeaning.{IsAnswerOver, MakesCycle, MakesNoCycle};
 ghost use Rattle.site_steps.specs.Admitted.{IsPolicyUnder, IsEntityUnder};
-ghost use Rattle.site_steps.specs.Seen.{IsHeld};
+ghost use Rattle.site_steps.specs.SiteViews.{IsHeld};
 
 use plain::NoMemory;
 use site_soundness::SchemaTexts;
-use site_store::{AcceleratedStore, Answer, Entity, Policy, readings_are_kept};
+use site_store::{Answer, Entity, IndexedStore, Policy, readings_are_kept};
 use values::Request;
 
-/// Proves that each text of a store is read as what stands beside it stays so, whatever is taken that was so read. Does
-/// nothing.
+/// Proves that each text of a store remains one that is read as its parsed form when such an entry is joined. No-op.
 pub(crate) fn readings_stay()
     ensures empty { (schema : SchemaKept) → IsHeld (schema_view schema) (kept [] []) }
     ensures policy { (schema : SchemaKept) (k : StoreEntries Policy Entity) (id : String Global) (entry : Entry Policy)
@@ -37,7 +36,7 @@ pub(crate) fn readings_stay()
 }
 
 /// Returns the answer to a request over a store whose texts were read under the schema.
-pub(crate) fn answer_under(store: &AcceleratedStore, request: &Request) -> Result<Answer, NoMemory>
+pub(crate) fn answer_under(store: &IndexedStore, request: &Request) -> Result<Answer, NoMemory>
     ensures { let schema = schema_view store.now.schema in IfOk result (λ a. IsHeld schema store.now.kept
         → IsAnswerOver (IsPolicyUnder schema) (IsEntityUnder schema) schema (abstract_store store.now.kept)
         request.now a) }
@@ -45,8 +44,8 @@ pub(crate) fn answer_under(store: &AcceleratedStore, request: &Request) -> Resul
     store.answer::<SchemaTexts<'static>>(request)
 }
 
-/// Returns whether an entity would be on a cycle once it is put into a store whose texts were read under the schema.
-pub(crate) fn would_cycle(store: &AcceleratedStore, entity: &Entity) -> Result<bool, NoMemory>
+/// Returns whether putting an entity into a store whose texts were read under the schema would make it cyclic.
+pub(crate) fn would_cycle(store: &IndexedStore, entity: &Entity) -> Result<bool, NoMemory>
     ensures yes { let schema = schema_view store.now.schema in IfOk result (λ yes. yes ≡ true
         → IsHeld schema store.now.kept
         → MakesCycle (IsEntityUnder schema) schema (abstract_store store.now.kept) entity.now) }

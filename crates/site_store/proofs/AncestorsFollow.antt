@@ -1,4 +1,4 @@
--- Where the entry of one entity changed, the edges of every other entity and of every action stay.
+-- If the entry of one entity changed, the edges of every other entity and of every action stay.
 use Rattle.std.proofs.Common.{◌≡◌, Option, Some, None, true, false, Equal, refl, ap, sym, subst}
 use Rattle.std.specs.Prelude.{◌≢◌, IfSome, option_and_then, option_map}
 use Rattle.std.specs.Ordering.{is_eq}
@@ -6,7 +6,7 @@ use Rattle.std.specs.Cmp.{tied_back}
 use Rattle.values.specs.declared.entity_uid.EntityUid.{EntityUid}
 use Rattle.values.specs.Names.{uid_cmp, uid_cmp-IsTotalOrder}
 use Rattle.ancestor_closure.specs.Lists.{AgreeBut}
-use Rattle.ancestor_closure.specs.declared.keeping.KeptAncestors.{KeptAncestors}
+use Rattle.ancestor_closure.specs.declared.keeping.AncestorCache.{AncestorCache}
 use Rattle.site_meaning.specs.schema.Schemas.{StatedSchema}
 use Rattle.site_meaning.specs.entity_data.declared.entity.Entity.{Entity}
 use Rattle.site_meaning.specs.entity_data.Entities.{kept_parents, action_or}
@@ -14,7 +14,7 @@ use Rattle.stamped_store.specs.declared.entry.Entry.{Entry}
 use Rattle.stamped_store.specs.EntryOrder.{greater}
 use Rattle.stamped_store.specs.Stored.{taken}
 use Rattle.stamped_store.proofs.Points.{others_kept}
-use Rattle.site_meaning.specs.Said.{data_of}
+use Rattle.site_meaning.specs.StoreMeaning.{data_of}
 use Rattle.site_meaning.specs.TextsRead.{entity_at, entity_read}
 use Rattle.site_store.specs.Kept.{EntityEntries, edges_under, AreAncestorsOf}
 use Rattle.site_store.specs.inner.Following.{AreAncestorsBut}
@@ -35,9 +35,9 @@ pub edges_stay : (schema : StatedSchema) (es : EntityEntries) (uid : EntityUid) 
 edges_stay schema es uid entry q apart =
     ap (λ o. kept_parents (action_or (schema.member_of q) (option_map data_of o))) (entities_stay es uid entry q apart)
 
--- so what was right is right but at the one entity
+-- so a valid cache is stale at most at the one entity
 pub right_elsewhere : (schema : StatedSchema) (es es' : EntityEntries) (uid : EntityUid) (entry : Entry Entity)
-    → es' ≡ taken uid_cmp greater es uid entry → (name : EntityUid) → name ≡ uid → (o : Option KeptAncestors)
+    → es' ≡ taken uid_cmp greater es uid entry → (name : EntityUid) → name ≡ uid → (o : Option AncestorCache)
     → IfSome o (AreAncestorsOf schema es) → IfSome o (AreAncestorsBut name schema es')
 right_elsewhere schema es es' uid entry took name is None h = tt
 right_elsewhere schema es es' uid entry took name is (Some held) h =

@@ -1,4 +1,4 @@
--- An index that was right stays right.
+-- A valid index stays valid.
 use Rattle.std.proofs.Common.{◌≡◌, ◌∙◌, refl, sym, ap, subst, Bool, true, false, List, [], ◌∷◌, ◌++◌, map, Option, Some}
 use Rattle.std.proofs.Common.{None}
 use Rattle.std.specs.Prelude.{ℕ, cond, option_and_then, string_bytes, IfSome}
@@ -97,7 +97,7 @@ keys_append : (ys : PolicyEntries) (e : String Global × Entry Policy) (rest : P
 keys_append [] e rest = refl
 keys_append (y ∷ ys) e rest = ap (λ l. y.0 ∷ l) (keys_append ys e rest)
 
--- what stands before a key is not at it
+-- an item of a smaller key is not found at the key
 none_before : (ys : PolicyEntries) (e : String Global × Entry Policy) (rest : PolicyEntries)
     → IsStrictlySortedBy string_cmp (keys_of ys ++ e.0 ∷ keys_of rest) → value_at_text ys (string_bytes e.0) ≡ None
 unfolding IsStrictlySortedBy

@@ -1,4 +1,4 @@
--- What is stored stays exactly where the other entry is at most that.
+-- A stored entry stays if and only if the other entry is at most that.
 use Rattle.std.proofs.Common.{◌≡◌, ◌∙◌, Option, Some, None, true, false, refl, ap, sym, subst}
 use Rattle.std.specs.Prelude.{if◌then◌else◌}
 use Rattle.std.specs.Ordering.{is_le}

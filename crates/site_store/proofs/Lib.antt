@@ -10,5 +10,5 @@ pub mod AncestorsFollow
 mod Standing
 mod StaysLemmas
 mod Tops
--- crates below, passed on to those above
+-- Lemmas of lower crates, re-exported.
 pub use Rattle.stamped_store.proofs as of_stamped_store

@@ -1,4 +1,4 @@
--- The policies of a store are those under their ids.
+-- The parsed policies of a store are those under their ids.
 use Rattle.std.proofs.Common.{◌≡◌, ◌∙◌, refl, sym, ap, subst, true, false, List, [], ◌∷◌, ◌++◌, map, Option, Some, None}
 use Rattle.std.proofs.Common.{inl, inr}
 use Rattle.std.specs.Prelude.{ℕ, cond, Contains, ◌↔◌, ◌⊎◌, option_map, option_and_then, string_bytes, Result, Ok, Err}
@@ -57,7 +57,7 @@ same_read : (id : List ℕ) (b : Option (ReadText Policy)) → policy_read id b 
 same_read id None = refl
 same_read id (Some t) = refl
 
--- the policies read, the first of them by what stands in its entry
+-- the parsed policies, the first of them by its entry
 as_found : (e : String Global × Entry Policy) (es : PolicyEntries)
     → policies_read (e ∷ es) ≡ found_at (string_bytes e.0) (policy_in e.1) ++ policies_read es
 as_found e es = ap (λ l. l ++ policies_read es) (same_read (string_bytes e.0) e.1.body)
@@ -117,7 +117,7 @@ step_from e es p rest h =
       | false ↦ λ apart f. rest_in (string_bytes e.0) (policy_in e.1) (policies_read es) p (rest f)
     ] refl h)
 
--- where the keys ascend, the policies of the entries are exactly those under their ids
+-- if the keys ascend, the policies of the entries are exactly those under their ids
 policies_are_read : (es : PolicyEntries) → IsStrictlySortedBy string_cmp (keys_of es) → (p : NamedPolicy)
     → Contains (policies_read es) p ↔ (policy_at es p.id ≡ Some p.policy)
 policies_are_read [] sorted p = ((λ h. Contains-none p h), (λ h. absurd (cc (h))))
@@ -154,7 +154,7 @@ ids_are (x ∷ ps) = ap (λ r. x.0.now ∷ r) (ids_are ps)
 they_ascend : (ps : List Lent) → IsStrictlySortedBy text_cmp (ids (lent ps)) → Ascend (named ps)
 they_ascend ps h = subst (λ l. IsStrictlySortedBy text_cmp l) (ids_are ps) h
 
--- what an index offers are candidates
+-- the candidates of an index suffice
 candidates_are : (es : PolicyEntries) (kept : Kept) (parents : Parents) (q : Request) (ps : List Lent)
     → IsStrictlySortedBy string_cmp (keys_of es) → AreIndexed es kept
     → ((o : Offer) → Contains (lent ps) o ↔ IsOffered kept parents q o)

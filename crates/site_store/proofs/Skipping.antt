@@ -1,5 +1,5 @@
--- A list of what has ids, ascending, and another with some of them, ascending too: the second is the first without those
--- whose ids it has not.
+-- Of two ascending lists of items with ids, one with some of the items of the other: the former is the latter without
+-- the ids that it lacks.
 use Rattle.std.proofs.Common.{◌≡◌, ◌∙◌, refl, sym, ap, subst, Bool, true, false, List, [], ◌∷◌, map, inl, inr, ◌||◌}
 use Rattle.std.specs.Prelude.{ℕ, cond, ◌↔◌, Contains}
 use Rattle.std.specs.List.{list_any, filter}
@@ -58,14 +58,14 @@ module _ {P : Type 0} (id : P → List ℕ) where
   of_id : (qs : List P) (p : P) → has_id qs p ≡ true → (q : P) × Contains qs q × (id q ≡ id p)
   of_id qs p h = at_id qs (id p) (Contains-from_any (tells_apart text_cmp-IsAntisymmetric) (id p) (map id qs) h)
 
-  -- none of the rest is found by what all lie above
+  -- if no id of ps is in qs, the filter leaves nothing
   none_kept : (ps : List P) (qs : List P) → ((p : P) → Contains ps p → has_id qs p ≡ false) → filter (has_id qs) ps ≡ []
   none_kept [] qs h = refl
   none_kept (p ∷ ps) qs h =
       ap (λ b. cond b (p ∷ filter (has_id qs) ps) (filter (has_id qs) ps)) (h p (Contains-here p ps))
       ∙ none_kept ps qs (λ r t. h r (Contains-there p ps r t))
 
-  -- one that stands before all of the rest changes nothing for these
+  -- an item of qs that is less than all of ps changes nothing for these
   same_kept : (ps : List P) (q : P) (qs : List P) → ((p : P) → Contains ps p → text_cmp (id q) (id p) ≡ Less)
       → filter (has_id (q ∷ qs)) ps ≡ filter (has_id qs) ps
   same_kept [] q qs h = refl
@@ -81,7 +81,7 @@ module _ {P : Type 0} (id : P → List ℕ) where
 
   module _ (p : P) (ps : List P) (q : P) (qs : List P) (h : Ascend (p ∷ ps)) (k : Ascend (q ∷ qs))
       (among : (r : P) → Contains (q ∷ qs) r → Contains (p ∷ ps) r) where
-    -- the first of both are one
+    -- the first items of both are the same
     both : ((r : P) → Contains qs r → Contains ps r) → p ≡ q → filter (has_id qs) ps ≡ qs
         → filter (has_id (q ∷ qs)) (p ∷ ps) ≡ q ∷ qs
     both within e rest =
@@ -108,7 +108,7 @@ module _ {P : Type 0} (id : P → List ℕ) where
     not_there less false e = refl
     not_there less true e = let (r, u, same) = of_id (q ∷ qs) p e in absurd (before less r u (sym same))
 
-    -- the first of ps is none of these
+    -- the first item of ps is not in qs
     later : text_cmp (id p) (id q) ≡ Less → filter (has_id (q ∷ qs)) ps ≡ q ∷ qs
         → filter (has_id (q ∷ qs)) (p ∷ ps) ≡ q ∷ qs
     later less rest =
@@ -133,7 +133,7 @@ module _ {P : Type 0} (id : P → List ℕ) where
         later p ps q qs h k among less (kept_are ps (q ∷ qs) (rest_ascends p ps h) k (within_ps p ps q qs h k among less))
   ]
 
-  -- what does not change where what is not true is left out does not change where only these are taken
+  -- what does not depend on the items that are not true is the same over ps and qs
   pub skipping : (Says : List P → Type 0) (IsTrueOf : P → Type 0)
       → ((ps : List P) (kept : P → Bool) → ((p : P) → Contains ps p → kept p ≡ false → IsTrueOf p → ⊥) → Says ps ↔ Says (filter kept ps))
       → (ps qs : List P) → Ascend ps → Ascend qs → ((q : P) → Contains qs q → Contains ps q)

@@ -1,10 +1,10 @@
--- What stands beside a store after a change: one of policies leaves the entities, and one of entities the policies.
+-- The caches of a store after a change: one of policies leaves the entities, and one of entities the policies.
 use Rattle.std.proofs.Common.{◌≡◌, ap, sym, subst, IfOk}
 use Rattle.std.specs.Option.{IfSome}
 use Rattle.std.specs.Result.{result_ok}
 use Rattle.std.specs.Prelude.{Option, Result, Ok, Err, OnOk, OnErr}
 use Rattle.scope_index.specs.policy_grammar.declared.policy.Policy.{Policy}
-use Rattle.ancestor_closure.specs.declared.keeping.KeptAncestors.{KeptAncestors}
+use Rattle.ancestor_closure.specs.declared.keeping.AncestorCache.{AncestorCache}
 use Rattle.site_meaning.specs.schema.SchemaEntries.{SchemaEntries}
 use Rattle.site_meaning.specs.schema.Views.{schema_view}
 use Rattle.scope_index.specs.Keys.{Kept}
@@ -12,7 +12,7 @@ use Rattle.site_meaning.specs.entity_data.declared.entity.Entity.{Entity}
 use Rattle.stamped_store.specs.Store.{StoreEntries, kept}
 use Rattle.site_store.specs.Indexed.{PolicyEntries, AreIndexed}
 use Rattle.site_store.specs.Kept.{EntityEntries, AreAncestorsOf}
-use Rattle.site_store.specs.Seen.{AreBeside}
+use Rattle.site_store.specs.StoreViews.{AreBeside}
 
 abbrev pub Entries : Type 0
 Entries = StoreEntries Policy Entity
@@ -28,18 +28,18 @@ policies_stay (Ok t) new old es is none = ap (λ k. k.policies) is
 policies_stay (Err e) new old es none is = ap (λ k. k.policies) is
 
 module _ (schema lent : SchemaEntries) (is_lent : lent ≡ schema) where
-  -- what stands is said of the schema that is lent
-  pub as_lent : (k : Entries) (index : Option Kept) (ancestors : Option KeptAncestors)
+  -- the caches are those of the borrowed schema
+  pub as_lent : (k : Entries) (index : Option Kept) (ancestors : Option AncestorCache)
       → AreBeside (schema_view schema) k index ancestors → AreBeside (schema_view lent) k index ancestors
   as_lent k index ancestors h =
       subst (λ (x : SchemaEntries). AreBeside (schema_view x) k index ancestors) (sym is_lent) h
 
-  pub as_held : (k : Entries) (index : Option Kept) (ancestors : Option KeptAncestors)
+  pub as_held : (k : Entries) (index : Option Kept) (ancestors : Option AncestorCache)
       → AreBeside (schema_view lent) k index ancestors → AreBeside (schema_view schema) k index ancestors
   as_held k index ancestors h =
       subst (λ (x : SchemaEntries). AreBeside (schema_view x) k index ancestors) is_lent h
 
-  pub ancestors_as_lent : (es : EntityEntries) (ancestors : Option KeptAncestors)
+  pub ancestors_as_lent : (es : EntityEntries) (ancestors : Option AncestorCache)
       → IfSome ancestors (AreAncestorsOf (schema_view schema) es)
       → IfSome ancestors (AreAncestorsOf (schema_view lent) es)
   ancestors_as_lent es ancestors h =
@@ -49,7 +49,7 @@ module _ (schema lent : SchemaEntries) (is_lent : lent ≡ schema) where
   pub beside_entity : {T E : Type 0} (r : Result T E) (new old : Entries) (es : EntityEntries)
       → OnOk r (new ≡ kept old.policies es) → OnErr r (new ≡ old)
       → (index : Option Kept) → IfSome index (AreIndexed old.policies)
-      → (ancestors : Option KeptAncestors) → IfSome ancestors (AreAncestorsOf (schema_view lent) new.entities)
+      → (ancestors : Option AncestorCache) → IfSome ancestors (AreAncestorsOf (schema_view lent) new.entities)
       → AreBeside (schema_view schema) new index ancestors
   beside_entity r new old es ok err index index_is ancestors followed =
       record {
@@ -61,7 +61,7 @@ module _ (schema lent : SchemaEntries) (is_lent : lent ≡ schema) where
 pub beside_policy : {T E : Type 0} (schema : SchemaEntries) (r : Result T E) (new old : Entries) (ps : PolicyEntries)
     → OnOk r (new ≡ kept ps old.entities) → OnErr r (new ≡ old)
     → (index : Option Kept) → IfSome index (AreIndexed new.policies)
-    → (ancestors : Option KeptAncestors) → IfSome ancestors (AreAncestorsOf (schema_view schema) old.entities)
+    → (ancestors : Option AncestorCache) → IfSome ancestors (AreAncestorsOf (schema_view schema) old.entities)
     → AreBeside (schema_view schema) new index ancestors
 beside_policy schema r new old ps ok err index indexed ancestors are =
     record {
@@ -70,7 +70,7 @@ beside_policy schema r new old ps ok err index indexed ancestors are =
           (sym (entities_stay r new old ps ok err)) are;
     }
 
--- what was made, if memory sufficed
+-- a cache that was built, if there was memory
 pub if_made : {T E : Type 0} (P : T → Type 0) (r : Result T E) → IfOk r P → IfSome (result_ok r) P
 if_made P (Ok t) h = h
 if_made P (Err e) h = tt

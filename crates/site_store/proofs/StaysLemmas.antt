@@ -1,4 +1,4 @@
--- Where what is stored stays, the ancestors of a store stay right.
+-- If a stored entry stays, the ancestor cache of a store stays valid.
 use Rattle.std.proofs.Common.{◌≡◌, ◌∙◌, Option, Some, None, ap, sym, subst, inl, inr}
 use Rattle.std.specs.Prelude.{◌⊎◌, Result, Ok, Err, OnOk, OnErr, option_and_then}
 use Rattle.std.specs.Option.{IfSome}
@@ -6,15 +6,15 @@ use Rattle.values.specs.declared.entity_uid.EntityUid.{EntityUid}
 use Rattle.values.specs.Names.{uid_cmp, uid_cmp-IsTotalOrder}
 use Rattle.ancestor_closure.specs.ancestor_search.Hierarchy.{Parents}
 use Rattle.scope_index.specs.policy_grammar.declared.policy.Policy.{Policy}
-use Rattle.ancestor_closure.specs.declared.keeping.KeptAncestors.{KeptAncestors}
-use Rattle.ancestor_closure.specs.Kept.{AreKept}
+use Rattle.ancestor_closure.specs.declared.keeping.AncestorCache.{AncestorCache}
+use Rattle.ancestor_closure.specs.Kept.{IsCacheOf}
 use Rattle.site_meaning.specs.schema.Schemas.{StatedSchema}
 use Rattle.site_meaning.specs.entity_data.declared.entity.Entity.{Entity}
 use Rattle.stamped_store.specs.declared.entry.Entry.{Entry}
 use Rattle.stamped_store.specs.EntryOrder.{greater}
 use Rattle.stamped_store.specs.Store.{StoreEntries, kept}
 use Rattle.stamped_store.specs.Stored.{value_at, taken}
-use Rattle.site_meaning.specs.Said.{world_under}
+use Rattle.site_meaning.specs.StoreMeaning.{world_under}
 use Rattle.site_meaning.specs.TextsRead.{entity_at, entity_read}
 use Rattle.site_store.specs.Staying.{Stays}
 use Rattle.site_store.proofs.Unchanged.{finds_the_same}
@@ -40,9 +40,9 @@ edges_after schema (Err e) new old uid entry none is stays = ap (λ k. edges_und
 
 pub ancestors_stay : {T E : Type 0} (schema : StatedSchema) (r : Result T E) (new old : StoreEntries Policy Entity) (uid : EntityUid) (entry : Entry Entity)
     → OnOk r (new ≡ kept old.policies (taken uid_cmp greater old.entities uid entry)) → OnErr r (new ≡ old)
-    → (o : Option KeptAncestors) → (o ≡ None) ⊎ Stays (value_at uid_cmp old.entities uid) entry
+    → (o : Option AncestorCache) → (o ≡ None) ⊎ Stays (value_at uid_cmp old.entities uid) entry
     → IfSome o (AreAncestorsOf schema old.entities) → IfSome o (AreAncestorsOf schema new.entities)
 ancestors_stay schema r new old uid entry ok err None why h = tt
 ancestors_stay schema r new old uid entry ok err (Some held) (inl none) h = absurd (cc (none))
 ancestors_stay schema r new old uid entry ok err (Some held) (inr stays) h =
-    subst (λ (p : Parents). AreKept p held) (sym (edges_after schema r new old uid entry ok err stays)) h
+    subst (λ (p : Parents). IsCacheOf p held) (sym (edges_after schema r new old uid entry ok err stays)) h

@@ -1,4 +1,4 @@
--- A policy whose scope is not true is idle, so it may be left out.
+-- A policy whose scope is not true has no effect, so it may be left out.
 use Rattle.std.proofs.Common.{◌≡◌, ◌∙◌, sym, true, false}
 use Rattle.std.specs.Prelude.{Ok, Err}
 use Rattle.values.specs.declared.request.Request.{Request}

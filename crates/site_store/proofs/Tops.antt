@@ -1,4 +1,4 @@
--- Above what has no parents is nothing.
+-- An entity without parents has no ancestors.
 use Rattle.std.proofs.Common.{◌≡◌, List, [], ◌∷◌, subst, sym}
 use Rattle.std.specs.Prelude.{Contains}
 use Rattle.std.specs.List.Sorted.{IsStrictlySortedBy}

@@ -1,4 +1,4 @@
--- Where what is stored stays, the index of a store stays right.
+-- If a stored entry stays, the index of a store stays valid.
 use Rattle.std.proofs.Common.{◌≡◌, ◌∙◌, Option, Some, None, true, false, List, refl, ap, sym, subst, inl, inr}
 use Rattle.std.proofs.Common.{string_bytes}
 use Rattle.std.specs.Prelude.{◌⊎◌, ℕ, cond, Result, Ok, Err, OnOk, OnErr, option_and_then}

@@ -1,4 +1,4 @@
--- What the code sees of a store and a schema is the world that they say.
+-- The entity data that the code sees of a store and a schema is that of their meaning.
 use Rattle.std.proofs.Common.{◌≡◌, ◌∙◌, ap, subst, List, [], Some}
 use Rattle.std.specs.Prelude.{Option}
 use Rattle.std.specs.Option.{IfSome}
@@ -7,8 +7,8 @@ use Rattle.scope_index.specs.policy_grammar.declared.policy.Policy.{Policy}
 use Rattle.scope_index.specs.Keys.{Kept}
 use Rattle.ancestor_closure.specs.ancestor_search.Decided.{Decides, reaches}
 use Rattle.ancestor_closure.specs.ancestor_search.Hierarchy.{Parents}
-use Rattle.ancestor_closure.specs.declared.keeping.KeptAncestors.{KeptAncestors}
-use Rattle.ancestor_closure.specs.Kept.{AreKept}
+use Rattle.ancestor_closure.specs.declared.keeping.AncestorCache.{AncestorCache}
+use Rattle.ancestor_closure.specs.Kept.{IsCacheOf}
 use Rattle.site_meaning.specs.evaluator.Operators.{World, world_of}
 use Rattle.site_meaning.specs.schema.SchemaEntries.{SchemaEntries}
 use Rattle.site_meaning.specs.schema.Views.{schema_view}
@@ -18,17 +18,17 @@ use Rattle.site_meaning.specs.entity_data.Listing.{all_decided}
 use Rattle.site_meaning.specs.entity_hierarchy.Entities.{entities_under, actions_under, action_uids, actions_are_listed}
 use Rattle.stamped_store.specs.Store.{StoreEntries}
 use Rattle.site_meaning.specs.declared.stored_entities.StoredEntities.{StoredEntities}
-use Rattle.site_meaning.specs.Said.{data_in, world_under}
+use Rattle.site_meaning.specs.StoreMeaning.{data_in, world_under}
 use Rattle.site_meaning.specs.TextsRead.{entity_at, uids_read}
 use Rattle.site_meaning.specs.Listed.{entities_listed}
 use Rattle.site_store.specs.Kept.{edges_under, AreAncestorsOf}
-use Rattle.site_store.specs.Seen.{SeenStore, world_stored}
+use Rattle.site_store.specs.StoreViews.{StoreView, world_stored}
 use Rattle.site_store.specs.inner.Worlds.{IsStoredWorld}
 
 abbrev pub Seen : Type 0
 Seen = StoredEntities × SchemaEntries
 
--- the entities that the code asks about, and the edges among them
+-- the entities that the code looks up, and the edges among them
 abbrev pub asked : Seen → EntityMap
 asked w = entities_under w.1 (data_in (entity_at w.0.store.now.entities))
 
@@ -46,25 +46,25 @@ module _ (w : Seen) (s : StoredEntities) (schema : SchemaEntries) (k : StoreEntr
 
 -- ---- a store with what is kept beside it
 
-abbrev pub seen_store : SchemaEntries → StoreEntries Policy Entity → SeenStore
+abbrev pub seen_store : SchemaEntries → StoreEntries Policy Entity → StoreView
 seen_store schema k = record { schema = schema; kept = k }
 
 -- the uids of its entities and of the actions
-abbrev pub uids_stored : SeenStore → List EntityUid
+abbrev pub uids_stored : StoreView → List EntityUid
 uids_stored s = uids_with (action_uids s.schema) (uids_read s.kept.entities)
 
-pub stored_decides : (s : SeenStore) → Decides (world_stored s).parents (reaches (world_stored s).parents (uids_stored s))
+pub stored_decides : (s : StoreView) → Decides (world_stored s).parents (reaches (world_stored s).parents (uids_stored s))
 stored_decides s = all_decided (actions_under s.schema) (action_uids s.schema) (actions_are_listed s.schema)
     (data_in (entity_at s.kept.entities)) (uids_read s.kept.entities) (entities_listed s.kept.entities)
 
--- an action that states no group has no parents, whatever entities are kept
-pub top_has_none : (s : SeenStore) (u : EntityUid) → (schema_view s.schema).member_of u ≡ Some [] → (world_stored s).parents u ≡ []
+-- an action that states no group has no parents, whatever entities are stored
+pub top_has_none : (s : StoreView) (u : EntityUid) → (schema_view s.schema).member_of u ≡ Some [] → (world_stored s).parents u ≡ []
 top_has_none s u none =
     ap (λ (o : Option (List EntityUid)). kept_parents (action_or o (data_in (entity_at s.kept.entities) u))) none
 
-module _ {schema : SchemaEntries} {k : StoreEntries Policy Entity} {index : Option Kept} {ancestors : Option KeptAncestors} {w : Seen}
-    (is : IsStoredWorld schema k index ancestors w) (s : SeenStore) (view_is : seen_store schema k ≡ s) where
-  -- what is searched is the world of the store,
+module _ {schema : SchemaEntries} {k : StoreEntries Policy Entity} {index : Option Kept} {ancestors : Option AncestorCache} {w : Seen}
+    (is : IsStoredWorld schema k index ancestors w) (s : StoreView) (view_is : seen_store schema k ≡ s) where
+  -- what is searched is the entity data of the store,
   pub world_searched : world_seen w ≡ world_stored s
   world_searched =
       ap (λ (l : StoreEntries Policy Entity). world_under (schema_view w.1) (entity_at l.entities)) is.store_is
@@ -73,8 +73,8 @@ module _ {schema : SchemaEntries} {k : StoreEntries Policy Entity} {index : Opti
   pub edges_searched : edges_seen w ≡ (world_stored s).parents
   edges_searched = ap (λ (W : World). W.parents) world_searched
 
-  -- and what is kept are its ancestors
-  pub ancestors_kept : (held : KeptAncestors) → ancestors ≡ Some held → AreKept (world_stored s).parents held
+  -- and the cache has its ancestors
+  pub ancestors_kept : (held : AncestorCache) → ancestors ≡ Some held → IsCacheOf (world_stored s).parents held
   ancestors_kept held stand =
-      subst (λ (x : SeenStore). AreKept (world_stored x).parents held) view_is
-      (subst (λ (o : Option KeptAncestors). IfSome o (AreAncestorsOf (schema_view schema) k.entities)) stand is.beside.ancestors_are)
+      subst (λ (x : StoreView). IsCacheOf (world_stored x).parents held) view_is
+      (subst (λ (o : Option AncestorCache). IfSome o (AreAncestorsOf (schema_view schema) k.entities)) stand is.beside.ancestors_are)

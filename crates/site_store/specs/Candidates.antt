@@ -1,5 +1,6 @@
--- Policies that may be left out of an answer by their scopes.
--- Source: Cedar reference guide 4.0, "Authorization": a policy whose scope is false is neither satisfied nor erring.
+-- Defines the policies that suffice for an answer, by their scopes.
+-- Source: Cedar reference guide 4.0, "Authorization": a policy whose scope is false is neither satisfied nor
+-- erroring.
 use Rattle.std.specs.Prelude.{◌↔◌, List, map, Contains, Bool}
 use Rattle.values.specs.declared.entity_uid.EntityUid.{EntityUid}
 use Rattle.values.specs.declared.request.Request.{Request}
@@ -11,16 +12,17 @@ use Rattle.site_meaning.specs.authoriser.declared.answer.Answer.{Answer}
 use Rattle.site_meaning.specs.authoriser.Answers.{NamedPolicy, IsAnswer}
 use Rattle.site_meaning.specs.authoriser.Laws.{AreIdsAscending}
 
--- qs are some of the policies ps, and none is missing whose scope is true of the request
+-- `AreCandidates parents q ps qs` holds if `qs` are some of the policies `ps`, with each whose scope is true of the
+-- request `q`.
 pub record AreCandidates (parents : Parents) (q : Request) (ps qs : List NamedPolicy) : Type 0 where
   pub among : (p : NamedPolicy) → Contains qs p → Contains ps p
   pub all : (p : NamedPolicy) → Contains ps p → IsScopeTrue parents p.policy.scope q → Contains qs p
 
--- the ids of these policies ascend
+-- `Ascend ps` holds if the ids of the policies `ps` ascend.
 abbrev pub Ascend : List NamedPolicy → Type 0
 Ascend ps = AreIdsAscending (map (λ p. p.id) ps)
 
--- the answers over candidates are those over all, where the ids of both ascend
+-- The answers over candidates are those over all policies, if the ids of both ascend.
 abbrev pub CandidatesSuffice : Type 0
 CandidatesSuffice = (W : World) (above : EntityUid → EntityUid → Bool) → Decides W.parents above →
     (q : Request) (ps qs : List NamedPolicy) (a : Answer) → Ascend ps → Ascend qs → AreCandidates W.parents q ps qs

@@ -1,23 +1,23 @@
--- The ancestors that are kept beside a store, and when they are right.
+-- Defines when an ancestor cache is that of a store.
 use Rattle.std.specs.Prelude.{List}
 use Rattle.values.specs.declared.entity_uid.EntityUid.{EntityUid}
 use Rattle.ancestor_closure.specs.ancestor_search.Hierarchy.{Parents}
-use Rattle.ancestor_closure.specs.declared.keeping.KeptAncestors.{KeptAncestors}
-use Rattle.ancestor_closure.specs.Kept.{AreKept}
+use Rattle.ancestor_closure.specs.declared.keeping.AncestorCache.{AncestorCache}
+use Rattle.ancestor_closure.specs.Kept.{IsCacheOf}
 use Rattle.site_meaning.specs.schema.Schemas.{StatedSchema}
 use Rattle.site_meaning.specs.entity_data.declared.entity.Entity.{Entity}
 use Rattle.stamped_store.specs.declared.entry.Entry.{Entry}
-use Rattle.site_meaning.specs.Said.{world_under}
+use Rattle.site_meaning.specs.StoreMeaning.{world_under}
 use Rattle.site_meaning.specs.TextsRead.{entity_at}
 
--- the entries of entities, as a store has them
+-- An `EntityEntries` is the list of a store's entries of entities.
 abbrev pub EntityEntries : Type 0
 EntityEntries = List (EntityUid × Entry Entity)
 
--- the edges among the entities of these entries and the actions of the schema
+-- `edges_under schema entries` is the parent relation among the entities of `entries` and the actions of `schema`.
 abbrev pub edges_under : StatedSchema → EntityEntries → Parents
 edges_under schema entries = (world_under schema (entity_at entries)).parents
 
--- what is kept is of these edges
-abbrev pub AreAncestorsOf : StatedSchema → EntityEntries → KeptAncestors → Type 0
-AreAncestorsOf schema entries held = AreKept (edges_under schema entries) held
+-- `AreAncestorsOf schema entries held` holds if `held` is the ancestor cache of these edges.
+abbrev pub AreAncestorsOf : StatedSchema → EntityEntries → AncestorCache → Type 0
+AreAncestorsOf schema entries held = IsCacheOf (edges_under schema entries) held

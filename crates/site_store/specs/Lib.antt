@@ -3,8 +3,8 @@ pub mod Staying
 pub mod inner
 pub mod Candidates
 pub mod Kept
-pub mod Seen
--- crates below, passed on to those above
+pub mod StoreViews
+-- Specifications of lower crates, re-exported.
 pub use Rattle.scope_index.specs as scope_index
 pub use Rattle.scope_index.specs.grammar_core
 pub use Rattle.scope_index.specs.policy_grammar

@@ -1,4 +1,4 @@
-//! The ancestors that are kept beside a store: made anew, and following a change of an entity.
+//! The ancestor cache of a store: rebuilt, or updated incrementally after a change of an entity.
 ghost use Rattle.std.specs.Prelude.{◌≡◌, ◌⊎◌, ◌++◌, ◌∷◌, [], None, IsTrue, IfOk, IfErr, IfSome, OnOk, OnErr};
 ghost use Rattle.values.specs.Names.{uid_cmp};
 ghost use Rattle.site_meaning.specs.schema.Views.{schema_view};
@@ -9,39 +9,41 @@ ghost use Rattle.site_store.specs.Kept.{AreAncestorsOf};
 ghost use Rattle.site_store.specs.inner.Following.{AreAncestorsBut};
 ghost use Rattle.site_store.specs.Staying.{Stays};
 
-use crate::pace::Pace;
+use crate::pace::RebuildPolicy;
 use crate::staying::stays;
-use ancestor_closure::KeptAncestors;
+use ancestor_closure::AncestorCache;
 use plain::NoMemory;
 use scope_index::Policy;
 use site_meaning::{Entity, Schema, StoredEntities, world_under};
-use stamped_store::{Entry, PolicyStore};
+use stamped_store::{Entry, StampedStore};
 use std::alloc::Global;
 use values::EntityUid;
 
-/// Returns the ancestors of all entities of a store, made anew: one search for each entity and each action. Errors:
-/// `NoMemory` alone, also where there would be too many.
+/// Builds the ancestor cache of a store: one search for each entity and each action.
+///
+/// # Errors
+///
+/// `NoMemory` alone, also if there would be too many ancestors.
 pub(crate) fn ancestors_of(
     alloc: Global,
     schema: &Schema,
-    store: &PolicyStore<Policy, Entity>,
-    pace: &mut Pace,
-) -> Result<KeptAncestors, NoMemory>
+    store: &StampedStore<Policy, Entity>,
+    pace: &mut RebuildPolicy,
+) -> Result<AncestorCache, NoMemory>
     ensures { IfOk result (AreAncestorsOf (schema_view schema.now) store.now.entities) }
 {
     let entities = StoredEntities::of(store);
     let world = world_under(alloc, &entities, schema);
-    KeptAncestors::of_graph(alloc, &world, &mut pace.room)
+    AncestorCache::of_graph(alloc, &world, &mut pace.room)
 }
 
-/// Has what is kept follow a store after one entity changed. Where memory is refused, or there would be too many, it is
-/// right no more.
+/// Updates the cache after one entity changed. On `NoMemory`, also for too many ancestors, the cache is stale.
 fn follow_store(
     alloc: Global,
-    ancestors: &mut KeptAncestors,
+    ancestors: &mut AncestorCache,
     schema: &Schema,
-    store: &PolicyStore<Policy, Entity>,
-    pace: &mut Pace,
+    store: &StampedStore<Policy, Entity>,
+    pace: &mut RebuildPolicy,
     uid: &EntityUid,
 ) -> Result<(), NoMemory>
     requires { AreAncestorsBut uid.now (schema_view schema.now) store.now.entities ancestors.old }
@@ -52,17 +54,17 @@ fn follow_store(
     ancestors.follow(&world, uid, &mut pace.room)
 }
 
-/// Returns the ancestors of a store, where they were right before one entity changed; none where there were none, or
-/// memory is refused: a refused change leaves them right for the store before. They are let go, too, where following a
-/// message has come to more than making them anew behind it.
+/// Returns the cache updated after one entity changed; `None` if there was none, or an allocation failed.
+///
+/// The cache is also dropped once the updates for a message have cost more than a rebuild after it.
 fn followed(
     alloc: Global,
-    ancestors: Option<KeptAncestors>,
+    ancestors: Option<AncestorCache>,
     schema: &Schema,
-    store: &PolicyStore<Policy, Entity>,
-    pace: &mut Pace,
+    store: &StampedStore<Policy, Entity>,
+    pace: &mut RebuildPolicy,
     uid: &EntityUid,
-) -> Option<KeptAncestors>
+) -> Option<AncestorCache>
     requires { IfSome ancestors (AreAncestorsBut uid.now (schema_view schema.now) store.now.entities) }
     ensures { IfSome result (AreAncestorsOf (schema_view schema.now) store.now.entities) }
 {
@@ -74,10 +76,10 @@ fn followed(
     Some(ancestors)
 }
 
-/// Returns whether what is kept needs not follow once an entry was joined: none is, or what is stored stays.
+/// Returns whether the cache needs no update once an entry is joined: there is none, or the stored entry stays.
 fn needs_nothing(
-    store: &PolicyStore<Policy, Entity>,
-    ancestors: &Option<KeptAncestors>,
+    store: &StampedStore<Policy, Entity>,
+    ancestors: &Option<AncestorCache>,
     uid: &EntityUid,
     entry: &Entry<Entity>,
 ) -> bool
@@ -90,13 +92,13 @@ fn needs_nothing(
     stays(store.get_entity(uid), entry)
 }
 
-/// Joins an entry at an entity's uid, and has what is kept follow.
+/// Joins an entry at an entity's uid, and updates the cache.
 fn take_and_follow(
     alloc: Global,
     schema: &Schema,
-    store: &mut PolicyStore<Policy, Entity>,
-    ancestors: &mut Option<KeptAncestors>,
-    pace: &mut Pace,
+    store: &mut StampedStore<Policy, Entity>,
+    ancestors: &mut Option<AncestorCache>,
+    pace: &mut RebuildPolicy,
     uid: EntityUid,
     entry: Entry<Entity>,
 ) -> Result<(), (EntityUid, Entry<Entity>)>
@@ -121,14 +123,16 @@ fn take_and_follow(
     Ok(())
 }
 
-/// Joins an entry at an entity's uid, and has what is kept follow. Where memory is refused for the entry, nothing
-/// changes; where it is refused for the ancestors, these are dropped, and the change stands.
+/// Joins an entry at an entity's uid, and updates the cache.
+///
+/// If the allocation for the entry fails, nothing changes. If one for the cache fails, the cache is dropped, and the
+/// entry is joined.
 pub(crate) fn take_entity(
     alloc: Global,
     schema: &Schema,
-    store: &mut PolicyStore<Policy, Entity>,
-    ancestors: &mut Option<KeptAncestors>,
-    pace: &mut Pace,
+    store: &mut StampedStore<Policy, Entity>,
+    ancestors: &mut Option<AncestorCache>,
+    pace: &mut RebuildPolicy,
     uid: EntityUid,
     entry: Entry<Entity>,
 ) -> Result<(), (EntityUid, Entry<Entity>)>

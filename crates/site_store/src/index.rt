@@ -1,4 +1,4 @@
-//! How an index follows a store.
+//! Incremental updates of a store's policy index.
 ghost use Rattle.std.specs.Prelude.{◌≡◌, ◌⊎◌, ℕ, List, None, cond, IsTrue, IfOk, IfSome, OnOk, OnErr, IfErr};
 ghost use Rattle.std.specs.Prelude.{◌++◌, ◌∷◌, [], string_bytes};
 ghost use Rattle.std.specs.Option.{option_copied};
@@ -15,11 +15,11 @@ ghost use Rattle.site_store.specs.Staying.{Stays};
 use crate::staying::stays;
 use plain::NoMemory;
 use scope_index::{Policy, ScopeIndex};
-use stamped_store::{Entry, PolicyStore};
+use stamped_store::{Entry, StampedStore};
 use std::alloc::Global;
 
-/// Returns the policy under an id; none where it has no text. Takes no memory.
-fn policy_under<'s, E: Drop>(store: &'s PolicyStore<Policy, E>, id: &str) -> Option<&'s Policy>
+/// Returns the parsed policy of an id; `None` if it has no text. Does not allocate.
+fn policy_under<'s, E: Drop>(store: &'s StampedStore<Policy, E>, id: &str) -> Option<&'s Policy>
     ensures { option_copied result ≡ policy_at store.now.policies id.now }
 {
     match store.get_policy(id) {
@@ -31,10 +31,10 @@ fn policy_under<'s, E: Drop>(store: &'s PolicyStore<Policy, E>, id: &str) -> Opt
     }
 }
 
-// Makes an index right at one id; it is dropped where memory is refused.
+// Makes an index valid at one id; the index is dropped if an allocation fails.
 fn set_right<E: Drop>(
     index: ScopeIndex,
-    store: &PolicyStore<Policy, E>,
+    store: &StampedStore<Policy, E>,
     id: &str,
 ) -> Option<ScopeIndex>
     requires { AreIndexedBut id.now store.now.policies index }
@@ -53,11 +53,11 @@ fn set_right<E: Drop>(
     }
 }
 
-/// Returns the index of a store, where it was right at every id but one; none where there was none, or memory is
-/// refused.
+/// Returns the index updated at one id, if it was valid at every other; `None` if there was none, or an allocation
+/// failed.
 fn followed<E: Drop>(
     index: Option<ScopeIndex>,
-    store: &PolicyStore<Policy, E>,
+    store: &StampedStore<Policy, E>,
     id: &str,
 ) -> Option<ScopeIndex>
     requires { IfSome index (AreIndexedBut id.now store.now.policies) }
@@ -80,8 +80,12 @@ fn add_entry(index: &mut ScopeIndex, id: &str, entry: &Entry<Policy>) -> Result<
     }
 }
 
-/// Returns the index of a store, made anew: one pass over all names of policies. Errors: `NoMemory` alone.
-fn index_of<E: Drop>(alloc: Global, store: &PolicyStore<Policy, E>) -> Result<ScopeIndex, NoMemory>
+/// Builds the index of a store: one pass over all names of policies.
+///
+/// # Errors
+///
+/// `NoMemory` alone.
+fn index_of<E: Drop>(alloc: Global, store: &StampedStore<Policy, E>) -> Result<ScopeIndex, NoMemory>
     ensures { IfOk result (AreIndexed store.now.policies) }
 {
     let mut index = ScopeIndex::new(alloc);
@@ -91,10 +95,10 @@ fn index_of<E: Drop>(alloc: Global, store: &PolicyStore<Policy, E>) -> Result<Sc
     Ok(index)
 }
 
-/// Makes the index anew where it was dropped, if memory suffices. One that stands is left as it is.
-pub fn stand_index<E: Drop>(
+/// Rebuilds the index if it was dropped and there is memory. An index that is present stays as it is.
+pub fn rebuild_index_if_missing<E: Drop>(
     alloc: Global,
-    store: &PolicyStore<Policy, E>,
+    store: &StampedStore<Policy, E>,
     index: &mut Option<ScopeIndex>,
 )
     requires { IfSome index.old (AreIndexed store.now.policies) }
@@ -107,9 +111,9 @@ pub fn stand_index<E: Drop>(
     *index = index_of(alloc, store).ok();
 }
 
-/// Returns whether the index needs not follow once an entry was joined: none stands, or what is stored stays.
+/// Returns whether the index needs no update once an entry is joined: there is none, or the stored entry stays.
 fn needs_nothing<E: Drop>(
-    store: &PolicyStore<Policy, E>,
+    store: &StampedStore<Policy, E>,
     index: &Option<ScopeIndex>,
     id: &str,
     entry: &Entry<Policy>,
@@ -122,10 +126,10 @@ fn needs_nothing<E: Drop>(
     stays(store.get_policy(id), entry)
 }
 
-/// Joins an entry at a policy's id, and has the index follow.
+/// Joins an entry at a policy's id, and updates the index.
 fn take_and_follow<E: Drop>(
     alloc: Global,
-    store: &mut PolicyStore<Policy, E>,
+    store: &mut StampedStore<Policy, E>,
     index: &mut Option<ScopeIndex>,
     id: String,
     entry: Entry<Policy>,
@@ -152,11 +156,13 @@ fn take_and_follow<E: Drop>(
     Ok(())
 }
 
-/// Joins an entry at a policy's id, and has the index follow. Where memory is refused for the entry, nothing changes;
-/// where it is refused for the index, that is dropped, and the change stands.
+/// Joins an entry at a policy's id, and updates the index.
+///
+/// If the allocation for the entry fails, nothing changes. If one for the index fails, the index is dropped, and the
+/// entry is joined.
 pub fn take_policy<E: Drop>(
     alloc: Global,
-    store: &mut PolicyStore<Policy, E>,
+    store: &mut StampedStore<Policy, E>,
     index: &mut Option<ScopeIndex>,
     id: String,
     entry: Entry<Policy>,

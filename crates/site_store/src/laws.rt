@@ -1,10 +1,10 @@
-//! A law of the definitions; the function does nothing.
+//! A theorem about the definitions; its function does nothing.
 ghost use Rattle.site_store.specs.Candidates.{CandidatesSuffice};
 
 use site_meaning::{answers_are_lawful, expressions_have_one_outcome, scopes_do_not_err};
 
-/// Deciding over some of the policies answers as deciding over all of them, where none is left out whose scope is true
-/// of the request. It does nothing; its contract is the law.
+/// Proves that deciding over candidates gives the same answer as deciding over all policies, if no policy is left out
+/// whose scope is true of the request. No-op.
 pub fn candidates_suffice()
     ensures { CandidatesSuffice }
 {

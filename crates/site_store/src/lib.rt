@@ -1,10 +1,10 @@
-//! A store of stamped texts with what makes its answers quick beside it: an index of its policies by their scopes, and
-//! the ancestors of its entities.
+//! A store of stamped texts with two caches: an index of its policies by their scopes, and the ancestors of its
+//! entities.
 //!
-//! A request is answered over those policies alone whose scope it may meet, and nothing is searched where the hierarchy
-//! has no cycle. A change goes into the store first; either then follows what the store has, whichever entry won, and
-//! is dropped where memory is refused for that. This changes no answer: then every policy is tried, or the hierarchy is
-//! searched in place.
+//! With the index, a request is decided over those policies alone whose scope it may satisfy. With the ancestors,
+//! nothing is searched if the hierarchy has no cycle. A change is joined into the store first; then each cache is
+//! updated to what the store has, whichever entry won, or dropped if an allocation fails. This changes no answer:
+//! without the caches every policy is evaluated, or the hierarchy is searched in place.
 #![tactic(auto)]
 
 mod ancestors;
@@ -19,7 +19,7 @@ mod stored_world;
 mod tries;
 
 pub use ancestor_closure::paths_are_decided;
-pub use index::{stand_index, take_policy};
+pub use index::{rebuild_index_if_missing, take_policy};
 pub use laws::candidates_suffice;
 pub use scope_index::{MOST_ID_BYTES, Policy, ReadFault, parse_policy, texts_have_one_reading};
 pub use site_meaning::{
@@ -31,6 +31,6 @@ pub use stamped_store::laws::{
     contents_are_told, deltas_are_joined, readings_are_kept, site_names_are_told,
     stamps_are_issued, updates_have_one_store,
 };
-pub use stamped_store::{COUNT_MAX, Entry, PolicyStore, ReadText, SiteName, Stamp, is_site_name};
+pub use stamped_store::{COUNT_MAX, Entry, ReadText, SiteName, Stamp, StampedStore, is_site_name};
 pub use staying::stays;
-pub use store::AcceleratedStore;
+pub use store::IndexedStore;

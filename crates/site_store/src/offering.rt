@@ -1,4 +1,4 @@
-//! The policies of a store that a request may meet.
+//! The candidates among the policies of a store.
 ghost use Rattle.std.specs.Prelude.{IfOk};
 ghost use Rattle.site_meaning.specs.authoriser.Views.{named};
 ghost use Rattle.site_meaning.specs.TextsRead.{policies_read};
@@ -9,13 +9,16 @@ use ancestor_closure::Ancestry;
 use plain::NoMemory;
 use scope_index::{Policy, ScopeIndex};
 use site_meaning::Entity;
-use stamped_store::PolicyStore;
+use stamped_store::StampedStore;
 use values::Request;
 
-/// Returns the policies that the index offers, ascending by id; none is looked up by its id. They are lent, not copied.
-/// Errors: `NoMemory` alone.
+/// Returns the candidates of the index, in ascending order of ids. They are borrowed, and not looked up by id.
+///
+/// # Errors
+///
+/// `NoMemory` alone.
 pub(crate) fn offered<'s, A: Ancestry>(
-    store: &PolicyStore<Policy, Entity>,
+    store: &StampedStore<Policy, Entity>,
     index: &'s ScopeIndex,
     request: &Request,
     ancestry: &A,
@@ -25,7 +28,7 @@ pub(crate) fn offered<'s, A: Ancestry>(
         (policies_read store.now.policies) (named ps.items)) }
     ensures ascending { IfOk result (λ ps. Ascend (named ps.items)) }
 {
-    // what the store keeps is in the order of its names: a fact that the proof needs
+    // the entries of a store are in the order of its names: the proof needs this fact
     let _policies = store.policies();
     index.candidates(request, ancestry)
 }

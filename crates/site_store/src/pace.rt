@@ -1,40 +1,38 @@
-//! How far kept ancestors are followed, and when they are made anew.
+//! Limits of the ancestor cache: when it is updated incrementally, and when it is rebuilt.
 
-use ancestor_closure::Room;
+use ancestor_closure::CacheBudget;
 
-/// So many ancestors may be kept for each entity of the store, on average.
+/// The most cached ancestors for each entity of the store, on average.
 const AN_ENTITY: usize = 64;
 
-/// And so many more in all.
+/// The most cached ancestors in total, beyond those for each entity.
 const BESIDE: usize = 1_000_000;
 
-/// Where there would be more, so many changes of entities pass before it is tried again, beside one for each entity. An
-/// attempt ends once it has found as many as there may be, so that it comes to 64 for each of these changes.
+/// The number of changes of entities, besides one for each entity, before the next attempt if there would be more. An
+/// attempt ends once it has found the most ancestors, so that it costs 64 for each of these changes.
 const PAUSE: usize = BESIDE / AN_ENTITY;
 
-/// What is written to follow a message may come to so many more ancestors than making them all anew.
+/// The most ancestors that incremental updates for a message may write beyond those of a rebuild.
 const BESIDE_ANEW: usize = 10_000;
 
-/// What is counted of the ancestors that are kept beside a store. It is a measure: no contract speaks of it, and no
-/// answer depends on it.
+/// Counts of the ancestor cache. They are measures: no contract and no answer depends on them.
 #[derive(Clone, Copy)]
-pub(crate) struct Pace {
-    /// How many there are, how many there may be, and how many a put or a message has written.
-    pub(crate) room: Room,
-    /// So many changes of entities pass before the ancestors are made anew.
+pub(crate) struct RebuildPolicy {
+    /// How many ancestors there are, how many there may be, and how many a put or a message has written.
+    pub(crate) room: CacheBudget,
+    /// The number of changes of entities before the ancestors are rebuilt.
     pause: usize,
 }
 
-impl Pace {
-    pub(crate) fn new() -> Pace {
-        Pace {
-            room: Room::new(0),
+impl RebuildPolicy {
+    pub(crate) fn new() -> RebuildPolicy {
+        RebuildPolicy {
+            room: CacheBudget::new(0),
             pause: 0,
         }
     }
 
-    /// A put or a message begins, or a message ends. Answers whether the ancestors are to be made, where they do not
-    /// stand.
+    /// Begins a put or a message, or ends a message. Returns whether to build the ancestors, if they are not present.
     pub(crate) fn begin(&mut self, stand: bool, entities: usize) -> bool {
         let most = entities.saturating_mul(AN_ENTITY).saturating_add(BESIDE);
         if stand {
@@ -44,23 +42,23 @@ impl Pace {
         if self.pause > 0 {
             return false;
         }
-        self.room = Room::new(most);
+        self.room = CacheBudget::new(most);
         true
     }
 
-    /// Making them has ended.
+    /// Ends a build of the ancestors.
     pub(crate) fn end(&mut self, entities: usize) {
         if self.room.is_short() {
             self.pause = entities.saturating_add(PAUSE);
         }
     }
 
-    /// An entity changes.
+    /// Counts a change of an entity.
     pub(crate) fn pass(&mut self) {
         self.pause = self.pause.saturating_sub(1);
     }
 
-    /// Returns whether following costs more than making all of them anew.
+    /// Returns whether incremental updates have cost more than a rebuild.
     pub(crate) fn is_dear(&self, entities: usize) -> bool {
         let anew = self.room.kept().saturating_add(entities);
         self.room.written() > anew.saturating_add(BESIDE_ANEW)

@@ -1,11 +1,11 @@
-//! Whether what is stored stays.
+//! Whether a stored entry stays when another is joined.
 ghost use Rattle.std.specs.Prelude.{◌↔◌, IsTrue};
 ghost use Rattle.std.specs.Option.{option_copied};
 ghost use Rattle.site_store.specs.Staying.{Stays};
 
 use stamped_store::Entry;
 
-/// Returns whether an entry that is stored stays where another is joined onto it; not, where none is stored.
+/// Returns whether a stored entry stays when another is joined onto it; false if none is stored.
 pub fn stays<P>(held: Option<&Entry<P>>, entry: &Entry<P>) -> bool
     ensures { IsTrue result ↔ Stays (option_copied held.entry) entry.now }
 {

@@ -1,4 +1,4 @@
-//! The store and what is kept beside it.
+//! The store and its caches.
 ghost use Rattle.std.specs.Prelude.{◌≡◌, ◌++◌, ◌∷◌, [], IfOk, IfSome, OnOk, OnErr, IfErr};
 ghost use Rattle.std.specs.Prelude.{string_bytes, true, false};
 ghost use Rattle.std.specs.String.{string_cmp};
@@ -9,48 +9,48 @@ ghost use Rattle.stamped_store.specs.Reading.{AreEntriesRead};
 ghost use Rattle.stamped_store.specs.Store.{abstract_store, store_of, updates, kept};
 ghost use Rattle.stamped_store.specs.Store.{policy_name, entity_name, KeepsOtherNames};
 ghost use Rattle.stamped_store.specs.Stored.{taken};
-ghost use Rattle.site_meaning.specs.Said.{IsAnswerOver, MakesCycle, MakesNoCycle};
+ghost use Rattle.site_meaning.specs.StoreMeaning.{IsAnswerOver, MakesCycle, MakesNoCycle};
 ghost use Rattle.site_store.specs.Indexed.{AreIndexed};
 ghost use Rattle.site_store.specs.Kept.{AreAncestorsOf};
-ghost use Rattle.site_store.specs.Seen.{AreBeside};
+ghost use Rattle.site_store.specs.StoreViews.{AreBeside};
 
 use crate::ancestors::{ancestors_of, take_entity};
 use crate::answering::is_in_order;
-use crate::index::{stand_index, take_policy};
-use crate::pace::Pace;
+use crate::index::{rebuild_index_if_missing, take_policy};
+use crate::pace::RebuildPolicy;
 use crate::stored_world::StoredWorld;
-use crate::tries::Tries;
-use ancestor_closure::KeptAncestors;
+use crate::tries::ScanCount;
+use ancestor_closure::AncestorCache;
 use plain::{NoMemory, Shared};
 use scope_index::{Policy, ScopeIndex};
 use site_meaning::{Answer, Entity, Schema, StoredEntities, world_under};
-use stamped_store::{Entry, PolicyStore, Readings};
+use stamped_store::{Entry, Readings, StampedStore};
 use std::alloc::Global;
 use std::marker::Model;
 use values::{EntityUid, Request};
 
-/// A store under a schema. Contracts see these two.
+/// A store under a schema, with its caches. Contracts see the schema and the store.
 #[derive(Drop)]
-pub struct AcceleratedStore {
+pub struct IndexedStore {
     alloc: Global,
     schema: Shared<Schema>,
-    store: PolicyStore<Policy, Entity>,
+    store: StampedStore<Policy, Entity>,
     index: Option<ScopeIndex>,
-    ancestors: Option<KeptAncestors>,
-    pace: Pace,
-    tries: Tries,
+    ancestors: Option<AncestorCache>,
+    pace: RebuildPolicy,
+    tries: ScanCount,
 }
 
-impl Model for AcceleratedStore {
+impl Model for IndexedStore {
     ghost use Rattle.std.specs.Coded.{codes};
     ghost use Rattle.site_meaning.specs.schema_types.contracts.cedar.CedarType as cedar;
     ghost use Rattle.values.specs.ValueCode.{value_code};
     ghost use Rattle.scope_index.specs.grammar_core.contracts.expr.Expr as expr;
     ghost use Rattle.std.specs.Option.{IfSome};
     ghost use Rattle.site_meaning.specs.schema.Views.{schema_view};
-    ghost use Rattle.site_store.specs.Seen.{SeenStore, AreBeside};
+    ghost use Rattle.site_store.specs.StoreViews.{StoreView, AreBeside};
 
-    ghost Value = { SeenStore };
+    ghost Value = { StoreView };
 
     ghost coded = { Prim.hlevel (codes, cedar.the_row.coded, value_code, expr.the_row.coded) };
 
@@ -59,13 +59,13 @@ impl Model for AcceleratedStore {
     ghost invariant = { λ s. AreBeside (schema_view s.schema) s.store s.index s.ancestors };
 }
 
-/// Makes the ancestors anew where they were dropped, if memory suffices, and there are not too many.
+/// Rebuilds the ancestors if they were dropped, there is memory, and they are not too many.
 fn stand_ancestors(
     alloc: Global,
     schema: &Schema,
-    store: &PolicyStore<Policy, Entity>,
-    ancestors: &mut Option<KeptAncestors>,
-    pace: &mut Pace,
+    store: &StampedStore<Policy, Entity>,
+    ancestors: &mut Option<AncestorCache>,
+    pace: &mut RebuildPolicy,
 )
     requires { IfSome ancestors.old (AreAncestorsOf (schema_view schema.now) store.now.entities) }
     ensures { IfSome ancestors.new (AreAncestorsOf (schema_view schema.now) store.now.entities) }
@@ -77,37 +77,38 @@ fn stand_ancestors(
     }
 }
 
-/// Makes anew what was dropped, if memory suffices.
+/// Rebuilds the caches that were dropped, if there is memory.
 fn stand(
     alloc: Global,
     schema: &Schema,
-    store: &PolicyStore<Policy, Entity>,
+    store: &StampedStore<Policy, Entity>,
     index: &mut Option<ScopeIndex>,
-    ancestors: &mut Option<KeptAncestors>,
-    pace: &mut Pace,
+    ancestors: &mut Option<AncestorCache>,
+    pace: &mut RebuildPolicy,
 )
     requires { AreBeside (schema_view schema.now) store.now index.old ancestors.old }
     ensures { AreBeside (schema_view schema.now) store.now index.new ancestors.new }
 {
-    stand_index(alloc, store, index);
+    rebuild_index_if_missing(alloc, store, index);
     stand_ancestors(alloc, schema, store, ancestors, pace);
 }
 
-impl AcceleratedStore {
-    /// Returns the empty store under a schema, with its index. Its ancestors, those of the schema's actions, take
-    /// memory, and are made by the first [`Self::record_policy`], [`Self::record_entity`] or [`Self::rebuild`]. Takes
-    /// no memory.
+impl IndexedStore {
+    /// Creates an empty store under a schema, with its index. Does not allocate.
+    ///
+    /// The first [`Self::record_policy`], [`Self::record_entity`] or [`Self::rebuild`] builds the ancestors, those of
+    /// the schema's actions, since this allocates.
     pub fn new(alloc: Global, schema: Shared<Schema>) -> Self
         ensures { result ≡ record { schema = schema; kept = kept [] [] } }
     {
-        AcceleratedStore {
+        IndexedStore {
             alloc,
             schema,
-            store: PolicyStore::new(alloc),
+            store: StampedStore::new(alloc),
             index: Some(ScopeIndex::new(alloc)),
             ancestors: None,
-            pace: Pace::new(),
-            tries: Tries::new(),
+            pace: RebuildPolicy::new(),
+            tries: ScanCount::new(),
         }
     }
 
@@ -118,15 +119,19 @@ impl AcceleratedStore {
         self.schema.get()
     }
 
-    /// Returns the store itself.
-    pub fn store(&self) -> &PolicyStore<Policy, Entity>
+    /// Returns the store without its caches.
+    pub fn store(&self) -> &StampedStore<Policy, Entity>
         ensures { result.now ≡ self.now.kept }
     {
         &self.store
     }
 
-    /// Joins an entry at a policy's id. Every other name keeps its entry. Where memory is refused for the entry, id and
-    /// entry come back and nothing changes; where it is refused for the index, that is dropped, and the entry stands.
+    /// Joins an entry at a policy's id. Every other name keeps its entry.
+    ///
+    /// # Errors
+    ///
+    /// If the allocation for the entry fails, returns the id and the entry, and nothing changes. If one for the index
+    /// fails, the index is dropped, and the entry is joined.
     pub fn take_policy(
         &mut self,
         id: String,
@@ -147,10 +152,15 @@ impl AcceleratedStore {
         take_policy(self.alloc, &mut self.store, &mut self.index, id, entry)
     }
 
-    /// Joins an entry at an entity's uid. Every other name keeps its entry. Where memory is refused for the entry, uid
-    /// and entry come back and nothing changes; where it is refused for the ancestors, these are dropped, and the entry
-    /// stands. They are dropped, too, where there would be too many, and once following updates has cost more than
-    /// making them anew: then [`Self::rebuild`] does so behind the last one.
+    /// Joins an entry at an entity's uid. Every other name keeps its entry.
+    ///
+    /// The ancestors are dropped if an allocation for them fails, if they would be too many, or once incremental
+    /// updates have cost more than a rebuild; [`Self::rebuild`] then rebuilds them after the last update. The entry
+    /// is joined all the same.
+    ///
+    /// # Errors
+    ///
+    /// If the allocation for the entry fails, returns the uid and the entry, and nothing changes.
     pub fn take_entity(
         &mut self,
         uid: EntityUid,
@@ -178,7 +188,7 @@ impl AcceleratedStore {
         )
     }
 
-    /// As [`Self::take_policy`], but what was dropped is made anew before, if memory suffices.
+    /// Like [`Self::take_policy`], but first rebuilds the dropped caches, if there is memory.
     pub fn record_policy(
         &mut self,
         id: String,
@@ -207,7 +217,7 @@ impl AcceleratedStore {
         take_policy(self.alloc, &mut self.store, &mut self.index, id, entry)
     }
 
-    /// As [`Self::take_entity`], but what was dropped is made anew before, if memory suffices.
+    /// Like [`Self::take_entity`], but first rebuilds the dropped caches, if there is memory.
     pub fn record_entity(
         &mut self,
         uid: EntityUid,
@@ -243,8 +253,10 @@ impl AcceleratedStore {
         )
     }
 
-    /// Makes anew what was dropped, where memory suffices: once, whatever is refused. No entry changes. It is meant for
-    /// the end of a message. Ancestors that were too many are tried again after as many changes as there are entities.
+    /// Rebuilds the dropped caches, if there is memory: one attempt. No entry changes.
+    ///
+    /// Intended for the end of a message. If there were too many ancestors, they are tried again after as many
+    /// changes as there are entities.
     pub fn rebuild(&mut self)
         ensures { self.new ≡ self.old }
     {
@@ -258,7 +270,7 @@ impl AcceleratedStore {
         );
     }
 
-    /// Lends this store as requests are decided over it, where these are its entities.
+    /// Returns this store as requests are decided over it, if these are its entities.
     fn lend_world<'a, 's>(&'a self, entities: &'a StoredEntities<'s>) -> StoredWorld<'a, 's>
         requires { entities.now.store.now ≡ self.now.kept }
         ensures { result ≡ self.now }
@@ -275,12 +287,18 @@ impl AcceleratedStore {
         }
     }
 
-    /// Returns the answer to a request over the store: over the policies and entities that its texts are read as, and
-    /// the actions of the schema.
+    /// Returns the answer to a request over the store: over the policies and entities that its texts are parsed as,
+    /// and the actions of the schema.
     ///
-    /// R is what texts may be read as. The answer is that of the store for each r of R by which each text of the store
-    /// was read as what stands beside it. Where the index stands, and memory suffices, only
-    /// the policies that it offers are tried. Source: Cedar reference guide, "Authorization". Errors: `NoMemory` alone.
+    /// `R` is what texts may be read as. The answer is that of the store for each r of `R` by which each text of the
+    /// store is read as its parsed form. If the index is present and there is memory, only its candidates are
+    /// evaluated.
+    ///
+    /// # Errors
+    ///
+    /// `NoMemory` alone.
+    ///
+    /// Source: Cedar reference guide, "Authorization".
     pub fn answer<R: Readings<Policy, Entity>>(&self, request: &Request) -> Result<Answer, NoMemory>
         ensures { IfOk result (λ a. (r : R) → AreEntriesRead (R.reads_policy r) (R.reads_entity r) self.now.kept
             → IsAnswerOver (R.reads_policy r) (R.reads_entity r) (schema_view self.now.schema)
@@ -292,10 +310,14 @@ impl AcceleratedStore {
         world.answer(request, &self.tries)
     }
 
-    /// Returns whether an entity would be on a cycle once it is put into the store, whatever its uid has there now.
-    /// Cycles of other entities do not matter.
+    /// Returns whether putting an entity into the store would make it cyclic, whatever its uid has there now. Cycles
+    /// of other entities do not matter.
     ///
-    /// R is what texts may be read as, as at [`Self::answer`]. Errors: `NoMemory` alone.
+    /// `R` is what texts may be read as, as in [`Self::answer`].
+    ///
+    /// # Errors
+    ///
+    /// `NoMemory` alone.
     pub fn would_cycle<R: Readings<Policy, Entity>>(
         &self,
         entity: &Entity,
@@ -314,8 +336,8 @@ impl AcceleratedStore {
         world.would_cycle(entity)
     }
 
-    /// Drops what is kept beside the store, as where memory is refused for it; for tests alone, which can't have memory
-    /// refused. No entry changes.
+    /// Drops the caches, as a failed allocation does; for tests alone, which cannot make allocations fail. No entry
+    /// changes.
     pub fn drop_kept(&mut self)
         ensures { self.new ≡ self.old }
     {
@@ -323,12 +345,12 @@ impl AcceleratedStore {
         self.ancestors = None;
     }
 
-    /// Returns whether the ancestors and the index stand; for tests alone.
+    /// Returns whether the ancestors and the index are present; for tests alone.
     pub fn standing(&self) -> (bool, bool) {
         (self.ancestors.is_some(), self.index.is_some())
     }
 
-    /// Returns how many policies the last answer tried; for tests alone.
+    /// Returns how many policies the last answer evaluated; for tests alone.
     pub fn tried(&self) -> usize {
         self.tries.tried()
     }

@@ -5,30 +5,31 @@ ghost use Rattle.ancestor_closure.specs.ancestor_search.Hierarchy.{IsOnCycle, wi
 ghost use Rattle.site_meaning.specs.entity_data.Entities.{uids_with};
 ghost use Rattle.site_meaning.specs.entity_data.Listing.{all_decided};
 ghost use Rattle.site_meaning.specs.entity_hierarchy.Entities.{actions_under, action_uids, actions_are_listed};
-ghost use Rattle.site_meaning.specs.Said.{data_in};
+ghost use Rattle.site_meaning.specs.StoreMeaning.{data_in};
 ghost use Rattle.site_meaning.specs.TextsRead.{entity_at, uids_read};
 ghost use Rattle.site_meaning.specs.Listed.{entities_listed};
-ghost use Rattle.site_store.specs.Seen.{world_stored};
+ghost use Rattle.site_store.specs.StoreViews.{world_stored};
 
-use ancestor_closure::{Ancestry, KeptAncestors, would_cycle};
+use ancestor_closure::{AncestorCache, Ancestry, would_cycle};
 use plain::NoMemory;
 use scope_index::{Policy, ScopeIndex};
 use site_meaning::{Entity, Lookup, Schema, StoredEntities, World};
-use stamped_store::PolicyStore;
+use stamped_store::StampedStore;
 use std::alloc::Global;
 use std::marker::Model;
 use values::{EntityUid, Record};
 
-/// A store under a schema, with its index and the ancestors of its entities where they stand: who is above whom is then
-/// looked up, and nothing is searched where there is no cycle; else the hierarchy is searched in place. Contracts see
-/// the schema and the store.
+/// A store under a schema, with its index and the ancestors of its entities if they are present.
+///
+/// With the ancestors, ancestry is looked up, and nothing is searched if there is no cycle; without them the
+/// hierarchy is searched in place. Contracts see the schema and the store.
 #[derive(Drop)]
 pub(crate) struct StoredWorld<'a, 's> {
     pub(crate) alloc: Global,
     pub(crate) schema: &'a Schema,
-    pub(crate) store: &'a PolicyStore<Policy, Entity>,
+    pub(crate) store: &'a StampedStore<Policy, Entity>,
     pub(crate) index: &'a Option<ScopeIndex>,
-    pub(crate) ancestors: &'a Option<KeptAncestors>,
+    pub(crate) ancestors: &'a Option<AncestorCache>,
     /// The entities of the store and the actions of the schema, to be searched.
     pub(crate) searched: World<'a, StoredEntities<'s>>,
 }
@@ -38,10 +39,10 @@ impl<'a, 's> Model for StoredWorld<'a, 's> {
     ghost use Rattle.site_meaning.specs.schema_types.contracts.cedar.CedarType as cedar;
     ghost use Rattle.values.specs.ValueCode.{value_code};
     ghost use Rattle.scope_index.specs.grammar_core.contracts.expr.Expr as expr;
-    ghost use Rattle.site_store.specs.Seen.{SeenStore};
+    ghost use Rattle.site_store.specs.StoreViews.{StoreView};
     ghost use Rattle.site_store.specs.inner.Worlds.{IsStoredWorld};
 
-    ghost Value = { SeenStore };
+    ghost Value = { StoreView };
 
     ghost coded = { Prim.hlevel (codes, cedar.the_row.coded, value_code, expr.the_row.coded) };
 
@@ -52,8 +53,8 @@ impl<'a, 's> Model for StoredWorld<'a, 's> {
 }
 
 impl StoredWorld<'_, '_> {
-    /// Returns whether this is an action that states no group. A schema has few actions, so that this is sooner asked
-    /// than what is kept of all entities.
+    /// Returns whether an entity is an action that states no group. A schema has few actions, so this is faster than
+    /// a look-up in the cache of all entities.
     fn is_top_action(&self, uid: &EntityUid) -> bool
         ensures { IsTrue result → (world_stored self.now).parents uid.now ≡ [] }
     {
@@ -63,8 +64,13 @@ impl StoredWorld<'_, '_> {
         }
     }
 
-    /// Returns whether an entity is on a cycle once its edges are those that it states. Where ancestors are kept, it is
-    /// two look-ups for each parent, and no memory. Errors: `NoMemory` alone.
+    /// Returns whether an entity is cyclic once its edges are those that it states.
+    ///
+    /// With the cache: two look-ups for each parent, and no allocation.
+    ///
+    /// # Errors
+    ///
+    /// `NoMemory` alone.
     pub(crate) fn would_cycle(&self, entity: &Entity) -> Result<bool, NoMemory>
         ensures { let changed = with_parents (world_stored self.now).parents entity.now.uid entity.now.parents in
             IfOk result (λ yes. IsTrue yes ↔ IsOnCycle changed entity.now.uid) }

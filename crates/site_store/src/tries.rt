@@ -1,15 +1,15 @@
-//! Which policies are tried, and how many.
+//! Counts of evaluated policies.
 
 use scope_index::{EntityScope, Policy};
 use stamped_store::Entry;
 use std::cell::Cell;
 
-/// How many policies an answer tried, and whether some policy that was handed in names a principal or a resource: as
-/// long as none does, an index offers them all, and listing what it offers would cost more than trying all of them.
+/// How many policies an answer evaluated, and whether some stored policy names a principal or a resource. As long as
+/// none does, all policies are candidates, and listing them would cost more than evaluating all.
 ///
-/// It is a measure: no contract speaks of it, and no answer depends on it.
+/// It is a measure: no contract and no answer depends on it.
 #[derive(Drop)]
-pub(crate) struct Tries {
+pub(crate) struct ScanCount {
     tried: Cell<usize>,
     is_bound: bool,
 }
@@ -22,15 +22,15 @@ fn names_entity(part: &EntityScope) -> bool {
     }
 }
 
-impl Tries {
-    pub(crate) fn new() -> Tries {
-        Tries {
+impl ScanCount {
+    pub(crate) fn new() -> ScanCount {
+        ScanCount {
             tried: Cell::new(0),
             is_bound: false,
         }
     }
 
-    /// A policy is stored.
+    /// Records that a policy is stored.
     pub(crate) fn note(&mut self, entry: &Entry<Policy>) {
         if let Some(text) = &entry.body {
             let scope = text.read.scope.get();
@@ -40,17 +40,17 @@ impl Tries {
         }
     }
 
-    /// Returns whether an index may offer less than all policies.
+    /// Returns whether an index may have fewer candidates than all policies.
     pub(crate) fn is_bound(&self) -> bool {
         self.is_bound
     }
 
-    /// So many policies are tried.
+    /// Records the number of policies that are evaluated.
     pub(crate) fn begin(&self, tried: usize) {
         self.tried.set(tried);
     }
 
-    /// Returns how many policies the last answer tried.
+    /// Returns how many policies the last answer evaluated.
     pub(crate) fn tried(&self) -> usize {
         self.tried.get()
     }

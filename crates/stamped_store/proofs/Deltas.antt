@@ -16,7 +16,7 @@ use Rattle.stamped_store.specs.Joins.{option_joined, option_below}
 use Rattle.stamped_store.specs.EntryOrder.{PlainEntry, body_cmp, site_cmp, greater_entry}
 use Rattle.stamped_store.specs.Stored.{value_at}
 use Rattle.stamped_store.specs.Store.{Store, Update, updates, plain_below, IsStoreBelow, joined_stores}
-use Rattle.stamped_store.specs.Deltas.{Summary, stamp_of, stamp_cmp, summary_of, is_news, delta, HaveOneEntryForAStamp}
+use Rattle.stamped_store.specs.Deltas.{Summary, stamp_of, stamp_cmp, summary_of, is_unseen, delta, HaveOneEntryForAStamp}
 use Rattle.stamped_store.proofs.Greatests.{greater_entry_is_join}
 use Rattle.stamped_store.proofs.JoinedStores.{get-joined_stores}
 
@@ -33,22 +33,22 @@ pub summary_at : (s : Store) (q : Name) → value_at name_cmp (summary_of s) q �
 summary_at s q = stamps_found (updates s) q ∙ ap (option_map stamp_of) (sym (get-entries s q))
 
 -- ---- what a delta has at a name
-get-delta : (t : Store) (m : Summary) (q : Name) → get (delta t m) q ≡ cond (is_news (value_at name_cmp m q) (get t q)) (get t q) None
-get-delta t m q = get-retain_keys t (λ x. is_news (value_at name_cmp m x) (get t x)) q (λ x e. ap (λ y. is_news (value_at name_cmp m y) (get t y)) (sym (name_cmp-IsAntisymmetric q x e)))
+get-delta : (t : Store) (m : Summary) (q : Name) → get (delta t m) q ≡ cond (is_unseen (value_at name_cmp m q) (get t q)) (get t q) None
+get-delta t m q = get-retain_keys t (λ x. is_unseen (value_at name_cmp m x) (get t x)) q (λ x e. ap (λ y. is_unseen (value_at name_cmp m y) (get t y)) (sym (name_cmp-IsAntisymmetric q x e)))
 
-part : (k : Option Stamp) (c : Option PlainEntry) (e : PlainEntry) → (cond (is_news k c) c None ≡ Some e) ↔ ((c ≡ Some e) × (is_news k (Some e) ≡ true))
+part : (k : Option Stamp) (c : Option PlainEntry) (e : PlainEntry) → (cond (is_unseen k c) c None ≡ Some e) ↔ ((c ≡ Some e) × (is_unseen k (Some e) ≡ true))
 part k c e = (
-  elim (is_news k c) as (λ b. is_news k c ≡ b → cond b c None ≡ Some e → (c ≡ Some e) × (is_news k (Some e) ≡ true)) [
-    | true ↦ λ is h. (h, ap (is_news k) (sym h) ∙ is)
+  elim (is_unseen k c) as (λ b. is_unseen k c ≡ b → cond b c None ≡ Some e → (c ≡ Some e) × (is_unseen k (Some e) ≡ true)) [
+    | true ↦ λ is h. (h, ap (is_unseen k) (sym h) ∙ is)
     | false ↦ λ is h. absurd (apart h)
   ] refl,
-  (λ h. ap (λ x. cond (is_news k x) x None) h.0 ∙ ap (λ b. cond b (Some e) None) h.1),
+  (λ h. ap (λ x. cond (is_unseen k x) x None) h.0 ∙ ap (λ b. cond b (Some e) None) h.1),
 )
   where
     apart : {x : PlainEntry} → None ≡ Some x → ⊥
     apart h = cc
 
-pub delta_has : (t : Store) (m : Summary) (q : Name) (e : PlainEntry) → (get (delta t m) q ≡ Some e) ↔ ((get t q ≡ Some e) × (is_news (value_at name_cmp m q) (Some e) ≡ true))
+pub delta_has : (t : Store) (m : Summary) (q : Name) (e : PlainEntry) → (get (delta t m) q ≡ Some e) ↔ ((get t q ≡ Some e) × (is_unseen (value_at name_cmp m q) (Some e) ≡ true))
 delta_has t m q e =
     let both = part (value_at name_cmp m q) (get t q) e in
     ((λ h. both.0 (sym (get-delta t m q) ∙ h)), (λ h. get-delta t m q ∙ both.1 h))
@@ -74,8 +74,8 @@ below_by_stamp f e Equal h k alike =
 below_by_stamp f e Greater h k alike = ap (λ r. is_le (ordering_then r (body_cmp e.body f.body))) (stamps_total.antisymm (stamp_of e) (stamp_of f) ∙ ap ordering_reverse h)
 
 absorbed : (a b c : Option PlainEntry) → option_below plain_below b a ≡ true → ((f e : PlainEntry) → b ≡ Some f → c ≡ Some e → stamp_of f ≡ stamp_of e → f ≡ e)
-    → option_joined greater_entry a (cond (is_news (option_map stamp_of b) c) c None) ≡ option_joined greater_entry a c
-absorbed a b None h alike = elim (is_news (option_map stamp_of b) None) as (λ t. option_joined greater_entry a (cond t None None) ≡ option_joined greater_entry a None) [ true ↦ refl | false ↦ refl ]
+    → option_joined greater_entry a (cond (is_unseen (option_map stamp_of b) c) c None) ≡ option_joined greater_entry a c
+absorbed a b None h alike = elim (is_unseen (option_map stamp_of b) None) as (λ t. option_joined greater_entry a (cond t None None) ≡ option_joined greater_entry a None) [ true ↦ refl | false ↦ refl ]
 absorbed a None (Some e) h alike = refl
 absorbed None (Some f) (Some e) h alike = absurd (cc)
 absorbed (Some g) (Some f) (Some e) h alike =
@@ -87,6 +87,6 @@ absorbed (Some g) (Some f) (Some e) h alike =
 pub delta_as_whole : (s old t : Store) → IsStoreBelow old s → HaveOneEntryForAStamp old t → joined_stores s (delta t (summary_of old)) ≡ joined_stores s t
 delta_as_whole s old t h one = same_map name_cmp-IsTotalOrder name_cmp-IsAntisymmetric _ _ (λ q.
     get-joined_stores s (delta t (summary_of old)) q
-    ∙ ap (option_joined greater_entry (get s q)) (get-delta t (summary_of old) q ∙ ap (λ k. cond (is_news k (get t q)) (get t q) None) (summary_at old q))
+    ∙ ap (option_joined greater_entry (get s q)) (get-delta t (summary_of old) q ∙ ap (λ k. cond (is_unseen k (get t q)) (get t q) None) (summary_at old q))
     ∙ absorbed (get s q) (get old q) (get t q) (h q) (λ f e b c. one q f e b c)
     ∙ sym (get-joined_stores s t q))

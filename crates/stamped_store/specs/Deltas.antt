@@ -29,14 +29,14 @@ abbrev pub summary_of : Store → Summary
 summary_of s = map (λ u. (u.0, stamp_of u.1)) (updates s)
 
 -- an entry is news where there is no known stamp, or a smaller one
-abbrev pub is_news : Option Stamp → Option PlainEntry → Bool
-is_news known None = true
-is_news None (Some e) = true
-is_news (Some stamp) (Some e) = is_lt (stamp_cmp stamp (stamp_of e))
+abbrev pub is_unseen : Option Stamp → Option PlainEntry → Bool
+is_unseen known None = true
+is_unseen None (Some e) = true
+is_unseen (Some stamp) (Some e) = is_lt (stamp_cmp stamp (stamp_of e))
 
 -- the updates of a store whose name is missing in the summary, or has a smaller stamp there
 abbrev pub delta : Store → Summary → Store
-delta s m = store_map.retain_keys s (λ q. is_news (value_at name_cmp m q) (store_map.get s q))
+delta s m = store_map.retain_keys s (λ q. is_unseen (value_at name_cmp m q) (store_map.get s q))
 
 -- two stores have one entry for one stamp at a name
 abbrev pub HaveOneEntryForAStamp : Store → Store → Type 0

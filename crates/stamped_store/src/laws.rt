@@ -23,7 +23,7 @@ ghost use Rattle.stamped_store.specs.Store.{joined_stores, issue, issued, policy
 ghost use Rattle.stamped_store.specs.Store.{StoreEntries, IsStoreOf, kept, all_kept, first_kept};
 ghost use Rattle.stamped_store.specs.Reading.{IsEntryRead, AreEntriesRead};
 ghost use Rattle.stamped_store.specs.Contents.{text_under, policies_of, entities_of};
-ghost use Rattle.stamped_store.specs.Deltas.{Summary, stamp_of, summary_of, is_news, delta, HaveOneEntryForAStamp};
+ghost use Rattle.stamped_store.specs.Deltas.{Summary, stamp_of, summary_of, is_unseen, delta, HaveOneEntryForAStamp};
 ghost use Rattle.stamped_store.specs.Raised.{NumberedUpdate, NumberedStore, IsNumberedStoreOf, numbered_store_of};
 ghost use Rattle.stamped_store.specs.Raised.{IsNumberedJoin, joined_numbered, numbered_updates, HaveSiteNumbers};
 ghost use Rattle.stamped_store.specs.Raised.{raise, raise_store};
@@ -111,7 +111,7 @@ pub fn contents_are_told()
 /// equal stamps mean equal entries.
 pub fn deltas_are_joined()
     ensures news { (t : Store) (m : Summary) (q : Name) (e : PlainEntry) → (get (delta t m) q ≡ Some e)
-        ↔ ((get t q ≡ Some e) × (is_news (value_at name_cmp m q) (Some e) ≡ true)) }
+        ↔ ((get t q ≡ Some e) × (is_unseen (value_at name_cmp m q) (Some e) ≡ true)) }
     ensures summary { (s : Store) (q : Name) → value_at name_cmp (summary_of s) q ≡ option_map stamp_of (get s q) }
     ensures whole { (s old t : Store) → IsStoreBelow old s → HaveOneEntryForAStamp old t
         → joined_stores s (delta t (summary_of old)) ≡ joined_stores s t }

@@ -16,7 +16,7 @@ mod stamping;
 
 pub use entry::{Entry, ReadText, Stamp};
 pub use join::Join;
-pub use policy_store::{COUNT_MAX, PolicyStore};
+pub use policy_store::{COUNT_MAX, StampedStore};
 pub use readings::Readings;
 pub use site_name::{SiteName, is_site_name};
 pub use stamped::{Short, Stamped};

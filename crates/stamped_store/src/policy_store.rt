@@ -32,14 +32,14 @@ pub const COUNT_MAX: u64 = 1_000_000_000_000_000_000;
 ///
 /// Contracts see the entries, and the store over names that they show: policies come before entities.
 #[derive(Drop)]
-pub struct PolicyStore<P: Drop, E: Drop> {
+pub struct StampedStore<P: Drop, E: Drop> {
     policies: Stamped<String, Entry<P>>,
     entities: Stamped<EntityUid, Entry<E>>,
     // The greatest count of all entries, so that a stamp is issued in constant time.
     greatest: u64,
 }
 
-impl<P: Drop, E: Drop> Model for PolicyStore<P, E> {
+impl<P: Drop, E: Drop> Model for StampedStore<P, E> {
     ghost use Rattle.stamped_store.specs.Store.{StoreEntries, IsCounted, kept};
 
     ghost Value = { StoreEntries P E };
@@ -49,13 +49,13 @@ impl<P: Drop, E: Drop> Model for PolicyStore<P, E> {
     ghost invariant = { λ s. IsCounted (kept s.policies s.entities) s.greatest };
 }
 
-impl<P: Drop, E: Drop> PolicyStore<P, E> {
+impl<P: Drop, E: Drop> StampedStore<P, E> {
     /// Returns the empty store. Takes no memory.
     pub fn new(alloc: Global) -> Self
         ensures kept { result ≡ kept [] [] }
         ensures empty { abstract_store result ≡ store_of [] }
     {
-        PolicyStore {
+        StampedStore {
             policies: Stamped::new(alloc),
             entities: Stamped::new(alloc),
             greatest: 0,
@@ -166,7 +166,7 @@ impl<P: Drop, E: Drop> PolicyStore<P, E> {
         ensures short_kept { IfErr result (λ s. self.new ≡ all_kept self.old (first_kept s.taken other)) }
         ensures cut { IfErr result (λ s. s.taken < length (updates (abstract_store other))) }
     {
-        let PolicyStore {
+        let StampedStore {
             policies,
             entities,
             greatest,

@@ -5,7 +5,7 @@ ghost use Rattle.std.specs.Str.{bytes_eq};
 ghost use Rattle.stamped_store.specs.Store.{abstract_store};
 ghost use Rattle.stamped_store.specs.Stamping.{has_stamps_of};
 
-use crate::{Entry, PolicyStore, SiteName, Stamp};
+use crate::{Entry, SiteName, Stamp, StampedStore};
 use std::collections::btree_map::Iter;
 
 /// Returns whether a stamp was given at the site of this name.
@@ -26,7 +26,7 @@ fn is_any_stamped_at<K, P>(entries: Iter<'_, K, Entry<P>>, site: SiteName) -> bo
     found
 }
 
-impl<P: Drop, E: Drop> PolicyStore<P, E> {
+impl<P: Drop, E: Drop> StampedStore<P, E> {
     /// Returns whether some update of the store, a deletion too, was stamped at the site of this name. In time in
     /// proportion to the store, and without memory.
     pub fn has_stamps_of(&self, site: SiteName) -> bool

@@ -4,11 +4,13 @@ use Rattle.std.proofs.Common.{append_assoc, append-nil}
 use Rattle.std.specs.Prelude.{codes, decimal}
 use Rattle.std.specs.Borrow.{Bor}
 use Rattle.std.specs.Io.KnownBytes.{Appends, Consumes, IsAtEnd}
+use Rattle.std.proofs.KnownBytes.{Appends-nil, Consumes-nil}
 use Rattle.http_streams.specs.http_devices.Devices.{FailsAtLast}
 use Rattle.http_streams.specs.http_framing.Reply.{IsBadReply, IsUnfinishedReply, ReadsReply}
 use Rattle.http_streams.specs.Reads.{EndsByOneRead}
 use Rattle.http_streams.specs.declared.fetch.FetchFault.{FetchFault}
 use Rattle.http_streams.specs.declared.fetch.FetchFault.TheVariants as fetch
+use Rattle.http_streams.specs.http_texts.declared.parts.Ask.{Ask}
 use Rattle.http_streams.specs.http_texts.RequestText.{request_start, length_field, body_bytes, request_text}
 use Rattle.state_exchanges.specs.declared.fault.NetworkFault.{NetworkFault}
 use Rattle.state_exchanges.specs.declared.fault.NetworkFault.TheVariants as network
@@ -22,13 +24,34 @@ unfolding request_start
 start_is m p hm hp = ap (λ x. request_start x p) hm ∙ ap (λ y. request_start (codes "POST") y) hp
 
 -- the text of the request, in one piece
-pub request_is : (m h p s : Bor (List ℕ)) → m.now ≡ codes "POST" → p.now ≡ codes "/v1/delta"
-    → request_text (record { method = m; host = h; path = p; body = Some s }) ≡ delta_request h.now s.now
+pub request_is : (ask : Ask) (s : Bor (List ℕ)) → ask.method.now ≡ codes "POST" → ask.path.now ≡ codes "/v1/delta" → ask.body ≡ Some s
+    → request_text ask ≡ delta_request ask.host.now s.now
 unfolding request_text length_field body_bytes delta_request
-request_is m h p s hm hp =
-    ap (λ (t : List ℕ). t ++ h.now ++ (codes "\r\nContent-Length: " ++ decimal (length s.now)) ++ codes "\r\nConnection: close\r\n\r\n" ++ s.now) (start_is m.now p.now hm hp)
+request_is ask s hm hp hb =
+    ap (λ (b : Option (Bor (List ℕ))). request_start ask.method.now ask.path.now ++ ask.host.now ++ length_field b ++ codes "\r\nConnection: close\r\n\r\n" ++ body_bytes b) hb
+    ∙ ap (λ (t : List ℕ). t ++ ask.host.now ++ (codes "\r\nContent-Length: " ++ decimal (length s.now)) ++ codes "\r\nConnection: close\r\n\r\n" ++ s.now) (start_is ask.method.now ask.path.now hm hp)
     ∙ ap (λ (t : List ℕ). t ++ codes "\r\nConnection: close\r\n\r\n" ++ s.now)
-    (sym (append_assoc (codes "POST /v1/delta HTTP/1.1\r\nHost: " ++ h.now) (codes "\r\nContent-Length: ") (decimal (length s.now))))
+    (sym (append_assoc (codes "POST /v1/delta HTTP/1.1\r\nHost: " ++ ask.host.now) (codes "\r\nContent-Length: ") (decimal (length s.now))))
+
+-- where nothing was sent a first part of the request was, which is empty
+pub nothing_begun : {R W : Type 0} (left : R → Option (List ℕ)) (holds : W → Option (List ℕ)) (request : List ℕ) (r : R) (w : W)
+    → IsRequestBegun left holds request r r w w
+nothing_begun left holds request r w = record {
+  bytes = [];
+  front = [];
+  back = request;
+  read = Consumes-nil (left r);
+  joined = refl;
+  written = Appends-nil (holds w);
+}
+
+-- what a fetch tells is no host's fault
+pub never_of_host : (fault : FetchFault) (f : NetworkFault) → pull_fault fault ≡ Network f → f ≢ network.NoHost
+never_of_host fetch.Read f told is = cc
+never_of_host fetch.Write f told is = cc
+never_of_host fetch.BadReply f told is = cc
+never_of_host fetch.Ended f told is = cc
+never_of_host fetch.NoMemory f told is = cc
 
 module _ {R W : Type 0} (left : R → Option (List ℕ)) (reads : R → ℕ → List ℕ → R → Type 0) (read_failed : R → ℕ)
     (read_fails : R → R → Type 0) (holds : W → Option (List ℕ)) (write_failed : W → ℕ)

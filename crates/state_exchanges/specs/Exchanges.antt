@@ -1,12 +1,17 @@
 -- One request and its reply over a reader and a writer, or why there is no reply of status 200.
 -- Sources: RFC 9112, sections 3, 4 and 6; RFC 9110, section 15.3.1.
-use Rattle.std.specs.Prelude.{◌≡◌, ◌≢◌, ℕ, List, ◌++◌, Option}
+use Rattle.std.specs.Prelude.{◌≡◌, ◌≢◌, ◌↔◌, ℕ, List, ◌++◌, Option, IsFalse}
 use Rattle.std.specs.Io.KnownBytes.{Appends, Consumes, IsAtEnd}
 use Rattle.http_streams.specs.http_devices.Devices.{FailsAtLast}
 use Rattle.http_streams.specs.http_framing.Reply.{IsBadReply, IsUnfinishedReply, ReadsReply}
+use Rattle.http_streams.specs.http_texts.Parts.{is_host}
 use Rattle.http_streams.specs.Reads.{EndsByOneRead}
 use Rattle.state_exchanges.specs.declared.fault.NetworkFault.{NetworkFault}
 use Rattle.state_exchanges.specs.declared.fault.NetworkFault.TheVariants as network
+
+-- the fault tells that the host is none exactly where it is none
+abbrev pub TellsOfHost : List ℕ → NetworkFault → Type 0
+TellsOfHost host fault = (fault ≡ network.NoHost) ↔ IsFalse (is_host host)
 
 module _ {R W : Type 0} (left : R → Option (List ℕ)) (holds : W → Option (List ℕ)) where
   -- the request was written, and this was read
@@ -40,10 +45,12 @@ module _ {R W : Type 0} (left : R → Option (List ℕ)) (reads : R → ℕ → 
 module _ {R W : Type 0} (left : R → Option (List ℕ)) (reads : R → ℕ → List ℕ → R → Type 0) (read_failed : R → ℕ)
     (read_fails : R → R → Type 0) (holds : W → Option (List ℕ)) (write_failed : W → ℕ)
     (write_fails : W → W → Type 0) where
-  -- why there is no reply of status 200: a read failed, which was the last, and less than a reply had come; a write
-  -- failed, which was the last, and nothing was read; what came begins no reply that can be read, which was not known
-  -- before the last read; the input is at its end, as the last read told; or the reply has another status
+  -- why there is no reply of status 200: the host is none, and nothing was sent; a read failed, which was the last, and
+  -- less than a reply had come; a write failed, which was the last, and nothing was read; what came begins no reply
+  -- that can be read, which was not known before the last read; the input is at its end, as the last read told; or the
+  -- reply has another status
   abbrev pub IsUnanswered : List ℕ → R → R → W → W → NetworkFault → Type 0
+  IsUnanswered request r r2 w w2 network.NoHost = (r2 ≡ r) × (w2 ≡ w)
   IsUnanswered request r r2 w w2 network.Read = (bytes : List ℕ) × IsSent left holds request r r2 w w2 bytes
       × IsUnfinishedReply bytes × FailsAtLast read_failed read_fails r r2
   IsUnanswered request r r2 w w2 network.Write = IsRequestBegun left holds request r r2 w w2 × (r2 ≡ r)

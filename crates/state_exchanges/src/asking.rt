@@ -1,16 +1,17 @@
 //! The request for what is news, and its reply.
-ghost use Rattle.std.specs.Prelude.{◌≡◌, ◌≢◌, Err, IfOk, OnErr};
+ghost use Rattle.std.specs.Prelude.{◌≡◌, ◌≢◌, Err, IfOk, OnErr, IsTrue};
+ghost use Rattle.http_streams.specs.http_texts.Parts.{is_host};
 ghost use Rattle.schema_decisions.specs.answer_lines.declared.refusal.Refusal.{Refusal};
 ghost use Rattle.schema_decisions.specs.answer_lines.Refusals.{no_memory};
 ghost use Rattle.state_exchanges.specs.declared.fault.NetworkFault.{NetworkFault};
 ghost use Rattle.state_exchanges.specs.Requests.{delta_request};
-ghost use Rattle.state_exchanges.specs.Exchanges.{IsAnswered, IsUnanswered, IsRequestBegun};
+ghost use Rattle.state_exchanges.specs.Exchanges.{IsAnswered, IsUnanswered, IsRequestBegun, TellsOfHost};
 ghost use Rattle.state_exchanges.specs.inner.Faults.{pull_fault};
 
 use crate::fault::{NetworkFault, PullFault};
 use http::{Method, StatusCode};
 use http_streams::fetch::{FetchFault, fetch};
-use http_streams::{Ask, Sink, Source};
+use http_streams::{Ask, Sink, Source, is_host};
 use plain::NoMemory;
 use schema_decisions::Refusal;
 use std::alloc::Global;
@@ -43,9 +44,14 @@ pub(crate) fn ask<R: Source, W: Sink>(
         reader.old reader.new writer.old writer.new f }
     ensures err { OnErr result (IsRequestBegun R.left W.holds (delta_request host.now summary.now) reader.old reader.new
         writer.old writer.new) }
+    ensures host { IfOk result (λ _. IsTrue (is_host host.now)) }
+    ensures no_host { (f : NetworkFault) → result ≡ Err (PullFault.Network f) → TellsOfHost host.now f }
     ensures reads { result ≢ Err (PullFault.Network NetworkFault.Read) → R.failed reader.new ≡ R.failed reader.old }
     ensures writes { result ≢ Err (PullFault.Network NetworkFault.Write) → W.failed writer.new ≡ W.failed writer.old }
 {
+    if !is_host(host) {
+        return Err(PullFault::Network(NetworkFault::NoHost));
+    }
     let ask = Ask {
         method: &Method::POST,
         host,

@@ -25,6 +25,9 @@ pub enum NetworkFault {
     /// The reply has this status, which is not 200. Its body is not looked at.
     #[error("network 74: reply with status {0}")]
     OtherStatus(u16),
+    /// The address has a byte that no field `Host` may have (75). Nothing was sent.
+    #[error("network 75: no host")]
+    NoHost,
 }
 
 /// Why nothing is pulled. There is no new state then.

@@ -12,7 +12,7 @@ use plain::NoMemory;
 use schema_decisions::{Policy, Refusal};
 use std::alloc::Global;
 use sync_messages::{
-    Entity, MessageFault, PolicyStore, Schema, SchemaTexts, Update, read_updates,
+    Entity, MessageFault, Schema, SchemaTexts, StampedStore, Update, read_updates,
     updates_have_one_store, valid_messages_are_read, write_state,
 };
 
@@ -29,7 +29,7 @@ pub fn message_refusal(fault: MessageFault) -> Refusal
 
 /// Joins one update.
 fn take_one(
-    store: &mut PolicyStore<Policy, Entity>,
+    store: &mut StampedStore<Policy, Entity>,
     update: Update<Policy, Entity>,
 ) -> Result<(), NoMemory>
     ensures { OnOk result (abstract_store store.new
@@ -49,7 +49,7 @@ fn take_one(
 
 /// Joins updates in their order, and counts them.
 fn take_all(
-    store: &mut PolicyStore<Policy, Entity>,
+    store: &mut StampedStore<Policy, Entity>,
     came: Vec<Update<Policy, Entity>>,
 ) -> Result<usize, NoMemory>
     ensures store { OnOk result (abstract_store store.new
@@ -69,7 +69,7 @@ fn take_all(
 #[derive(Drop)]
 pub struct Joined {
     /// The store of the updates of both.
-    pub store: PolicyStore<Policy, Entity>,
+    pub store: StampedStore<Policy, Entity>,
     /// How many updates the message has, also those that lost.
     pub taken: usize,
 }
@@ -81,7 +81,7 @@ pub struct Joined {
 pub fn join_message(
     alloc: Global,
     schema: &Schema,
-    store: PolicyStore<Policy, Entity>,
+    store: StampedStore<Policy, Entity>,
     bytes: &[u8],
 ) -> Result<Joined, Refusal>
     ensures joined { IfOk result (λ j. Joins (schema_view schema.now) (abstract_store store) bytes.now
@@ -106,7 +106,7 @@ pub fn join_message(
 pub fn state_of(
     alloc: Global,
     schema: &Schema,
-    store: &PolicyStore<Policy, Entity>,
+    store: &StampedStore<Policy, Entity>,
 ) -> Result<Vec<u8>, NoMemory>
     ensures text { IfOk result (λ b. b.items ≡ state_text (schema_view schema.now).label (abstract_store store.now)) }
     ensures reads_back { IfOk result (λ b. IsSendable (schema_view schema.now) (abstract_store store.now)

@@ -11,13 +11,13 @@ use plain::NoMemory;
 use schema_decisions::{Policy, Refusal, schema_in};
 use stamped_store::laws::stores_are_joined;
 use std::alloc::Global;
-use sync_messages::{Entity, PolicyStore, Schema, updates_have_one_store};
+use sync_messages::{Entity, Schema, StampedStore, updates_have_one_store};
 
 /// Returns the join of a store and of what a message was joined into, or why that message was refused.
 fn joined_with(
-    store: PolicyStore<Policy, Entity>,
+    store: StampedStore<Policy, Entity>,
     other: Result<Joined, Refusal>,
-) -> Result<PolicyStore<Policy, Entity>, Refusal>
+) -> Result<StampedStore<Policy, Entity>, Refusal>
     ensures joined { IfOk result (λ t. IsJoinWith (abstract_store store) other (abstract_store t)) }
     ensures refused { IfErr result (λ r. (r ≡ no_memory → ⊥) → other ≡ Err r) }
 {
@@ -39,8 +39,8 @@ fn merge_under(alloc: Global, schema: &Schema, f: &[u8], g: &[u8]) -> Result<Vec
 {
     updates_have_one_store();
     stores_are_joined();
-    let Joined { store, taken: _ } = join_message(alloc, schema, PolicyStore::new(alloc), f)?;
-    let second = join_message(alloc, schema, PolicyStore::new(alloc), g);
+    let Joined { store, taken: _ } = join_message(alloc, schema, StampedStore::new(alloc), f)?;
+    let second = join_message(alloc, schema, StampedStore::new(alloc), g);
     let both = joined_with(store, second)?;
     Ok(state_of(alloc, schema, &both)?)
 }

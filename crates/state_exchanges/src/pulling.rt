@@ -1,5 +1,7 @@
 //! What another site has that is news, pulled.
-ghost use Rattle.std.specs.Prelude.{◌≡◌, ◌≢◌, ◌⊎◌, ℕ, List, Ok, Err, IfOk, IfErr, OnErr, MatchResult, option_map};
+ghost use Rattle.std.specs.Prelude.{◌≡◌, ◌≢◌, ◌⊎◌, ℕ, List, Ok, Err, IfOk, IfErr, OnErr, IsTrue, MatchResult};
+ghost use Rattle.std.specs.Prelude.{option_map};
+ghost use Rattle.http_streams.specs.http_texts.Parts.{is_host};
 ghost use Rattle.sync_messages.specs.schema.Schemas.{StatedSchema};
 ghost use Rattle.sync_messages.specs.schema.Views.{schema_view};
 ghost use Rattle.sync_messages.specs.stamped_store.Store.{Store, abstract_store};
@@ -8,7 +10,7 @@ ghost use Rattle.schema_decisions.specs.answer_lines.Refusals.{no_memory};
 ghost use Rattle.state_exchanges.specs.Messages.{IsMessageRefused, IsSendable};
 ghost use Rattle.state_exchanges.specs.declared.fault.NetworkFault.{NetworkFault};
 ghost use Rattle.state_exchanges.specs.Requests.{Holds, IsReady, request_for};
-ghost use Rattle.state_exchanges.specs.Exchanges.{IsAnswered, IsUnanswered, IsRequestBegun};
+ghost use Rattle.state_exchanges.specs.Exchanges.{IsAnswered, IsUnanswered, IsRequestBegun, TellsOfHost};
 ghost use Rattle.state_exchanges.specs.Pulls.{IsPulled, IsRefusedFirst, IsStateRefused};
 
 use crate::asking::ask;
@@ -18,7 +20,7 @@ use http_streams::{Sink, Source};
 use plain::NoMemory;
 use schema_decisions::{Policy, Refusal, schema_in};
 use std::alloc::Global;
-use sync_messages::{Entity, PolicyStore, Schema, write_summary};
+use sync_messages::{Entity, Schema, StampedStore, write_summary};
 
 /// What was pulled.
 #[derive(Drop)]
@@ -34,7 +36,7 @@ fn store_in(
     alloc: Global,
     schema: &Schema,
     state: Option<&[u8]>,
-) -> Result<PolicyStore<Policy, Entity>, Refusal>
+) -> Result<StampedStore<Policy, Entity>, Refusal>
     ensures holds { IfOk result (λ m. Holds (schema_view schema.now) (option_map (λ b. b.now) state.entry)
         (abstract_store m)) }
     ensures sendable { IfOk result (λ m. IsSendable (schema_view schema.now) (abstract_store m)) }
@@ -42,14 +44,14 @@ fn store_in(
         → IsStateRefused (schema_view schema.now) (option_map (λ b. b.now) state.entry) r) }
 {
     match state {
-        Some(bytes) => match join_message(alloc, schema, PolicyStore::new(alloc), bytes) {
+        Some(bytes) => match join_message(alloc, schema, StampedStore::new(alloc), bytes) {
             Ok(joined) => {
                 let Joined { store, taken: _ } = joined;
                 Ok(store)
             }
             Err(refusal) => Err(refusal),
         },
-        None => Ok(PolicyStore::new(alloc)),
+        None => Ok(StampedStore::new(alloc)),
     }
 }
 
@@ -57,7 +59,7 @@ fn store_in(
 fn take_reply(
     alloc: Global,
     schema: &Schema,
-    store: PolicyStore<Policy, Entity>,
+    store: StampedStore<Policy, Entity>,
     message: &[u8],
 ) -> Result<Pulled, Refusal>
     requires { IsSendable (schema_view schema.now) (abstract_store store) }
@@ -85,7 +87,7 @@ fn told(pulled: Result<Pulled, Refusal>) -> Result<Pulled, PullFault>
 fn news_for<R: Source, W: Sink>(
     alloc: Global,
     schema: &Schema,
-    store: &PolicyStore<Policy, Entity>,
+    store: &StampedStore<Policy, Entity>,
     host: &[u8],
     reader: &mut R,
     writer: &mut W,
@@ -101,6 +103,8 @@ fn news_for<R: Source, W: Sink>(
     ensures err { OnErr result (((reader.new ≡ reader.old) × (writer.new ≡ writer.old)) ⊎ IsRequestBegun R.left W.holds
         (request_for host.now (schema_view schema.now) (abstract_store store.now)) reader.old reader.new writer.old
         writer.new) }
+    ensures host { IfOk result (λ _. IsTrue (is_host host.now)) }
+    ensures no_host { (f : NetworkFault) → result ≡ Err (PullFault.Network f) → TellsOfHost host.now f }
     ensures reads { result ≢ Err (PullFault.Network NetworkFault.Read) → R.failed reader.new ≡ R.failed reader.old }
     ensures writes { result ≢ Err (PullFault.Network NetworkFault.Write) → W.failed writer.new ≡ W.failed writer.old }
 {
@@ -114,7 +118,7 @@ fn news_for<R: Source, W: Sink>(
 fn pull_under<R: Source, W: Sink>(
     alloc: Global,
     schema: &Schema,
-    store: PolicyStore<Policy, Entity>,
+    store: StampedStore<Policy, Entity>,
     host: &[u8],
     reader: &mut R,
     writer: &mut W,
@@ -136,6 +140,8 @@ fn pull_under<R: Source, W: Sink>(
     ensures err { OnErr result (((reader.new ≡ reader.old) × (writer.new ≡ writer.old)) ⊎ IsRequestBegun R.left W.holds
         (request_for host.now (schema_view schema.now) (abstract_store store)) reader.old reader.new writer.old
         writer.new) }
+    ensures host { IfOk result (λ _. IsTrue (is_host host.now)) }
+    ensures no_host { (f : NetworkFault) → result ≡ Err (PullFault.Network f) → TellsOfHost host.now f }
     ensures reads { result ≢ Err (PullFault.Network NetworkFault.Read) → R.failed reader.new ≡ R.failed reader.old }
     ensures writes { result ≢ Err (PullFault.Network NetworkFault.Write) → W.failed writer.new ≡ W.failed writer.old }
 {
@@ -153,9 +159,9 @@ fn pull_under<R: Source, W: Sink>(
 /// in it on this side, and none is named: nothing is stamped.
 ///
 /// Refused in this order: the schema (20 to 25, without a place), the state (50 to 56, with its place and the number of
-/// the refusal inside), both before anything is sent; the network's faults (70 to 73, or a reply of another status than
-/// 200); the message that came (50 to 56). `NoMemory` (1) may come at any point, also when the updates are taken. After
-/// any of these there is no new state.
+/// the refusal inside), and a host that is none (75), all before anything is sent; the network's faults (70 to 73, or a
+/// reply of another status than 200); the message that came (50 to 56). `NoMemory` (1) may come at any point, also when
+/// the updates are taken. After any of these there is no new state.
 pub fn pull_over<R: Source, W: Sink>(
     alloc: Global,
     schema: &[u8],
@@ -191,6 +197,10 @@ pub fn pull_over<R: Source, W: Sink>(
     ensures err { OnErr result (((reader.new ≡ reader.old) × (writer.new ≡ writer.old))
         ⊎ ((s : StatedSchema) × (m : Store) × IsReady schema.now (option_map (λ b. b.now) state.entry) s m
         × IsRequestBegun R.left W.holds (request_for host.now s m) reader.old reader.new writer.old writer.new)) }
+
+    // The host is one, or it is told that it is none.
+    ensures host { IfOk result (λ _. IsTrue (is_host host.now)) }
+    ensures no_host { (f : NetworkFault) → result ≡ Err (PullFault.Network f) → TellsOfHost host.now f }
 
     // No failure of a device is passed over.
     ensures reads { result ≢ Err (PullFault.Network NetworkFault.Read) → R.failed reader.new ≡ R.failed reader.old }

@@ -1,4 +1,4 @@
--- What is written of an entity is read again as that entity.
+-- The canonical text of an entity is read as that entity.
 use Rattle.std.specs.Prelude.{◌≡◌, ℕ, List, true, Some, Result, Ok}
 use Rattle.std.specs.Str.{bytes_eq}
 use Rattle.std.proofs.Common.{sym, ap, subst, refl}
@@ -17,7 +17,7 @@ use Rattle.message_format.specs.declared.bodies.BodyFault.TheVariants.{Refused, 
 use Rattle.sync_messages.specs.Texts.{refused_by, entity_of_text, ReadsEntity}
 use Rattle.sync_messages.specs.Laws.{CanonicalTextsAreRead}
 
--- a step that gives a value goes on with it
+-- a step that gives a value continues with it
 goes_on : {A B F : Type 0} (r : Result A F) (x : A) (f : A → Result B F) (y : Result B F) → r ≡ Ok x → f x ≡ y
     → (r >>= f) ≡ y
 goes_on r x f y e h = subst (λ q. (q >>= f) ≡ y) (sym e) h

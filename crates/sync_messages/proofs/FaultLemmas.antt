@@ -1,4 +1,4 @@
--- The faults of reading and of the validator, as the faults of a text.
+-- The errors of the parser and of the validator, as errors of a text.
 use Rattle.std.specs.Prelude.{◌≡◌, ◌≢◌, ℕ, List}
 use Rattle.std.proofs.Common.{sym, subst}
 use Rattle.message_format.specs.policy_grammar.declared.policy.Policy.{Policy}
@@ -20,7 +20,7 @@ module _ (s : StatedSchema) (t : List ℕ) (b : BodyFault) where
   of_reading : (f : ReadFault) → IsPolicyRefused t f → b ≡ body.Refused (grammar.code_of f) → RefusesPolicy s t b
   of_reading f h e = subst (λ c. RefusesPolicy s t c) (sym e) (no_policy f h)
 
-  -- told as memory alone, or by its number
+  -- reported as `NoMemory` alone, or by its code
   pub unread_is_refused : (f : ReadFault) → OrNoMemory read.NoMemory (IsPolicyRefused t) f → (f ≡ read.NoMemory → b ≡ body.NoMemory)
       → (f ≢ read.NoMemory → b ≡ body.Refused (grammar.code_of f)) → OrNoMemory body.NoMemory (RefusesPolicy s t) b
   unread_is_refused f h m r ne = let other : f ≢ read.NoMemory = λ e. ne (m e) in of_reading f (h other) (r other)

@@ -2,5 +2,5 @@ pub mod CanonicalTexts
 pub mod FaultLemmas
 pub mod MessageLemmas
 pub mod Readings
--- crates below, passed on to those above
+-- Lemmas of lower crates, re-exported.
 pub use Rattle.validator.proofs.of_grammar_core

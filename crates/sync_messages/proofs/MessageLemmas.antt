@@ -1,4 +1,4 @@
--- A message that is read under a schema, by a label and by texts of the schema.
+-- A message of a schema is read by the schema's label and its texts.
 use Rattle.std.proofs.Common.{◌≡◌, ℕ, List, subst}
 use Rattle.message_format.specs.policy_grammar.declared.policy.Policy.{Policy}
 use Rattle.validator.specs.entities.schema.SchemaEntries.{SchemaEntries}

@@ -1,5 +1,5 @@
--- Each text comes to one thing: for policies by the laws of reading and of the validator, for entities because reading
--- is a function.
+-- Each text has one outcome: for policies by the theorems of the parser and of the validator, for entities because
+-- reading is a function.
 use Rattle.std.specs.Prelude.{◌≡◌, ◌⊎◌, ℕ, List, Result, Ok, Err}
 use Rattle.std.proofs.Common.{inl, inr, ap, sym, subst, ◌∙◌, refl}
 use Rattle.values.specs.declared.entity_uid.EntityUid.{EntityUid}

@@ -1,4 +1,4 @@
--- That each text comes to exactly one thing under a schema.
+-- Defines that each text has exactly one outcome under a schema.
 use Rattle.std.specs.Prelude.{ℕ, List}
 use Rattle.values.specs.declared.entity_uid.EntityUid.{EntityUid}
 use Rattle.validator.specs.entities.schema.Schemas.{StatedSchema}
@@ -10,18 +10,18 @@ use Rattle.message_format.specs.declared.bodies.BodyFault.TheVariants.{OtherName
 use Rattle.message_format.specs.Bodies.{HasOneOutcome, HasOutcome}
 use Rattle.sync_messages.specs.Texts.{ReadsPolicy, RefusesPolicy, ReadsEntity, RefusesEntity}
 
--- a text is that of one policy that passes, or refused for one fault, and not both
+-- Each text of a policy has exactly one outcome: one policy that passes validation, or one error.
 abbrev pub PoliciesHaveOneReading : Type 0
 PoliciesHaveOneReading = (s : StatedSchema) (text : List ℕ) → HasOneOutcome (ReadsPolicy s text) (RefusesPolicy s text)
     × HasOutcome (ReadsPolicy s text) (RefusesPolicy s text)
 
--- and so it is of entities, under each uid
+-- Each text of an entity has exactly one outcome under each uid: one entity, or one error.
 abbrev pub EntitiesHaveOneReading : Type 0
 EntitiesHaveOneReading = (s : StatedSchema) (uid : EntityUid) (text : List ℕ)
     → HasOneOutcome (ReadsEntity s uid text) (RefusesEntity s uid text)
     × HasOutcome (ReadsEntity s uid text) (RefusesEntity s uid text)
 
--- no policy is refused as the text of another name
+-- No text of a policy is rejected as that of another name.
 abbrev pub PoliciesHaveNoOtherName : Type 0
 PoliciesHaveNoOtherName = (s : StatedSchema) (text : List ℕ) → RefusesPolicy s text OtherName → ⊥
 

@@ -1,7 +1,7 @@
 pub mod Laws
 pub mod Messages
 pub mod Texts
--- crates below, passed on to those above
+-- Specifications of lower crates, re-exported.
 pub use Rattle.validator.specs.entities
 pub use Rattle.validator.specs.entities.schema
 pub use Rattle.message_format.specs as message_format

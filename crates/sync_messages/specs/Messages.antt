@@ -1,5 +1,5 @@
--- Defines which bytes are a message of a schema, a state or a delta, and for what first fault they are none.
--- Rule of this product: a message is that of a schema if it has its label, and each of its updates is in range and
+-- Defines the messages of a schema, states and deltas, and the first error of other bytes.
+-- Rules of this product: a message is that of a schema if it has its label, and each of its updates is in range and
 -- readable under it.
 use Rattle.std.specs.Prelude.{ℕ, List}
 use Rattle.message_format.specs.policy_grammar.declared.policy.Policy.{Policy}
@@ -10,11 +10,12 @@ use Rattle.message_format.specs.declared.update.Update.{Update}
 use Rattle.message_format.specs.Updates.{IsMessage, IsMessageFault}
 use Rattle.sync_messages.specs.Texts.{ReadsPolicy, RefusesPolicy, ReadsEntity, RefusesEntity}
 
--- the bytes are a state or a delta of this schema, with these updates in this order
+-- `IsMessageOf schema bytes us` holds if `bytes` is a state or delta of `schema` with the updates `us`, in this
+-- order.
 abbrev pub IsMessageOf : StatedSchema → List ℕ → List (Update Policy Entity) → Type 0
 IsMessageOf schema bytes us = IsMessage (λ id. ReadsPolicy schema) (ReadsEntity schema) schema.label bytes us
 
--- they are none, and this is the first fault
+-- `IsMessageFaultOf schema bytes f` holds if `f` is the first error of `bytes` as such a message.
 abbrev pub IsMessageFaultOf : StatedSchema → List ℕ → MessageFault → Type 0
 IsMessageFaultOf schema bytes f = IsMessageFault (λ id. ReadsPolicy schema) (ReadsEntity schema)
     (λ id. RefusesPolicy schema) (RefusesEntity schema) schema.label bytes f

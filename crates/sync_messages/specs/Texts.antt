@@ -1,8 +1,8 @@
--- What the text that a store has under a name may be read as under a schema, and for what it is refused.
--- Sources: Cedar reference guide 4.0, "Policy validation" and "Entities and context: JSON format". Rules of this
--- product: a policy's text is that of a policy that passes the validator; an entity's is the one canonical text of an
--- entity that the schema allows, and is kept under that entity's uid. No store occurs in this, so no order of arrival
--- matters.
+-- Defines what a text of a store is parsed as under a schema, and with which error it is rejected.
+-- Sources: Cedar reference guide 4.0, "Policy validation" and "Entities and context: JSON format".
+-- Rules of this product: a policy's text must be that of a policy that passes validation; an entity's must be the one
+-- canonical text of an entity that the schema allows, under that entity's uid. This does not depend on a store, so
+-- the order of arrival does not matter.
 use Rattle.std.specs.Prelude.{◌≡◌, ℕ, List, Result, Ok, Err}
 use Rattle.std.specs.Str.{bytes_eq}
 use Rattle.json_words.specs.ReadsAs.{◌>>=◌, or_fault, demand}
@@ -25,14 +25,15 @@ use Rattle.validator.specs.Passing.{Passes, IsCheckRefused}
 use Rattle.message_format.specs.declared.bodies.BodyFault.{BodyFault}
 use Rattle.message_format.specs.declared.bodies.BodyFault.TheVariants.{Refused, OtherName}
 
--- ---- policies: their id is no matter, whatever `@id` a text has
+-- ---- policies: an id does not matter, whatever `@id` a text has
 
--- the text is that of this policy, which passes
+-- `ReadsPolicy s text p` holds if `text` is the text of the policy `p`, which passes validation under `s`.
 pub record ReadsPolicy (s : StatedSchema) (text : List ℕ) (p : Policy) : Type 0 where
   pub is_text : IsPolicyText text p
   pub passes : Passes s p
 
--- the text is no policy's, or that of one that does not pass: told by the number of its fault
+-- `RefusesPolicy s text f` holds if `text` is not a policy's, or is that of a policy that does not pass; `f` has the
+-- code of its error.
 pub data RefusesPolicy (s : StatedSchema) (text : List ℕ) : BodyFault → Type 0 where
   no_policy : (f : ReadFault) → IsPolicyRefused text f → RefusesPolicy s text (Refused (grammar.code_of f))
   not_passing : (p : Policy) (f : TypeFault) → IsPolicyText text p → IsCheckRefused s p f
@@ -40,13 +41,13 @@ pub data RefusesPolicy (s : StatedSchema) (text : List ℕ) : BodyFault → Type
 
 -- ---- entities
 
--- an entity, or its fault by number
+-- `refused_by r` is the entity of `r`, or its error by code.
 abbrev pub refused_by : Result Entity EntityFault → Result Entity BodyFault
 refused_by (Ok e) = Ok e
 refused_by (Err f) = Err (Refused (entities.code_of f))
 
--- The entity whose canonical text this is, which is of this uid: 30 where it is no JSON, 57 where another text is the
--- canonical one.
+-- `entity_of_text s uid text` is the entity with the canonical text `text`, whose uid is `uid`; or the first error:
+-- 30 if `text` is not JSON, the entity's error, 57 if its canonical text is another one, `OtherName` if its uid is.
 unfoldable pub entity_of_text : StatedSchema → EntityUid → List ℕ → Result Entity BodyFault
 entity_of_text s uid text = do
   json ← or_fault (Refused 30) (json_of text)
@@ -55,8 +56,10 @@ entity_of_text s uid text = do
   named ← demand OtherName (is_same e.uid uid)
   Ok e
 
+-- `ReadsEntity s uid text e` holds if `text` is the canonical text of the entity `e`, whose uid is `uid`.
 abbrev pub ReadsEntity : StatedSchema → EntityUid → List ℕ → Entity → Type 0
 ReadsEntity s uid text e = entity_of_text s uid text ≡ Ok e
 
+-- `RefusesEntity s uid text f` holds if `f` is the first error of `text` as that of the entity `uid`.
 abbrev pub RefusesEntity : StatedSchema → EntityUid → List ℕ → BodyFault → Type 0
 RefusesEntity s uid text f = entity_of_text s uid text ≡ Err f

@@ -1,11 +1,11 @@
-//! Laws of the definitions, by the contract of a function that does nothing.
+//! Theorems about the definitions; their functions do nothing.
 ghost use Rattle.sync_messages.specs.Laws.{PoliciesHaveOneReading, EntitiesHaveOneReading};
 ghost use Rattle.sync_messages.specs.Laws.{PoliciesHaveNoOtherName, CanonicalTextsAreRead};
 
 use validator::policies_have_one_outcome;
 
-/// Proves that under a schema each text is that of one policy that passes, or refused for one fault, and never both;
-/// and so of entities, under each uid.
+/// Proves that under a schema each text is parsed as one policy that passes validation or rejected with one error,
+/// and never both; and likewise for entities, under each uid. No policy's text is rejected as of another name. No-op.
 pub fn stored_texts_have_one_reading()
     ensures policies { PoliciesHaveOneReading }
     ensures entities { EntitiesHaveOneReading }
@@ -15,8 +15,8 @@ pub fn stored_texts_have_one_reading()
     policies_have_one_outcome();
 }
 
-/// Proves that what is written of an entity which was read from bytes is read again as that entity, under the same
-/// schema.
+/// Proves the round trip of entities: the canonical text of an entity that was read from bytes is read as that
+/// entity, under the same schema and its uid. No-op.
 pub fn canonical_texts_are_read()
     ensures { CanonicalTextsAreRead }
 {

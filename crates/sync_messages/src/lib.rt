@@ -1,5 +1,6 @@
-//! What the texts of a store are read as under a schema: policies that pass the validator, and entities in their
-//! canonical text. A message's bodies and a site's commands are judged by this alone.
+//! The texts of a store under a schema: policies that pass validation, and entities in their canonical text.
+//!
+//! The bodies of messages and the commands of a site are checked by this alone.
 #![tactic(auto)]
 
 mod laws;
@@ -8,7 +9,7 @@ mod texts;
 
 pub use laws::{canonical_texts_are_read, stored_texts_have_one_reading};
 pub use message_format::{
-    MessageFault, PolicyStore, Summary, Update, messages_have_one_outcome, messages_read_back,
+    MessageFault, StampedStore, Summary, Update, messages_have_one_outcome, messages_read_back,
     names_read_back, read_message, read_summary, summaries_read_back, updates_have_one_store,
     valid_messages_are_read, write_delta, write_state, write_summary,
 };
@@ -16,6 +17,6 @@ pub use messages::read_updates;
 pub use texts::SchemaTexts;
 pub use validator::{
     Entity, Schema, TypeFault, action_types_are_told, bytes_have_one_outcome, check,
-    entities_read_back, json_texts_are_utf8, parents_tell_ancestors, passing_policies_go_right,
+    entities_read_back, json_texts_are_utf8, parents_tell_ancestors, passing_policies_are_sound,
     policies_have_one_outcome,
 };

@@ -1,4 +1,4 @@
-//! Messages of a schema, read with all that their texts are read as.
+//! Reads the messages of a schema.
 ghost use Rattle.std.specs.Prelude.{IfOk, IfErr};
 ghost use Rattle.plain.specs.Refused.{OrNoMemory};
 ghost use Rattle.message_format.specs.declared.fault.MessageFault.TheVariants as MessageFault;
@@ -10,8 +10,12 @@ use message_format::{MessageFault, Policy, Update, read_message};
 use std::alloc::Global;
 use validator::{Entity, Schema};
 
-/// Returns the updates of a message of a schema, a state or a delta, in their order, each with what its text was read
-/// as; or the first fault, as [`read_message`] tells it.
+/// Reads a message of a schema, a state or a delta; returns its updates in their order, each text parsed under the
+/// schema.
+///
+/// # Errors
+///
+/// As [`read_message`]: the first error of the message, or `NoMemory` (1).
 pub fn read_updates(
     alloc: Global,
     schema: &Schema,

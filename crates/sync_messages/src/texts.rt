@@ -1,4 +1,4 @@
-//! Texts of policies and of entities, read under a schema.
+//! Parses texts of policies and of entities under a schema.
 ghost use Rattle.std.specs.Prelude.{◌≡◌, ◌≢◌, ℕ, List, IfOk, IfErr, MatchResult, Ok, Err};
 ghost use Rattle.std.specs.Str.{bytes_eq};
 ghost use Rattle.serde_json.specs.View.{view};
@@ -24,7 +24,7 @@ use std::alloc::Global;
 use validator::{Entity, EntityFault, Schema, TypeFault, canonical_text, check, read_entity};
 use values::EntityUid;
 
-/// What texts are read as under a schema. Contracts see what the schema states.
+/// The parser of texts under a schema. Contracts see what the schema states.
 #[derive(Clone, Copy)]
 pub struct SchemaTexts<'a> {
     /// The schema.
@@ -32,7 +32,7 @@ pub struct SchemaTexts<'a> {
 }
 
 impl<'a> SchemaTexts<'a> {
-    /// Texts under this schema. Takes no memory.
+    /// Creates the parser of texts under this schema. Does not allocate.
     pub fn under(schema: &'a Schema) -> Self
         ensures { result.schema.now ≡ schema.now }
     {
@@ -49,7 +49,7 @@ impl Readings<Policy, Entity> for SchemaTexts<'_> {
     ghost reads_entity = { λ t uid text e. ReadsEntity (schema_view t.schema.now) uid text e };
 }
 
-/// Returns the fault of a text that is no policy's, by its number.
+/// Returns the error of a text that is not a policy's, by its code.
 fn grammar_fault(fault: ReadFault) -> BodyFault
     ensures memory { fault ≡ ReadFault.NoMemory → result ≡ BodyFault.NoMemory }
     ensures refused { fault ≢ ReadFault.NoMemory → result ≡ BodyFault.Refused (grammar.code_of fault) }
@@ -60,7 +60,7 @@ fn grammar_fault(fault: ReadFault) -> BodyFault
     }
 }
 
-/// Returns the fault of a policy that does not pass, by its number.
+/// Returns the error of a policy that does not pass validation, by its code.
 fn validation_fault(fault: TypeFault) -> BodyFault
     ensures memory { fault ≡ TypeFault.NoMemory → result ≡ BodyFault.NoMemory }
     ensures refused { fault ≢ TypeFault.NoMemory → result ≡ BodyFault.Refused (validation.code_of fault) }
@@ -71,7 +71,7 @@ fn validation_fault(fault: TypeFault) -> BodyFault
     }
 }
 
-/// Returns the policy that a text is, whether it passes or not.
+/// Parses a policy, whether it passes validation or not.
 fn policy_in(alloc: Global, text: &str) -> Result<Policy, BodyFault>
     ensures read { IfOk result (IsPolicyText text.now) }
     ensures refused { IfErr result (λ f. (s : StatedSchema)
@@ -83,7 +83,7 @@ fn policy_in(alloc: Global, text: &str) -> Result<Policy, BodyFault>
     }
 }
 
-/// Checks that the policy of a text passes.
+/// Checks that the policy passes validation.
 fn demand_passing(alloc: Global, schema: &Schema, policy: &Policy) -> Result<(), BodyFault>
     ensures passes { IfOk result (λ _. Passes (schema_view schema.now) policy.now) }
     ensures refused { IfErr result (λ f. (text : List ℕ) → IsPolicyText text policy.now
@@ -95,7 +95,7 @@ fn demand_passing(alloc: Global, schema: &Schema, policy: &Policy) -> Result<(),
     }
 }
 
-/// Returns what goes on to be kept, or the fault for which it does not.
+/// Returns the policy, or the error for which it does not pass.
 fn where_passing<P: Drop>(policy: P, passing: Result<(), BodyFault>) -> Result<P, BodyFault>
     ensures { MatchResult passing (λ _. result ≡ Ok policy) (λ f. result ≡ Err f) }
 {
@@ -105,7 +105,7 @@ fn where_passing<P: Drop>(policy: P, passing: Result<(), BodyFault>) -> Result<P
     }
 }
 
-/// Returns the policy that a text is, where it passes.
+/// Parses a policy that passes validation.
 fn passing_policy(alloc: Global, schema: &Schema, text: &str) -> Result<Policy, BodyFault>
     ensures read { IfOk result (ReadsPolicy (schema_view schema.now) text.now) }
     ensures refused { IfErr result (OrNoMemory BodyFault.NoMemory (RefusesPolicy (schema_view schema.now) text.now)) }
@@ -119,7 +119,7 @@ fn passing_policy(alloc: Global, schema: &Schema, text: &str) -> Result<Policy, 
     }
 }
 
-/// Returns the JSON of a text.
+/// Parses the JSON of a text.
 fn json_in(alloc: Global, scratch: &mut Scratch, text: &str) -> Result<Value, BodyFault>
     ensures { ReadsAs BodyFault.NoMemory view result (or_fault (BodyFault.Refused 30) (json_of text.now)) }
 {
@@ -129,7 +129,7 @@ fn json_in(alloc: Global, scratch: &mut Scratch, text: &str) -> Result<Value, Bo
     }
 }
 
-/// Returns the entity that JSON states, or its fault by number.
+/// Returns the entity that JSON states, or its error by its code.
 fn allowed_entity(alloc: Global, schema: &Schema, json: &Value) -> Result<Entity, BodyFault>
     ensures { ReadsAs BodyFault.NoMemory (λ e. e) result
         (refused_by (entity_stated_in (schema_view schema.now) (view json.now))) }
@@ -141,7 +141,7 @@ fn allowed_entity(alloc: Global, schema: &Schema, json: &Value) -> Result<Entity
     }
 }
 
-/// Checks that a text is the canonical one of an entity.
+/// Checks that a text is the canonical text of an entity.
 fn demand_canonical(alloc: Global, entity: &Entity, text: &str) -> Result<(), BodyFault>
     ensures { ReadsAs BodyFault.NoMemory (λ u. u) result
         (demand (BodyFault.Refused 57) (bytes_eq (canonical_text entity.now) text.now)) }
@@ -154,7 +154,7 @@ fn demand_canonical(alloc: Global, entity: &Entity, text: &str) -> Result<(), Bo
     }
 }
 
-/// Checks that an entity is of this uid.
+/// Checks that an entity has this uid.
 fn demand_uid(entity: &Entity, uid: &EntityUid) -> Result<(), BodyFault>
     ensures { AlwaysReadsAs (λ u. u) result (demand BodyFault.OtherName (is_same entity.now.uid uid.now)) }
 {
@@ -165,7 +165,7 @@ fn demand_uid(entity: &Entity, uid: &EntityUid) -> Result<(), BodyFault>
     }
 }
 
-/// Returns the entity whose canonical text this is.
+/// Parses the canonical text of the entity with this uid.
 #[tactic(auto, unfolding(crate::specs::Texts::entity_of_text))]
 fn canonical_entity(
     alloc: Global,

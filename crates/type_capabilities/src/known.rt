@@ -17,7 +17,7 @@ use std::marker::Model;
 /// A pair is found by one look-up in an ordered map. What is taken away stays behind the top, so that it takes no time,
 /// and neither memory nor a look-up to put the same pairs again.
 #[derive(Drop)]
-pub struct Known<'a> {
+pub struct Capabilities<'a> {
     /// The pairs, and behind them some that were taken away.
     stack: Vec<Pair<'a>>,
     height: usize,
@@ -25,7 +25,7 @@ pub struct Known<'a> {
     places: BTreeMap<Pair<'a>, usize>,
 }
 
-impl<'a> Model for Known<'a> {
+impl<'a> Model for Capabilities<'a> {
     ghost use Rattle.std.specs.Prelude.{◌≤◌, List, take, length};
     ghost use Rattle.type_capabilities.specs.Pairs.{PairValue, pairs};
     ghost use Rattle.type_capabilities.specs.Stacks.{AreFound, place_of};
@@ -117,12 +117,12 @@ fn put<'a>(
     put_new(stack, places, pair)
 }
 
-impl<'a> Known<'a> {
+impl<'a> Capabilities<'a> {
     /// Returns the empty stack; takes no memory.
-    pub fn new(alloc: Global) -> Known<'a>
+    pub fn new(alloc: Global) -> Capabilities<'a>
         ensures { result ≡ [] }
     {
-        Known {
+        Capabilities {
             stack: Vec::new(alloc),
             height: 0,
             places: BTreeMap::new(alloc),

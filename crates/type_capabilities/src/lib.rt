@@ -11,6 +11,6 @@ mod leaves;
 mod pair;
 
 pub use compared::compare;
-pub use known::Known;
+pub use known::Capabilities;
 pub use laws::pairs_are_ordered;
 pub use pair::Pair;

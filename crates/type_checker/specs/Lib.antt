@@ -9,5 +9,6 @@ pub use Rattle.entities.specs.policy_grammar
 pub use Rattle.entities.specs.schema
 pub use Rattle.schema_types.specs as schema_types
 pub use Rattle.typing.specs as typing
+pub use Rattle.type_capabilities.specs as type_capabilities
 pub use Rattle.typing.specs.ancestor_search
 pub use Rattle.typing.specs.evaluator

@@ -27,7 +27,7 @@ use crate::typed::{Typed, plain, typed_row};
 use grammar_core::{Binary, BinaryCall, Expr, Named, Unary, UnaryCall};
 use plain::NoMemory;
 use std::alloc::Global;
-use type_capabilities::{Known, Pair};
+use type_capabilities::{Capabilities, Pair};
 
 /// Returns an operator with its operand.
 pub(crate) fn unary_typed<'a>(
@@ -113,7 +113,7 @@ pub(crate) fn unary_call_typed<'a>(
 pub(crate) fn field_typed<'a>(
     alloc: Global,
     env: TypingEnvironment<'a>,
-    known: &Known<'a>,
+    known: &Capabilities<'a>,
     owner: &'a Expr,
     name: &'a str,
     typed: Result<Typed<'a>, ExpressionFault>,
@@ -184,7 +184,7 @@ fn has_row<'a>(
 pub(crate) fn has_typed<'a>(
     alloc: Global,
     env: TypingEnvironment<'a>,
-    known: &Known<'a>,
+    known: &Capabilities<'a>,
     owner: &'a Expr,
     name: &'a str,
     typed: Result<Typed<'a>, ExpressionFault>,

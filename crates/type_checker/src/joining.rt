@@ -19,10 +19,13 @@ use crate::static_type::{BooleanType, StaticType};
 use crate::typed::Typed;
 use grammar_core::Expr;
 use std::alloc::Global;
-use type_capabilities::Known;
+use type_capabilities::Capabilities;
 
 /// Returns which type of booleans a left of `&&` has; what it learns is put on top of what is known.
-fn known_left<'a>(known: &mut Known<'a>, typed: &Typed<'a>) -> Result<BooleanType, ExpressionFault>
+fn known_left<'a>(
+    known: &mut Capabilities<'a>,
+    typed: &Typed<'a>,
+) -> Result<BooleanType, ExpressionFault>
     ensures { MatchResult result
         (λ b. (static_view typed.now.kind ≡ boolean_view b)
         × (known.new ≡ known.old ++ pairs typed.now.learns.items))
@@ -43,7 +46,7 @@ pub(crate) fn left_type<'a>(
     alloc: Global,
     env: TypingEnvironment<'a>,
     left: &'a Expr,
-    known: &mut Known<'a>,
+    known: &mut Capabilities<'a>,
 ) -> Result<BooleanType, ExpressionFault>
     ensures { let E = typing_environment env.entry in MatchResult result
         (λ b. (L : Pairs) × Types E known.old left.entry.now (boolean_view b) L

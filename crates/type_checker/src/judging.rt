@@ -25,7 +25,7 @@ use crate::typed::{Then, Typed, both, is_looked_at, learned_too, only, plain, tr
 use grammar_core::{Binary, BinaryCall, Expr, Named};
 use plain::{Items, Shared};
 use std::alloc::Global;
-use type_capabilities::{Known, Pair};
+use type_capabilities::{Capabilities, Pair};
 
 /// Returns what is judged of an expression where these pairs are known. They are a stack, which is as it was wherever
 /// there is a type.
@@ -34,7 +34,7 @@ pub(crate) fn type_of<'a>(
     alloc: Global,
     expr: &'a Expr,
     env: TypingEnvironment<'a>,
-    known: &mut Known<'a>,
+    known: &mut Capabilities<'a>,
 ) -> Result<Typed<'a>, ExpressionFault>
     ensures { Judged (typing_environment env.entry) known.old expr.entry.now result known.new }
 {
@@ -86,7 +86,7 @@ fn type_behind<'a>(
     alloc: Global,
     expr: &'a Shared<Expr>,
     env: TypingEnvironment<'a>,
-    known: &mut Known<'a>,
+    known: &mut Capabilities<'a>,
     learns: Vec<Pair<'a>>,
 ) -> Result<Typed<'a>, ExpressionFault>
     ensures { JudgedBehind (typing_environment env.entry) known.old (pairs learns.entry.items)
@@ -111,7 +111,7 @@ fn type_and<'a>(
     left: &'a Shared<Expr>,
     right: &'a Shared<Expr>,
     env: TypingEnvironment<'a>,
-    known: &mut Known<'a>,
+    known: &mut Capabilities<'a>,
 ) -> Result<Typed<'a>, ExpressionFault>
     ensures { Judged (typing_environment env.entry) known.old (form.And left.entry.now right.entry.now) result
         known.new }
@@ -141,7 +141,7 @@ fn type_or<'a>(
     left: &'a Shared<Expr>,
     right: &'a Shared<Expr>,
     env: TypingEnvironment<'a>,
-    known: &mut Known<'a>,
+    known: &mut Capabilities<'a>,
 ) -> Result<Typed<'a>, ExpressionFault>
     ensures { Judged (typing_environment env.entry) known.old (form.Or left.entry.now right.entry.now) result
         known.new }
@@ -159,7 +159,7 @@ fn type_binary<'a>(
     left: &'a Shared<Expr>,
     right: &'a Shared<Expr>,
     env: TypingEnvironment<'a>,
-    known: &mut Known<'a>,
+    known: &mut Capabilities<'a>,
 ) -> Result<Typed<'a>, ExpressionFault>
     ensures { Judged (typing_environment env.entry) known.old
         (form.Binary operator left.entry.now right.entry.now) result known.new }
@@ -180,7 +180,7 @@ fn second_conjunct<'a>(
     alloc: Global,
     right: &'a Shared<Expr>,
     env: TypingEnvironment<'a>,
-    known: &mut Known<'a>,
+    known: &mut Capabilities<'a>,
     left: Result<Typed<'a>, ExpressionFault>,
 ) -> Result<Typed<'a>, ExpressionFault>
     ensures { let E = typing_environment env.entry in (K : Pairs) (a : Expr) → Judged E K a left.entry known.old
@@ -212,7 +212,7 @@ fn second_disjunct<'a>(
     alloc: Global,
     right: &'a Shared<Expr>,
     env: TypingEnvironment<'a>,
-    known: &mut Known<'a>,
+    known: &mut Capabilities<'a>,
     left: Result<Typed<'a>, ExpressionFault>,
 ) -> Result<Typed<'a>, ExpressionFault>
     ensures { let E = typing_environment env.entry in (K : Pairs) (a : Expr) → Judged E K a left.entry known.old
@@ -250,7 +250,7 @@ fn type_then<'a>(
     alloc: Global,
     consequent: &'a Shared<Expr>,
     env: TypingEnvironment<'a>,
-    known: &mut Known<'a>,
+    known: &mut Capabilities<'a>,
     test: Result<Typed<'a>, ExpressionFault>,
 ) -> Result<Then<'a>, ExpressionFault>
     ensures { let E = typing_environment env.entry in (K : Pairs) (a : Expr) → Judged E K a test.entry known.old
@@ -286,7 +286,7 @@ fn type_else<'a>(
     alloc: Global,
     alternative: &'a Shared<Expr>,
     env: TypingEnvironment<'a>,
-    known: &mut Known<'a>,
+    known: &mut Capabilities<'a>,
     then: Result<Then<'a>, ExpressionFault>,
 ) -> Result<Typed<'a>, ExpressionFault>
     ensures { let E = typing_environment env.entry in
@@ -311,7 +311,7 @@ fn second_operand<'a>(
     alloc: Global,
     right: &'a Shared<Expr>,
     env: TypingEnvironment<'a>,
-    known: &mut Known<'a>,
+    known: &mut Capabilities<'a>,
     operator: Binary,
     left: Result<Typed<'a>, ExpressionFault>,
 ) -> Result<Typed<'a>, ExpressionFault>
@@ -335,7 +335,7 @@ fn second_called<'a>(
     alloc: Global,
     right: &'a Shared<Expr>,
     env: TypingEnvironment<'a>,
-    known: &mut Known<'a>,
+    known: &mut Capabilities<'a>,
     called: BinaryCall,
     left: Result<Typed<'a>, ExpressionFault>,
 ) -> Result<Typed<'a>, ExpressionFault>
@@ -358,7 +358,7 @@ fn types_of<'a>(
     alloc: Global,
     exprs: &'a Items<Expr>,
     env: TypingEnvironment<'a>,
-    known: &mut Known<'a>,
+    known: &mut Capabilities<'a>,
 ) -> Result<Vec<StaticType<'a>>, ExpressionFault>
     ensures { JudgedMembers (typing_environment env.entry) known.old exprs.entry.now result known.new }
 {
@@ -385,7 +385,7 @@ fn types_of_fields<'a>(
     alloc: Global,
     fields: &'a Items<Named<Expr>>,
     env: TypingEnvironment<'a>,
-    known: &mut Known<'a>,
+    known: &mut Capabilities<'a>,
 ) -> Result<Vec<StaticType<'a>>, ExpressionFault>
     ensures { JudgedEach (typing_environment env.entry) known.old
         (map (λ f. f.value) fields.entry.now) result known.new }

@@ -1,4 +1,4 @@
-//! Known pairs, as typing puts them and asks for them.
+//! Capabilities, as typing puts them and asks for them.
 ghost use Rattle.std.specs.Prelude.{◌≡◌, ◌↔◌, ◌∷◌, [], ◌++◌, IsTrue, IfOk, Contains};
 ghost use Rattle.typing.specs.Learned.{Pairs, InBoth};
 ghost use Rattle.type_capabilities.specs.Pairs.{pair_of, pairs};
@@ -6,17 +6,21 @@ ghost use Rattle.type_capabilities.specs.Pairs.{pair_of, pairs};
 use grammar_core::Expr;
 use plain::NoMemory;
 use std::alloc::Global;
-use type_capabilities::{Known, Pair};
+use type_capabilities::{Capabilities, Pair};
 
 /// Returns whether the pair is known.
-pub(crate) fn knows<'a>(known: &Known<'a>, whole: &'a Expr, name: &'a str) -> bool
+pub(crate) fn knows<'a>(known: &Capabilities<'a>, whole: &'a Expr, name: &'a str) -> bool
     ensures { IsTrue result ↔ Contains known.now (whole.entry.now, name.entry.now) }
 {
     known.knows(&Pair { whole, name })
 }
 
 /// Puts the pair behind those of both lists, where it is one of the second.
-fn keep<'a>(both: &mut Vec<Pair<'a>>, pair: Pair<'a>, right: &Known<'a>) -> Result<(), NoMemory>
+fn keep<'a>(
+    both: &mut Vec<Pair<'a>>,
+    pair: Pair<'a>,
+    right: &Capabilities<'a>,
+) -> Result<(), NoMemory>
     ensures { (L : Pairs) → InBoth L right.now (pairs both.old.items)
         → IfOk result (λ _. InBoth (L ++ pair_of pair.entry ∷ []) right.now (pairs both.new.items)) }
 {
@@ -31,7 +35,7 @@ fn keep<'a>(both: &mut Vec<Pair<'a>>, pair: Pair<'a>, right: &Known<'a>) -> Resu
 fn known_of<'a>(
     alloc: Global,
     these: &[Pair<'a>],
-    known: &Known<'a>,
+    known: &Capabilities<'a>,
 ) -> Result<Vec<Pair<'a>>, NoMemory>
     ensures { IfOk result (λ both. InBoth (pairs these.now) known.now (pairs both.items)) }
 {
@@ -43,10 +47,10 @@ fn known_of<'a>(
 }
 
 /// Returns the pairs as a stack, where one look-up finds a pair.
-fn stacked<'a>(alloc: Global, these: &[Pair<'a>]) -> Result<Known<'a>, NoMemory>
+pub(crate) fn stacked<'a>(alloc: Global, these: &[Pair<'a>]) -> Result<Capabilities<'a>, NoMemory>
     ensures { IfOk result (λ known. known ≡ pairs these.now) }
 {
-    let mut known = Known::new(alloc);
+    let mut known = Capabilities::new(alloc);
     known.push_all(these)?;
     Ok(known)
 }
@@ -75,7 +79,10 @@ pub(crate) fn in_both_lists<'a>(
 }
 
 /// Puts what is learned on top of what is known.
-pub(crate) fn know_too<'a>(known: &mut Known<'a>, learns: &Vec<Pair<'a>>) -> Result<(), NoMemory>
+pub(crate) fn know_too<'a>(
+    known: &mut Capabilities<'a>,
+    learns: &Vec<Pair<'a>>,
+) -> Result<(), NoMemory>
     ensures { IfOk result (λ _. known.new ≡ known.old ++ pairs learns.now.items) }
 {
     known.push_all(learns.as_slice())?;

@@ -3,6 +3,7 @@
 #![tactic(auto)]
 
 mod asking;
+mod behind;
 mod branching;
 mod calls;
 mod common_types;
@@ -25,6 +26,7 @@ mod type_joins;
 mod typed;
 mod whole;
 
+pub use behind::judge_behind;
 pub use common_types::common;
 pub use entities::{
     ActionScope, Entity, EntityFault, EntityScope, Environment, Policy, Schema, SchemaFault, Scope,
@@ -39,7 +41,9 @@ pub use laws::environments_are_well_behaved;
 pub use literal_types::{literal_type, record_literal_type, set_literal_type};
 pub use operators::{address_test_type, binary_type, call_type, unary_type};
 pub use static_type::{BooleanType, Leaf, StaticType};
+pub use type_capabilities::Pair;
+pub use typed::Typed;
 pub use typing::{
-    expressions_have_one_judgement, parents_tell_ancestors, typed_expressions_go_right,
+    expressions_have_one_judgement, parents_tell_ancestors, typed_expressions_are_sound,
 };
 pub use whole::judge_all;

@@ -13,9 +13,11 @@ use type_capabilities::Pair;
 
 /// The type of an expression, and what it learns.
 #[derive(Drop)]
-pub(crate) struct Typed<'a> {
-    pub(crate) kind: StaticType<'a>,
-    pub(crate) learns: Vec<Pair<'a>>,
+pub struct Typed<'a> {
+    /// Its type.
+    pub kind: StaticType<'a>,
+    /// The pairs that are known where it is true.
+    pub learns: Vec<Pair<'a>>,
 }
 
 /// What an `if` has come to behind its `then`.

@@ -14,7 +14,7 @@ use crate::static_type::{BooleanType, StaticType};
 use crate::typed::is_looked_at;
 use grammar_core::Expr;
 use std::alloc::Global;
-use type_capabilities::Known;
+use type_capabilities::Capabilities;
 
 /// Returns the type of expressions that are joined by `&&`, to the right, the last of them by itself, as `a && (b &&
 /// last)`, in an environment where no field is known to be there; else why they have none: the fault of the first
@@ -39,7 +39,7 @@ pub fn judge_all<'a>(
     ensures faulty { IfErr result (λ f. f ≢ ExpressionFault.NoMemory
         → Faults (typing_environment env.entry) [] (joined parts.entry.now last.entry.now) (fault_view f)) }
 {
-    let mut known = Known::new(alloc);
+    let mut known = Capabilities::new(alloc);
     let mut so_far = None;
     for part in parts {
         match left_type(alloc, env, part, &mut known) {

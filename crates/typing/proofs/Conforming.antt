@@ -15,7 +15,7 @@ use Rattle.evaluator.specs.grammar_core.declared.leaf.Variable.TheVariants as va
 use Rattle.evaluator.specs.grammar_core.declared.operator.Binary.TheVariants as binary
 use Rattle.evaluator.specs.grammar_core.declared.expr.Expr.{Expr}
 use Rattle.evaluator.specs.grammar_core.declared.expr.Expr.TheVariants as form
-use Rattle.evaluator.specs.ancestor_search.Hierarchy.{Path, Above}
+use Rattle.evaluator.specs.ancestor_search.Hierarchy.{Path, IsAncestor}
 use Rattle.typing.specs.Types
 use Rattle.typing.specs.Types.{StaticType, declared_as, field_declared_at}
 use Rattle.typing.specs.Membership
@@ -108,7 +108,7 @@ path_is_edge : (u : EntityUid) (through : List EntityUid) (a : EntityUid) → Pa
 path_is_edge u [] a p = edge u a p
 path_is_edge u (c ∷ cs) a p = absurd (no_path c (top_has_none u c (edge u c p.0)) cs a p.1)
 
-above_is_edge : (u a : EntityUid) → Above parents a u → IsEdge u a
+above_is_edge : (u a : EntityUid) → IsAncestor parents a u → IsEdge u a
 above_is_edge u a p = path_is_edge u p.0 a p.1
 
 more_parents : (a : EntityUid) (b c : Bool) → Contains (if b then readers ∷ [] else []) a

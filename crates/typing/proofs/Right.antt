@@ -33,7 +33,7 @@ use Rattle.typing.specs.Rows
 use Rattle.typing.specs.Rows.{Row}
 use Rattle.typing.specs.Typing
 use Rattle.typing.specs.Typing.{Types, TypesEach}
-use Rattle.typing.specs.Conforming.{Conforms, IsHarmless, Fits, IsPresent, ArePresent, GoesRight}
+use Rattle.typing.specs.Conforming.{Conforms, IsPermittedError, Fits, IsPresent, ArePresent, IsSoundOutcome}
 use Rattle.std.proofs.lemmas.List.Elements.{Contains-append_cases}
 use Rattle.plain.proofs.Members.{Contains-cases, Contains-none}
 use Rattle.typing.proofs.Alike.{both_members}
@@ -86,7 +86,7 @@ module _ (env : Environment) (W : World) (q : Request) (C : Conforms env W q) (o
   Present K = ArePresent W q K
 
   abbrev Right : StaticType → Pairs → EvaluationResult → Type 0
-  Right t L r = GoesRight W q t L r
+  Right t L r = IsSoundOutcome W q t L r
 
   -- whatever the expression gives goes right
   abbrev Goes : Expr → StaticType → Pairs → Type 0
@@ -121,14 +121,14 @@ module _ (env : Environment) (W : World) (q : Request) (C : Conforms env W q) (o
   learns_nothing : {t : StaticType} {r : EvaluationResult} → Fits t r → Right t [] r
   learns_nothing h = record { fits = h; learned = λ e. nothing }
 
-  harmless : {t : StaticType} {L : Pairs} {e : EvalFault} → IsHarmless e → Right t L (Err e)
+  harmless : {t : StaticType} {L : Pairs} {e : EvalFault} → IsPermittedError e → Right t L (Err e)
   harmless h = record { fits = h; learned = λ e. never e }
 
   is_false : {t : StaticType} {L : Pairs} → Of (boolean false) t → Right t L (Ok (boolean false))
   is_false h = record { fits = h; learned = λ e. not_true e }
 
   -- a test that fails errs harmlessly
-  test_fails : {a : Expr} {s : StaticType} {L : Pairs} {e : EvalFault} → IsBoolean s → Goes a s L → TestFails W q a e → IsHarmless e
+  test_fails : {a : Expr} {s : StaticType} {L : Pairs} {e : EvalFault} → IsBoolean s → Goes a s L → TestFails W q a e → IsPermittedError e
   test_fails i f (rule.test_errs g) = (f _ g).fits
   test_fails i f (rule.no_boolean g n) = no_test i (f _ g).fits n
 
@@ -234,7 +234,7 @@ module _ (env : Environment) (W : World) (q : Request) (C : Conforms env W q) (o
 
   EachFit : List StaticType → Result (List PlainValue) EvalFault → Type 0
   EachFit ts (Ok vs) = AllOf vs ts
-  EachFit ts (Err e) = IsHarmless e
+  EachFit ts (Err e) = IsPermittedError e
 
   set_of_row : (o : Option StaticType) (r : EvaluationResult) → ((u : StaticType) → o ≡ Some u → Fits (Types.set_type u) r) → FitsRow (Rows.set_of_common o) r
   set_of_row None r f = tt

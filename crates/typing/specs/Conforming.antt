@@ -8,7 +8,7 @@ use Rattle.values.specs.declared.entity_uid.EntityUid.{EntityUid}
 use Rattle.values.specs.declared.request.Request.{Request}
 use Rattle.values.specs.Fields.{Field}
 use Rattle.values.specs.Values.{boolean, record_of, fields_of}
-use Rattle.evaluator.specs.ancestor_search.Hierarchy.{Above, IsAllAbove}
+use Rattle.evaluator.specs.ancestor_search.Hierarchy.{IsAncestor, IsAllAbove}
 use Rattle.evaluator.specs.grammar_core.declared.expr.Expr.TheVariants as form
 use Rattle.evaluator.specs.declared.fault.EvalFault.{EvalFault}
 use Rattle.evaluator.specs.declared.fault.EvalFault.TheVariants.{EntityDoesNotExist, ArithBoundsError}
@@ -32,18 +32,18 @@ pub record Conforms (env : Environment) (W : World) (q : Request) : Type 0 where
       → Of (record_of (fields_of fs)) (record_type (env.attributes u.type_name))
   pub actions : (u : EntityUid) → IsTrue (env.is_action_type u.type_name)
       → IsAllAbove W.parents u (env.action_ancestors u)
-  pub ancestors : (u a : EntityUid) → IsFalse (env.is_action_type u.type_name) → Above W.parents a u
+  pub ancestors : (u a : EntityUid) → IsFalse (env.is_action_type u.type_name) → IsAncestor W.parents a u
       → IsTrue (env.may_be_below u.type_name a.type_name)
 
 -- the two errors that are left: an entity that is not stored, and a number that leaves its bounds
-pub data IsHarmless : EvalFault → Type 0 where
-  entity_is_missing : IsHarmless EntityDoesNotExist
-  number_out_of_bounds : IsHarmless ArithBoundsError
+pub data IsPermittedError : EvalFault → Type 0 where
+  entity_is_missing : IsPermittedError EntityDoesNotExist
+  number_out_of_bounds : IsPermittedError ArithBoundsError
 
 -- a value of the type, or one of these errors
 abbrev pub Fits : StaticType → EvaluationResult → Type 0
 Fits t (Ok v) = Of v t
-Fits t (Err e) = IsHarmless e
+Fits t (Err e) = IsPermittedError e
 
 -- the expression has the field
 abbrev pub IsPresent : World → Request → Pair → Type 0
@@ -53,6 +53,6 @@ pub record ArePresent (W : World) (q : Request) (K : Pairs) : Type 0 where
   pub each : (p : Pair) → Contains K p → IsPresent W q p
 
 -- what an expression of type t gives that learns the pairs of L
-pub record GoesRight (W : World) (q : Request) (t : StaticType) (L : Pairs) (r : EvaluationResult) : Type 0 where
+pub record IsSoundOutcome (W : World) (q : Request) (t : StaticType) (L : Pairs) (r : EvaluationResult) : Type 0 where
   pub fits : Fits t r
   pub learned : r ≡ Ok (boolean true) → ArePresent W q L

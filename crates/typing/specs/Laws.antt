@@ -3,7 +3,7 @@ use Rattle.std.specs.Prelude.{◌≡◌, ◌≢◌, ℕ, List, [], ◌∷◌, Co
 use Rattle.values.specs.declared.entity_uid.EntityUid.{EntityUid}
 use Rattle.values.specs.declared.request.Request.{Request}
 use Rattle.values.specs.Values.{boolean}
-use Rattle.evaluator.specs.ancestor_search.Hierarchy.{Parents, Above}
+use Rattle.evaluator.specs.ancestor_search.Hierarchy.{Parents, IsAncestor}
 use Rattle.evaluator.specs.ancestor_search.Decided.{Decides, HaveAllParents}
 use Rattle.evaluator.specs.grammar_core.declared.expr.Expr.{Expr}
 use Rattle.evaluator.specs.grammar_core.declared.expr.Expr.TheVariants as form
@@ -18,7 +18,7 @@ use Rattle.typing.specs.Typing.{Types}
 use Rattle.typing.specs.Faults.{Faults}
 use Rattle.typing.specs.Judgement.{Judgement, Judges}
 use Rattle.typing.specs.Example.{environment, world, request, parents, alice, view, age_of_principal, has_age, is_aged}
-use Rattle.typing.specs.Conforming.{Conforms, Fits, ArePresent, GoesRight}
+use Rattle.typing.specs.Conforming.{Conforms, Fits, ArePresent, IsSoundOutcome}
 
 -- whatever is known, each expression has exactly one judgement: a type with what it learns, or a fault
 abbrev pub HaveOneJudgement : Type 0
@@ -47,7 +47,7 @@ TypesAreOrdered = (env : Environment) → HasOrderedTypes env → (K L : Pairs) 
 -- value of t or one of two errors, and where it is true each pair that is learned is present.
 abbrev pub GoRightIn : World → Type 0
 GoRightIn W = (env : Environment) (q : Request) → Conforms env W q → (K L : Pairs) (x : Expr) (t : StaticType)
-    → ArePresent W q K → Types env K x t L → (r : EvaluationResult) → EvaluatesTo W q x r → GoesRight W q t L r
+    → ArePresent W q K → Types env K x t L → (r : EvaluationResult) → EvaluatesTo W q x r → IsSoundOutcome W q t L r
 
 -- So it is where a test decides who is above whom,
 abbrev pub TypedGoesRight : Type 0
@@ -89,5 +89,6 @@ ParentsAreAllowed env parents = (u p : EntityUid) → IsFalse (env.is_action_typ
 -- That the ancestors of entities conform can be told of each entity's parents.
 abbrev pub ParentsTellAncestors : Type 0
 ParentsTellAncestors = (env : Environment) (parents : Parents) → IsTransitive env.may_be_below
-    → ParentsAreAllowed env parents → (u a : EntityUid) → IsFalse (env.is_action_type u.type_name) → Above parents a u
+    → ParentsAreAllowed env parents → (u a : EntityUid) → IsFalse (env.is_action_type u.type_name)
+    → IsAncestor parents a u
     → IsTrue (env.may_be_below u.type_name a.type_name)

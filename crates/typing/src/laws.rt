@@ -24,7 +24,7 @@ pub fn types_are_ordered()
 /// expression gives a value of its type, or errs because an entity is not stored or a number leaves its bounds; and
 /// where it gives true, each pair that it learns is present. So a policy's condition that is typed as a boolean gives
 /// one or errs so, and is never true where its type is False.
-pub fn typed_expressions_go_right()
+pub fn typed_expressions_are_sound()
     ensures decided { TypedGoesRight }
     ensures finite { TypedGoesRightInFiniteHierarchies }
     ensures policies { PoliciesGoRight }

@@ -6,5 +6,5 @@ mod laws;
 
 pub use laws::{
     expressions_have_one_judgement, known_pairs_are_a_set, parents_tell_ancestors,
-    something_conforms, typed_expressions_go_right, types_are_ordered,
+    something_conforms, typed_expressions_are_sound, types_are_ordered,
 };

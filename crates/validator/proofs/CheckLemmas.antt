@@ -1,4 +1,4 @@
--- What the environments come to in turn, and a policy by its names and its environments.
+-- The result of the environments in turn, and that of a policy by its names and its environments.
 use Rattle.std.specs.Prelude.{◌≡◌, ◌≢◌, ℕ, ◌+◌, ◌<◌, ◌≤◌, ◌&&◌, List, [], ◌∷◌, map, length, drop, get_or, Bool, true}
 use Rattle.std.specs.Prelude.{false, Result, Ok, Err, refl}
 use Rattle.std.proofs.Common.{sym, ap, ◌∙◌, subst, suc, drop-cons, add-one}

@@ -1,57 +1,27 @@
--- Whether some action has a type, looked for by halves.
+-- Binary search finds whether some action has a type.
 use Rattle.std.proofs.Common.{◌≡◌, ◌∙◌, ◌⊎◌, inl, inr, ℕ, zero, suc, ◌<◌, ◌≤◌, arith, Bool, true, false, List, [], ◌∷◌}
 use Rattle.std.proofs.Common.{length, get_or, Option, Some, None, slice_get, refl, sym, ap, subst, ◌||◌}
 use Rattle.std.specs.List.{AllByRecursion, list_any}
 use Rattle.std.specs.List.Sorted.{IsStrictlySortedBy, IsPartitionedBy, IsPartitionPoint}
 use Rattle.std.specs.Str.{bytes_eq}
 use Rattle.std.specs.Ordering.{ordering_index, ordering_then, is_eq, is_lt}
-use Rattle.std.specs.Cmp.{alike_right}
 use Rattle.std.specs.declared.cmp.Ordering.{Ordering}
 use Rattle.std.specs.declared.cmp.Ordering.TheVariants.{Less, Equal, Greater}
 use Rattle.std.proofs.lemmas.Bool.{or_right}
 use Rattle.std.proofs.lemmas.Map.Text.{is_eq-slice_cmp}
+use Rattle.values.proofs.Halves.{lt_only, not_above, top_only, rises, less_then}
 use Rattle.values.specs.declared.entity_uid.EntityUid.{EntityUid}
 use Rattle.values.specs.Names.{uid_cmp, text_cmp, text_cmp-IsTotalOrder, text_cmp-IsAntisymmetric}
 use Rattle.type_checker.specs.ancestor_search.Hierarchy.{IsAscending}
 use Rattle.validator.specs.inner.Walking.{type_at}
 
-lt_only : (o : Ordering) → is_lt o ≡ true → o ≡ Less
-lt_only Less h = refl
-lt_only Equal h = absurd (cc)
-lt_only Greater h = absurd (cc)
-
-not_above : (o : Ordering) → ordering_index o ≤ 0 → is_lt o ≡ true
-not_above Less h = refl
-not_above Equal h = let no : ⊥ = omega (arith, h) in absurd no
-not_above Greater h = let no : ⊥ = omega (arith, h) in absurd no
-
-top_only : (o : Ordering) → 2 ≤ ordering_index o → o ≡ Greater
-top_only Less h = let no : ⊥ = omega (arith, h) in absurd no
-top_only Equal h = let no : ⊥ = omega (arith, h) in absurd no
-top_only Greater h = refl
-
-at_most : (o : Ordering) → ordering_index o ≤ 2
-at_most Less = omega arith
-at_most Equal = omega arith
-at_most Greater = omega arith
-
-less_then : (r s : Ordering) → ordering_then r s ≡ Less → (r ≡ Less) ⊎ (r ≡ Equal)
-less_then Less s h = inl refl
-less_then Equal s h = inr refl
-less_then Greater s h = absurd (cc)
-
 -- how an action's type compares with a name
 abbrev pub against : List ℕ → EntityUid → Ordering
 against n u = text_cmp u.type_name n
 
-below : (a b n : List ℕ) → text_cmp a b ≡ Less → (r : Ordering) → text_cmp b n ≡ r → ordering_index (text_cmp a n) ≤ ordering_index r
-below a b n lt Less e = rw (text_cmp-IsTotalOrder.trans a b n lt e) (omega arith)
-below a b n lt Equal e = rw (sym (alike_right text_cmp-IsTotalOrder b n a e) ∙ lt) (omega arith)
-below a b n lt Greater e = at_most (text_cmp a n)
-
-rises : (n : List ℕ) (u v : EntityUid) → uid_cmp u v ≡ Less → ordering_index (against n u) ≤ ordering_index (against n v)
-rises n u v lt = elim (less_then (text_cmp u.type_name v.type_name) _ lt) [
-  | inl less ↦ below u.type_name v.type_name n less (text_cmp v.type_name n) refl
+against_rises : (n : List ℕ) (u v : EntityUid) → uid_cmp u v ≡ Less → ordering_index (against n u) ≤ ordering_index (against n v)
+against_rises n u v lt = elim (less_then (text_cmp u.type_name v.type_name) _ lt) [
+  | inl less ↦ rises text_cmp-IsTotalOrder u.type_name v.type_name n less (text_cmp v.type_name n) refl
   | inr tied ↦ subst (λ (t : List ℕ). ordering_index (text_cmp u.type_name n) ≤ ordering_index (text_cmp t n)) (text_cmp-IsAntisymmetric u.type_name v.type_name tied) (omega arith)
 ]
 
@@ -68,7 +38,7 @@ ascends : (n : List ℕ) (us : List EntityUid) → IsAscending us → Ascends n 
 unfolding IsStrictlySortedBy
 ascends n [] s i j d le lt = let no : ⊥ = omega (arith, lt) in absurd no
 ascends n (x ∷ xs) s zero zero d le lt = omega arith
-ascends n (x ∷ xs) s zero (suc j) d le lt = rises n x (get_or xs j d) (later x xs j d s.0 (omega (arith, lt)))
+ascends n (x ∷ xs) s zero (suc j) d le lt = against_rises n x (get_or xs j d) (later x xs j d s.0 (omega (arith, lt)))
 ascends n (x ∷ xs) s (suc i) zero d le lt = let no : ⊥ = omega (arith, le) in absurd no
 ascends n (x ∷ xs) s (suc i) (suc j) d le lt = ascends n xs s.1 i j d (omega (arith, le)) (omega (arith, lt))
 

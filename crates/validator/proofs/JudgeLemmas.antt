@@ -1,4 +1,4 @@
--- What judging a policy in parts says of it, in one environment.
+-- The result of typing a policy's parts is that of typing its expression, in one environment.
 use Rattle.std.specs.Prelude.{◌≡◌, ◌≢◌, List, [], Bool, Result, Ok, Err, IfOk, IfErr, refl}
 use Rattle.std.specs.Bool.{Decides}
 use Rattle.std.proofs.Common.{ap, ◌∙◌, subst, inl, inr}

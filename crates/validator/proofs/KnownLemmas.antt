@@ -1,4 +1,4 @@
--- Whether a schema knows a name is decided by the tests of the walk.
+-- The checks of the walk decide whether a schema declares a name.
 use Rattle.std.specs.Prelude.{◌≡◌, ℕ, List, [], ◌∷◌, Contains, All, IsTrue, IsFalse, is_some, ◌||◌, Bool, true, false}
 use Rattle.std.specs.Prelude.{if◌then◌else◌, Ok, Err, refl}
 use Rattle.std.specs.Bool.{Decides, one_answer}
@@ -56,7 +56,7 @@ type_of_action_holds s n = (
 
 -- ---- one name
 
--- what is told of a name, in the words of the definitions
+-- the result of checking a name, by the definitions
 abbrev pub ReportsName : StatedSchema → Name → WalkResult → Type 0
 ReportsName s n (Ok u) = IsKnown s n
 ReportsName s n (Err f) = IsUnknown s n f
@@ -105,7 +105,7 @@ pub name_tells : (s : StatedSchema) (n : Name) → ReportsName s n (name_told s 
 name_tells s (tested_type n) = tested_case s n (is_some (s.shape n)) (is_type_of_action s n) refl refl
 name_tells s (entity u) = entity_case s u (is_action_type u.type_name) refl
 
--- a name is refused for one cause
+-- a name has one error at most
 one_cause : (s : StatedSchema) (n : Name) (f g : TypeFault) → IsUnknown s n f → IsUnknown s n g → f ≡ g
 one_cause s n f g (Unknown.unknown_tested_type m a b) (Unknown.unknown_tested_type l c d) = refl
 one_cause s n f g (Unknown.unknown_type u i a) (Unknown.unknown_type v j b) = refl
@@ -124,7 +124,7 @@ pub names_tell : (s : StatedSchema) (ns : List Name) → ReportsNames s ns (name
 names_tell s [] = All-nil (IsKnown s)
 names_tell s (n ∷ ns) = more_tell s n ns (name_told s n) (names_told s ns) (name_tells s n) (names_tell s ns)
 
--- the first that is refused is refused for one cause
+-- the first undeclared name has one error at most
 pub one_first : (s : StatedSchema) (ns : List Name) (f g : TypeFault) → FirstUnknown s ns f → FirstUnknown s ns g → f ≡ g
 one_first s [] f g h k = elim h [ ]
 one_first s (n ∷ ns) f g (Unknown.unknown_here h) (Unknown.unknown_here k) = one_cause s n f g h k
@@ -132,7 +132,7 @@ one_first s (n ∷ ns) f g (Unknown.unknown_here h) (Unknown.unknown_later k l) 
 one_first s (n ∷ ns) f g (Unknown.unknown_later h l) (Unknown.unknown_here k) = absurd (h g k)
 one_first s (n ∷ ns) f g (Unknown.unknown_later h l) (Unknown.unknown_later k m) = one_first s ns f g l m
 
--- where all are known none is refused
+-- if all names are declared, there is no first undeclared one
 pub none_first : (s : StatedSchema) (ns : List Name) (f : TypeFault) → All (IsKnown s) ns → FirstUnknown s ns f → ⊥
 none_first s [] f h k = elim k [ ]
 none_first s (n ∷ ns) f h (Unknown.unknown_here k) = All-head (IsKnown s) n ns h f k

@@ -4,5 +4,5 @@ pub mod JudgeLemmas
 pub mod KnownLemmas
 pub mod OutcomeLemmas
 pub mod WalkLemmas
--- crates below, passed on to those above
+-- Lemmas of lower crates, re-exported.
 pub use Rattle.grammar_core.proofs as of_grammar_core

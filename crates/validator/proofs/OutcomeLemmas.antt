@@ -1,4 +1,4 @@
--- Each policy has exactly one outcome, and one that passes does not go wrong.
+-- Each policy has exactly one outcome, and validation is sound.
 use Rattle.std.specs.Prelude.{◌≡◌, ◌⊎◌, List, [], ◌∷◌, ◌++◌, map, All, Bool, true, false, Ok, Err, refl}
 use Rattle.std.specs.Bool.{Decides, one_answer}
 use Rattle.std.proofs.Common.{sym, ap, ◌∙◌, subst, inl, inr}
@@ -55,7 +55,7 @@ and_boolean Rows.perhaps Types.is_true = Types.is_either
 and_boolean Rows.perhaps Types.is_false = Types.is_false
 and_boolean Rows.perhaps Types.is_either = Types.is_either
 
--- a boolean type, or a fault
+-- a boolean type, or an error
 abbrev pub IsTest : Environment → Expr → Type 0
 IsTest env x = HasBooleanType x env ⊎ ((n : ExpressionFault) × Faults env [] x n)
 
@@ -127,7 +127,7 @@ module _ (one : HaveOneJudgement) (x : Expr) where
   none_faulty (env ∷ envs) n h (Passing.faulty_here g) = not_both env n (All-head (HasBooleanType x) env envs h) g
   none_faulty (env ∷ envs) n h (Passing.faulty_later g k) = none_faulty envs n (All-tail (HasBooleanType x) env envs h) k
 
-  -- what the environments come to
+  -- the result of the environments in turn
   AreTyped : List Environment → Type 0
   AreTyped envs = (b : Bool) × All (HasBooleanType x) envs × Decides b (All (HasType x false_type) envs)
 
@@ -229,8 +229,8 @@ no_environment_is_impossible s policy e h = record {
 
 -- ---- what passes goes right
 
-pub passing_policies_go_right : HaveOneJudgement → PoliciesGoRight → PassingPoliciesGoRight
-passing_policies_go_right one right s policy passes W above D env m q C r g =
+pub passing_policies_are_sound : HaveOneJudgement → PoliciesGoRight → PassingPoliciesGoRight
+passing_policies_are_sound one right s policy passes W above D env m q C r g =
     let h = All-contains (HasBooleanType (expression_of policy)) (environments_of s) env passes.typed m in
     let k = right W above D env q C (expression_of policy) h.0 h.2.0 h.1 h.2.1 r g in (
       k.0,

@@ -1,4 +1,4 @@
--- The walk over an expression comes to what its names come to, one after the other.
+-- The result of walking over an expression is that of checking its names in turn.
 use Rattle.std.specs.Prelude.{◌≡◌, List, [], ◌∷◌, ◌++◌, map, Ok, Err, refl}
 use Rattle.std.proofs.Common.{sym, ap, ◌∙◌}
 use Rattle.grammar_core.proofs.Forms.{Every, Cases, by_forms, fold_literal, fold_variable, fold_if, fold_and, fold_or}

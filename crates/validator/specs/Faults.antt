@@ -1,4 +1,5 @@
--- The refusals by number, which are a rule of this product, and those of typing among them.
+-- Defines the codes of the validator's errors, which are a rule of this product, and which of them are errors of
+-- typing.
 use Rattle.std.specs.Prelude.{ℕ}
 use Rattle.type_checker.specs.typing.Environment as typing
 use Rattle.type_checker.specs.declared.fault.ExpressionFault.{ExpressionFault}
@@ -8,6 +9,7 @@ use Rattle.validator.specs.declared.fault.TypeFault.TheVariants.{NoMemory, Unkno
 use Rattle.validator.specs.declared.fault.TypeFault.TheVariants.{NoCommonType, AttributeMayBeMissing, EmptySet}
 use Rattle.validator.specs.declared.fault.TypeFault.TheVariants.{BadExtensionLiteral}
 
+-- `code_of f` is the code of the error `f`.
 abbrev pub code_of : TypeFault → ℕ
 code_of NoMemory = 1
 code_of UnknownType = 40
@@ -18,7 +20,7 @@ code_of AttributeMayBeMissing = 44
 code_of EmptySet = 45
 code_of BadExtensionLiteral = 46
 
--- that an expression has no type
+-- `of_typing n` is the validator's error for the typing rules' error `n`.
 abbrev pub of_typing : typing.ExpressionFault → TypeFault
 of_typing typing.unexpected = Unexpected
 of_typing typing.no_common_type = NoCommonType
@@ -26,7 +28,7 @@ of_typing typing.attribute_may_be_missing = AttributeMayBeMissing
 of_typing typing.empty_set = EmptySet
 of_typing typing.bad_extension_literal = BadExtensionLiteral
 
--- what typing tells
+-- `of_types f` is the validator's error for the type checker's error `f`.
 abbrev pub of_types : ExpressionFault → TypeFault
 of_types found.NoMemory = NoMemory
 of_types found.Unexpected = Unexpected

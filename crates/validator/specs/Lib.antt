@@ -4,7 +4,7 @@ pub mod Unknown
 pub mod Passing
 pub mod Outcomes
 pub mod inner
--- crates below, passed on to those above
+-- Specifications of lower crates, re-exported.
 pub use Rattle.grammar_core.specs as grammar_core
 pub use Rattle.type_checker.specs as type_checker
 pub use Rattle.type_checker.specs.schema

@@ -1,8 +1,8 @@
--- The names of entity types and of entities that stand in a policy, in the order of its text.
+-- Defines the names in a policy: entity types and entity literals, in the order of its text.
 -- Source: Cedar reference guide 4.0, "Policy validation" and "Grammar specification for Cedar policy syntax".
--- A core expression keeps its operands in the order of the text, whatever was rewritten. Where an operand is written
--- out twice, as `e is T in f` is `e is T && e in f`, its names stand again behind T: so the first name of some kind is
--- the same here and in the text.
+-- Desugaring keeps operands in the order of the text. It may repeat an operand, as `e is T in f` is
+-- `e is T && e in f`: the names of `e` then occur again after T. So the first name of a kind is the same here and in
+-- the text.
 use Rattle.std.specs.Prelude.{ℕ, List, [], ◌∷◌, ◌++◌}
 use Rattle.values.specs.declared.entity_uid.EntityUid.{EntityUid}
 use Rattle.grammar_core.specs.Size.{values_of}
@@ -16,26 +16,29 @@ use Rattle.grammar_core.specs.declared.expr.Expr.TheFolds.{fold-Expr}
 use Rattle.type_checker.specs.policy_grammar.declared.policy.Policy.{Policy}
 use Rattle.type_checker.specs.policy_grammar.Whole.{expression_of}
 
+-- A `Name` is a name in a policy that a schema has to declare.
 pub data Name : Type 0 where
-  -- the entity type behind `is`
+  -- `tested_type n`: the entity type `n` of an `is`
   tested_type : List ℕ → Name
-  -- an entity that is written out
+  -- `entity u`: the entity literal `u`
   entity : EntityUid → Name
 
+-- `literal_names l` is the list of names in the literal `l`.
 abbrev pub literal_names : Literal → List Name
 literal_names (literal.Entity u) = entity u ∷ []
 literal_names l = []
 
+-- `operator_names op` is the list of names in the unary operator `op`.
 abbrev pub operator_names : Unary → List Name
 operator_names (Is n) = tested_type n ∷ []
 operator_names op = []
 
--- those of several parts, one after the other
+-- `joined xs` is the concatenation of the lists `xs`.
 abbrev pub joined : List (List Name) → List Name
 joined [] = []
 joined (names ∷ rest) = names ++ joined rest
 
--- the names of a form over parts that have these
+-- `names_step form` is the list of names of an expression `form` whose operands have the names in it.
 abbrev pub names_step : Expr-F (List Name) → List Name
 names_step (Expr-F.Literal l) = literal_names l
 names_step (Expr-F.Variable x) = []
@@ -51,9 +54,11 @@ names_step (Expr-F.Record fs) = joined (values_of fs)
 names_step (Expr-F.UnaryCall called a) = a
 names_step (Expr-F.BinaryCall called a b) = a ++ b
 
+-- `names_in x` is the list of names in the expression `x`.
 abbrev pub names_in : Expr → List Name
 names_in = fold-Expr (List Name) names_step
 
--- those of the scope's three parts, and then those of the conditions
+-- `names_of policy` is the list of names in `policy`: those of its scope (principal, action, resource), then those of
+-- its conditions.
 abbrev pub names_of : Policy → List Name
 names_of policy = names_in (expression_of policy)

@@ -1,4 +1,4 @@
--- That each policy comes to exactly one thing under a schema, and what is true of one that passes.
+-- Defines the outcome of validating a policy: exactly one, and sound if the policy passes.
 use Rattle.std.specs.Prelude.{◌≡◌, ◌≢◌, Bool, true, [], All, Contains, Ok}
 use Rattle.values.specs.declared.entity_uid.EntityUid.{EntityUid}
 use Rattle.values.specs.declared.request.Request.{Request}
@@ -18,33 +18,34 @@ use Rattle.validator.specs.Names.{names_of}
 use Rattle.validator.specs.Unknown.{IsKnown}
 use Rattle.validator.specs.Passing.{environments_of, Passes, IsImpossible, IsVerdict, IsCheckRefused}
 
--- it passes, possible or impossible, or it is refused
+-- A `CheckResult` is `passes impossible`, or `refused f` for an error `f`.
 pub data CheckResult : Type 0 where
   passes : Bool → CheckResult
   refused : TypeFault → CheckResult
 
+-- `IsCheckResult s policy o` holds if `o` is an outcome of validating `policy` under `s`.
 abbrev pub IsCheckResult : StatedSchema → Policy → CheckResult → Type 0
 IsCheckResult s policy (passes impossible) = IsVerdict s policy impossible
 IsCheckResult s policy (refused f) = IsCheckRefused s policy f
 
--- exactly one of these, whatever schema and policy
+-- Each policy has exactly one outcome under each schema.
 abbrev pub PoliciesHaveOneOutcome : Type 0
 PoliciesHaveOneOutcome = (s : StatedSchema) (policy : Policy)
     → (o : CheckResult) × IsCheckResult s policy o × ((p : CheckResult) → IsCheckResult s policy p → p ≡ o)
 
--- what passes is not refused
+-- A policy that passes is not rejected.
 abbrev pub PassingIsNotRefused : Type 0
 PassingIsNotRefused = (s : StatedSchema) (policy : Policy) (f : TypeFault) → Passes s policy
     → IsCheckRefused s policy f → ⊥
 
--- where a schema has no environment, a policy all names of which are known passes, and is impossible
+-- If a schema has no environment, a policy whose names are all declared passes and is impossible.
 abbrev pub NoEnvironmentIsImpossible : Type 0
 NoEnvironmentIsImpossible = (s : StatedSchema) (policy : Policy) → s.environments ≡ []
     → All (IsKnown s) (names_of policy) → IsCheckResult s policy (passes true)
 
--- A policy that passes does not go wrong: where a request and the entities conform to an environment of the schema,
--- whatever its expression gives is a boolean, or an error because an entity is not stored or a number leaves its
--- bounds; and where the policy is impossible, it is never true.
+-- Validation is sound: if the request and the entities conform to an environment of the schema, each result of a
+-- passing policy's expression is a boolean, `EntityDoesNotExist` or `ArithBoundsError`; if the policy is impossible,
+-- it is never true.
 abbrev pub PassingPoliciesGoRight : Type 0
 PassingPoliciesGoRight = (s : StatedSchema) (policy : Policy) → Passes s policy
     → (W : World) (above : EntityUid → EntityUid → Bool) → hierarchy.Decides W.parents above

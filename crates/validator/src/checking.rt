@@ -1,4 +1,4 @@
-//! Whether a policy passes.
+//! Validation of a policy under a schema.
 ghost use Rattle.std.specs.Prelude.{◌≡◌, ◌≢◌, ◌&&◌, IfOk, IfErr, true};
 ghost use Rattle.type_checker.specs.policy_grammar.Whole.{expression_of};
 ghost use Rattle.type_checker.specs.schema.Views.{schema_view, environment_view};
@@ -18,21 +18,22 @@ use type_checker::{
     expressions_have_one_judgement, judge_all,
 };
 
-/// What is told of a policy that passes.
+/// The result of validating a policy that passes.
 #[derive(Clone, Copy, PartialEq, Eq)]
 pub struct Verdict {
-    /// It is False in each environment of the schema: no request that conforms satisfies it.
+    /// Whether the policy's type is False in each environment of the schema: then no conforming request satisfies it.
     pub impossible: bool,
 }
 
-/// Returns the three parts of a policy's scope, in order.
+/// Returns the expressions of a policy's scope: principal, action, resource.
 fn scope_of(alloc: Global, policy: &Policy) -> Result<Vec<Expr>, NoMemory>
     ensures { IfOk result (λ parts. parts.items ≡ scope_parts policy.now.scope) }
 {
     parts_of(alloc, policy.scope.get())
 }
 
-/// Returns the first name of a policy that the schema does not know: those of its scope, then those of its conditions.
+/// Checks that each name of a policy is declared, first those of its scope, then those of its conditions; returns the
+/// error of the first that is not.
 fn check_names(schema: &Schema, parts: &[Expr], policy: &Policy) -> Result<(), TypeFault>
     ensures { result ≡ parts_told (schema_view schema.now) parts.now policy.now.condition }
 {
@@ -41,7 +42,7 @@ fn check_names(schema: &Schema, parts: &[Expr], policy: &Policy) -> Result<(), T
     walk(schema, condition)
 }
 
-/// Returns whether the type that was found is False, or why none was found.
+/// Returns whether the found type is False, or the error for which there is no type.
 fn told<'a>(found: Result<StaticType<'a>, ExpressionFault>) -> Result<bool, TypeFault>
     ensures { ReportsFalse found.entry result }
 {
@@ -51,7 +52,7 @@ fn told<'a>(found: Result<StaticType<'a>, ExpressionFault>) -> Result<bool, Type
     }
 }
 
-/// Returns whether a policy is False in an environment, or why it has no type there.
+/// Returns whether a policy's type is False in an environment, or the error for which it has no type there.
 fn is_false_at(
     alloc: Global,
     schema: &Schema,
@@ -74,7 +75,7 @@ fn both(first: bool, second: bool) -> bool
     first && second
 }
 
-/// Returns whether a policy is False in each environment; the first environment that has a fault tells it.
+/// Returns whether a policy's type is False in each environment, or the error of the first environment that has one.
 fn is_false_everywhere(
     alloc: Global,
     schema: &Schema,
@@ -93,15 +94,23 @@ fn is_false_everywhere(
     Ok(all_false)
 }
 
-/// Returns whether a policy passes under a schema, and whether it can ever be true; or the first cause for which it
-/// does not pass.
+/// Validates a policy under a schema, in strict mode.
 ///
-/// Refused in this order: a name that is not declared (40, 41), the first in the order of the text, over the whole
-/// policy; then the first fault of typing (42 to 46), in the order of evaluation, in the first environment that has
-/// one: environments ascend by the action, the principal's type and the resource's. A policy that is False in each
-/// environment passes and is noted as impossible; a schema without environments makes each so whose names are known.
-/// `NoMemory` where an allocation was refused, and only then. Its stack grows with the height of the policy's
-/// expression.
+/// Returns whether the policy is impossible: its type is False in each environment of the schema. An impossible
+/// policy passes validation. If the schema has no environments, each policy whose names are all declared is
+/// impossible.
+///
+/// # Errors
+///
+/// The names of the whole policy are checked first, in the order of its text. Then its expression is typed in each
+/// environment: environments ascend by action, principal type and resource type. The first error is returned:
+///
+/// - `UnknownType` (40), `UnknownAction` (41): a name is not declared, also if its operand is never evaluated.
+/// - `Unexpected` (42), `NoCommonType` (43), `AttributeMayBeMissing` (44), `EmptySet` (45), `BadExtensionLiteral`
+///   (46): the first error of typing, in the order of evaluation, in the first environment that has one.
+/// - `NoMemory` (1): an allocation failed; possible at any point.
+///
+/// The stack grows with the height of the policy's expression.
 ///
 /// Source: Cedar reference guide, "Policy validation".
 #[tactic(auto, using(crate::proofs::CheckLemmas::name_refused, crate::proofs::CheckLemmas::type_refused))]

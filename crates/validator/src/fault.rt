@@ -1,4 +1,4 @@
-//! Why a policy is refused.
+//! The errors of validation.
 ghost use Rattle.std.specs.Prelude.{◌≡◌};
 ghost use Rattle.validator.specs.Faults.{code_of, of_types};
 ghost use Rattle.validator.specs.declared.fault.TypeFault.TheVariants.{NoMemory};
@@ -8,37 +8,37 @@ use std::alloc::AllocFailed;
 use thiserror::Error;
 use type_checker::ExpressionFault;
 
-/// The first cause for which a policy does not pass under a schema.
+/// The first error for which a policy does not pass validation under a schema.
 #[derive(Clone, Copy, PartialEq, Eq, Debug, Error)]
 pub enum TypeFault {
-    /// An allocation was refused.
+    /// An allocation failed.
     #[error("type 1: out of memory")]
     NoMemory,
-    /// An entity type is named that is not declared.
+    /// The policy names an entity type that is not declared.
     #[error("type 40: undeclared entity type")]
     UnknownType,
-    /// An entity of an action's type is named that is no declared action.
+    /// The policy names an entity of an action type that is not a declared action.
     #[error("type 41: undeclared action")]
     UnknownAction,
-    /// Another kind of type is needed.
+    /// An operand does not have the kind of type that its operator needs.
     #[error("type 42: operand of the wrong type")]
     Unexpected,
-    /// Types have no common type.
+    /// Operands that need a common type have none.
     #[error("type 43: types without a common type")]
     NoCommonType,
-    /// An attribute is asked for that is not declared, or that is optional and not known to be there.
+    /// An attribute is not declared, or it is optional and no capability shows that it is present.
     #[error("type 44: attribute undeclared, or optional and not known to be present")]
     AttributeMayBeMissing,
-    /// A set is written out that has no members.
+    /// A set literal has no elements.
     #[error("type 45: empty set literal; the type of its elements is unknown")]
     EmptySet,
-    /// `ip` or `decimal` has no string of its grammar written out.
+    /// The argument of `ip` or `decimal` is not a string literal of its grammar.
     #[error("type 46: ip or decimal without a valid string literal")]
     BadExtensionLiteral,
 }
 
 impl TypeFault {
-    /// Returns the number by which the refusal is told.
+    /// Returns the error's code.
     pub fn code(self) -> u8
         ensures { result ≡ code_of self }
     {

@@ -1,9 +1,11 @@
-//! Whether a schema knows a name.
-ghost use Rattle.std.specs.Prelude.{◌≡◌, is_some, slice_get};
+//! Whether a schema declares a name.
+ghost use Rattle.std.specs.Prelude.{◌≡◌, is_some, slice_get, MatchOption};
 ghost use Rattle.std.specs.Ordering.{is_lt};
 ghost use Rattle.values.specs.Names.{text_cmp};
 ghost use Rattle.type_checker.specs.schema.Views.{schema_view};
 ghost use Rattle.validator.specs.inner.Walking.{type_at, is_type_of_action, is_declared_action, tested_type_told};
+ghost use Rattle.validator.specs.Names.{entity, tested_type};
+ghost use Rattle.validator.specs.Unknown.{IsKnown, IsUnknown};
 ghost use Rattle.validator.specs.inner.Walking.{action_told, other_told, entity_told};
 
 use crate::fault::TypeFault;
@@ -19,14 +21,14 @@ fn is_entity_type(schema: &Schema, name: &TypeName) -> bool
     }
 }
 
-/// Returns whether an action's type comes before a name.
+/// Returns whether an action's type is less than a name.
 fn is_before(action: &EntityUid, name: &TypeName) -> bool
     ensures { result ≡ is_lt (text_cmp action.now.type_name name.now) }
 {
     action.type_name.cmp(name).is_lt()
 }
 
-/// Returns whether the action at a place of a list has a type.
+/// Returns whether there is an action at an index of a list, and it has a type.
 fn has_type_at(actions: &[EntityUid], at: usize, name: &TypeName) -> bool
     ensures { result ≡ type_at name.now (slice_get actions.now at) }
 {
@@ -36,7 +38,7 @@ fn has_type_at(actions: &[EntityUid], at: usize, name: &TypeName) -> bool
     }
 }
 
-/// Returns whether some action has this type; takes logarithmic time.
+/// Returns whether some action has this type. O(log n) comparisons of names.
 fn is_type_of_action(schema: &Schema, name: &TypeName) -> bool
     ensures { result ≡ is_type_of_action (schema_view schema.now) name.now }
 {
@@ -47,7 +49,7 @@ fn is_type_of_action(schema: &Schema, name: &TypeName) -> bool
     has_type_at(actions, first, name)
 }
 
-/// Looked up by its parents: just the declared actions have such.
+/// Returns whether an entity is a declared action. Looks up its parents: only declared actions have stated parents.
 fn is_declared_action(schema: &Schema, uid: &EntityUid) -> bool
     ensures { result ≡ is_declared_action (schema_view schema.now) uid.now }
 {
@@ -56,7 +58,7 @@ fn is_declared_action(schema: &Schema, uid: &EntityUid) -> bool
     schema.is_action(uid)
 }
 
-/// Returns a type behind `is`: an entity type, or the type of an action.
+/// Checks the type of an `is`: it is a declared entity type, or the type of a declared action.
 pub(crate) fn check_tested_type(schema: &Schema, name: &TypeName) -> Result<(), TypeFault>
     ensures { result ≡ tested_type_told (schema_view schema.now) name.now }
 {
@@ -84,7 +86,7 @@ fn check_other(schema: &Schema, uid: &EntityUid) -> Result<(), TypeFault>
     Err(TypeFault::UnknownType)
 }
 
-/// Returns an entity that is written out: a declared action, or one of a declared type.
+/// Checks an entity literal: it is a declared action, or its type is a declared entity type.
 pub(crate) fn check_entity(schema: &Schema, uid: &EntityUid) -> Result<(), TypeFault>
     ensures { result ≡ entity_told (schema_view schema.now) uid.now }
 {
@@ -92,4 +94,26 @@ pub(crate) fn check_entity(schema: &Schema, uid: &EntityUid) -> Result<(), TypeF
         return check_action(schema, uid);
     }
     check_other(schema, uid)
+}
+
+/// Returns why a schema does not know an entity that is written out, or `None` where it does. Does not allocate.
+pub fn unknown_entity(schema: &Schema, uid: &EntityUid) -> Option<TypeFault>
+    ensures { MatchOption result (IsKnown (schema_view schema.now) (entity uid.now))
+        (λ f. IsUnknown (schema_view schema.now) (entity uid.now) f) }
+{
+    match check_entity(schema, uid) {
+        Ok(()) => None,
+        Err(fault) => Some(fault),
+    }
+}
+
+/// Returns why a schema does not know a type behind `is`, or `None` where it does. Does not allocate.
+pub fn unknown_tested_type(schema: &Schema, name: &TypeName) -> Option<TypeFault>
+    ensures { MatchOption result (IsKnown (schema_view schema.now) (tested_type name.now))
+        (λ f. IsUnknown (schema_view schema.now) (tested_type name.now) f) }
+{
+    match check_tested_type(schema, name) {
+        Ok(()) => None,
+        Err(fault) => Some(fault),
+    }
 }

@@ -1,11 +1,12 @@
-//! Laws of the definitions; the functions do nothing.
+//! Theorems about the definitions; their functions do nothing.
 ghost use Rattle.validator.specs.Outcomes.{PoliciesHaveOneOutcome, NoEnvironmentIsImpossible};
 ghost use Rattle.validator.specs.Outcomes.{PassingIsNotRefused, PassingPoliciesGoRight};
 
-use type_checker::{expressions_have_one_judgement, typed_expressions_go_right};
+use type_checker::{expressions_have_one_judgement, typed_expressions_are_sound};
 
-/// Each policy has exactly one outcome under a schema: it passes, and is impossible or not, or it is refused for one
-/// cause. Where the schema has no environment, a policy all names of which are known passes, and is impossible.
+/// Proves that each policy has exactly one outcome under a schema: it passes, and is impossible or not, or it is
+/// rejected with one error. If the schema has no environment, a policy whose names are all declared passes and is
+/// impossible. No-op.
 pub fn policies_have_one_outcome()
     ensures one { PoliciesHaveOneOutcome }
     ensures apart { PassingIsNotRefused }
@@ -14,11 +15,11 @@ pub fn policies_have_one_outcome()
     expressions_have_one_judgement();
 }
 
-/// A policy that passes does not go wrong: on a request and entities that conform it gives a boolean, or errs because
-/// an entity is not stored or a number leaves its bounds; and one that is impossible is never true.
-pub fn passing_policies_go_right()
+/// Proves that validation is sound: on a request and entities that conform, a policy that passes gives a boolean,
+/// `EntityDoesNotExist` or `ArithBoundsError`; one that is impossible never gives true. No-op.
+pub fn passing_policies_are_sound()
     ensures { PassingPoliciesGoRight }
 {
     expressions_have_one_judgement();
-    typed_expressions_go_right();
+    typed_expressions_are_sound();
 }

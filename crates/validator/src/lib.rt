@@ -1,7 +1,8 @@
-//! The strict validator: whether a policy passes under a schema, whether it can never be true, or why it is refused.
+//! The strict validator of policies under a schema.
 //!
-//! Names are judged first: each entity type and each action that a policy names has to be declared. Then its expression
-//! is typed in each environment of the schema, as the Cedar reference guide's "Policy validation" says.
+//! [`check`] first checks the names: each entity type and each action that a policy names must be declared. Then it
+//! types the policy's expression in each environment of the schema, as the Cedar reference guide's "Policy
+//! validation" describes.
 #![tactic(auto)]
 
 mod checking;
@@ -13,7 +14,9 @@ mod walking;
 
 pub use checking::{Verdict, check};
 pub use fault::TypeFault;
-pub use laws::{passing_policies_go_right, policies_have_one_outcome};
+pub use known::{unknown_entity, unknown_tested_type};
+pub use laws::{passing_policies_are_sound, policies_have_one_outcome};
+pub use scope::expression_of;
 pub use type_checker::{
     Entity, EntityFault, Schema, SchemaFault, action_types_are_told, bytes_have_one_outcome,
     canonical_text, canonical_texts_are_read, entities_read_back, json_texts_are_utf8,

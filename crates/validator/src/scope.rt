@@ -1,12 +1,15 @@
-//! The expression of a policy's scope, part by part: what stands in it before the conditions.
+//! The core expressions of a policy's scope, which precede its conditions.
 ghost use Rattle.std.specs.Prelude.{◌≡◌, map, IfOk};
+ghost use Rattle.grammar_core.specs.declared.leaf.Variable.TheVariants.{Resource};
+ghost use Rattle.grammar_core.specs.declared.expr.Expr.TheVariants as form;
 ghost use Rattle.type_checker.specs.policy_grammar.Whole.{entity_literal, is_equal, is_in, entity_part, action_part};
+ghost use Rattle.type_checker.specs.policy_grammar.Whole.{expression_of};
 ghost use Rattle.validator.specs.inner.Checking.{scope_parts};
 
 use grammar_core::{Binary, Expr, Literal, Unary, Variable};
-use plain::{Items, NoMemory};
+use plain::{Items, NoMemory, Shared, beside};
 use std::alloc::Global;
-use type_checker::{ActionScope, EntityScope, Scope};
+use type_checker::{ActionScope, EntityScope, Policy, Scope};
 use values::{EntityUid, TypeName};
 
 fn entity_literal(uid: &EntityUid) -> Result<Expr, NoMemory>
@@ -49,7 +52,7 @@ fn of_type_within(
     Expr::is_in(alloc, Expr::Variable(variable), name, uid)
 }
 
-/// Returns what the scope asks of the principal or of the resource.
+/// Returns the expression of the scope's constraint on the principal or on the resource.
 fn entity_part(alloc: Global, variable: Variable, scope: &EntityScope) -> Result<Expr, NoMemory>
     ensures { IfOk result (λ x. x ≡ entity_part variable scope.now) }
 {
@@ -84,7 +87,7 @@ fn within_list(alloc: Global, uids: &Items<EntityUid>) -> Result<Expr, NoMemory>
     }
 }
 
-/// Returns what the scope asks of the action.
+/// Returns the expression of the scope's constraint on the action.
 fn action_part(alloc: Global, scope: &ActionScope) -> Result<Expr, NoMemory>
     ensures { IfOk result (λ x. x ≡ action_part scope.now) }
 {
@@ -96,7 +99,7 @@ fn action_part(alloc: Global, scope: &ActionScope) -> Result<Expr, NoMemory>
     }
 }
 
-/// Returns the three parts of a scope, in order.
+/// Returns the expressions of a scope: principal, action, resource.
 pub(crate) fn parts_of(alloc: Global, scope: &Scope) -> Result<Vec<Expr>, NoMemory>
     ensures { IfOk result (λ parts. parts.items ≡ scope_parts scope.now) }
 {
@@ -105,4 +108,50 @@ pub(crate) fn parts_of(alloc: Global, scope: &Scope) -> Result<Vec<Expr>, NoMemo
     parts.push(action_part(alloc, &scope.action)?)?;
     parts.push(entity_part(alloc, Variable::Resource, &scope.resource)?)?;
     Ok(parts)
+}
+
+/// Returns what is asked of the resource, and then the conditions.
+fn resource_and_condition(
+    alloc: Global,
+    scope: &Scope,
+    condition: &Shared<Expr>,
+) -> Result<Expr, NoMemory>
+    ensures { IfOk result (λ x. x ≡ form.And (entity_part Resource scope.now.resource) condition.now) }
+{
+    let resource = entity_part(alloc, Variable::Resource, &scope.resource)?;
+    let resource = Shared::new(alloc, resource)?;
+    let (resource, condition) = beside(resource, condition.share())?;
+    Ok(Expr::And(resource, condition))
+}
+
+/// Returns what is asked of the action, and then the others.
+fn behind_principal(
+    alloc: Global,
+    scope: &Scope,
+    condition: &Shared<Expr>,
+) -> Result<Expr, NoMemory>
+    ensures { IfOk result (λ x. x ≡ form.And (action_part scope.now.action)
+        (form.And (entity_part Resource scope.now.resource) condition.now)) }
+{
+    let rest = resource_and_condition(alloc, scope, condition)?;
+    let (rest, action) = beside(rest, action_part(alloc, &scope.action))?;
+    Expr::and(alloc, action, rest)
+}
+
+/// Returns the expression of a policy: its scope's three parts and its conditions, joined to the right. The conditions
+/// are shared with the policy, not copied.
+///
+/// # Errors
+///
+/// * `NoMemory`: an allocation failed.
+pub fn expression_of(alloc: Global, policy: &Policy) -> Result<Expr, NoMemory>
+    ensures { IfOk result (λ x. x ≡ expression_of policy.now) }
+{
+    let scope = policy.scope.get();
+    let rest = behind_principal(alloc, scope, &policy.condition)?;
+    let (rest, principal) = beside(
+        rest,
+        entity_part(alloc, Variable::Principal, &scope.principal),
+    )?;
+    Expr::and(alloc, principal, rest)
 }

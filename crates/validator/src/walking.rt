@@ -1,4 +1,4 @@
-//! The walk over the names of an expression, in the order of the text.
+//! Checks the names of an expression, in the order of the text.
 ghost use Rattle.std.specs.Prelude.{◌≡◌, map};
 ghost use Rattle.type_checker.specs.schema.Views.{schema_view};
 ghost use Rattle.validator.specs.inner.Walking.{in_turn, literal_told, operator_told, walk, named_walk};
@@ -28,8 +28,10 @@ fn check_operator(schema: &Schema, operator: &Unary) -> Result<(), TypeFault>
     }
 }
 
-/// Returns the first name of an expression that the schema does not know, whether or not the operand that it stands in
-/// is ever looked at. Takes no memory; its stack grows with the height of the expression.
+/// Checks that each name of an expression is declared, also in operands that are never evaluated; returns the error
+/// of the first that is not.
+///
+/// Does not allocate. The stack grows with the height of the expression.
 #[cycle(walk)]
 pub(crate) fn walk(schema: &Schema, expr: &Expr) -> Result<(), TypeFault>
     ensures { result ≡ walk (schema_view schema.now) expr.now }
@@ -70,7 +72,7 @@ pub(crate) fn walk(schema: &Schema, expr: &Expr) -> Result<(), TypeFault>
     }
 }
 
-/// Returns the first of several expressions in turn.
+/// Checks several expressions in turn; returns the first error.
 #[cycle(walk)]
 pub(crate) fn walk_each(schema: &Schema, exprs: &[Expr]) -> Result<(), TypeFault>
     ensures { result ≡ in_turn (map (walk (schema_view schema.now)) exprs.now) }

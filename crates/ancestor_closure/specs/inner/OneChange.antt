@@ -4,7 +4,7 @@ use Rattle.std.specs.declared.alloc.Global.{Global}
 use Rattle.std.specs.Ordering.{is_eq}
 use Rattle.values.specs.declared.entity_uid.EntityUid.{EntityUid}
 use Rattle.values.specs.Names.{uid_cmp}
-use Rattle.ancestor_search.specs.Hierarchy.{Parents, Above, IsAscending}
+use Rattle.ancestor_search.specs.Hierarchy.{Parents, IsAncestor, IsAscending}
 use Rattle.ancestor_closure.specs.Lists.{IsListOf}
 use Rattle.ancestor_closure.specs.declared.changing.Change.{Change}
 
@@ -56,7 +56,7 @@ pub record IsPlanned (parents : Parents) (uid : EntityUid) (ancestors children :
   pub before_ascends : IsAscending (ancestors uid) → IsAscending change.before.items
   pub after : (x : EntityUid) → Contains change.after.items x ↔ Contains (parents uid) x
   pub after_ascends : IsAscending change.after.items
-  pub entities : (q : EntityUid) → Contains change.entities.items q ↔ ((uid ≡ q) ⊎ Above children q uid)
+  pub entities : (q : EntityUid) → Contains change.entities.items q ↔ ((uid ≡ q) ⊎ IsAncestor children q uid)
   pub lists_of : firsts change.lists.items ≡ change.entities.items
   pub right : (q : EntityUid) (list : Vec EntityUid Global) → Contains change.lists.items (q, list) →
       IsListOf parents q list.items

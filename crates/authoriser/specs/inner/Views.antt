@@ -12,7 +12,7 @@ use Rattle.evaluator.specs.Operators.{World}
 use Rattle.evaluator.specs.Evaluation.{EvaluatesTo, TestFails}
 use Rattle.authoriser.specs.declared.answer.ErringPolicy.{ErringPolicy}
 use Rattle.authoriser.specs.declared.others.Other.{Other}
-use Rattle.authoriser.specs.declared.others.Others.{Others}
+use Rattle.authoriser.specs.declared.others.AncestorMemo.{AncestorMemo}
 use Rattle.authoriser.specs.declared.outcome.Outcome.{Outcome}
 use Rattle.authoriser.specs.declared.outcome.Outcome.TheVariants.{Satisfied, NotSatisfied, Errs}
 use Rattle.authoriser.specs.declared.outcome.PolicyError.{PolicyError}
@@ -74,11 +74,11 @@ pub record HasAllAbove (parents : Parents) (o : Other) : Type 0 where
   pub all : IsAllAbove parents o.uid (names o.ancestors.items)
   pub ascending : IsAscending (names o.ancestors.items)
 
-abbrev pub HaveAllAbove : Parents → Others → Type 0
+abbrev pub HaveAllAbove : Parents → AncestorMemo → Type 0
 HaveAllAbove parents others = All (HasAllAbove parents) others.kept.items
 
 -- what is known beside a world, of the three and of others, is what the world says
-pub record IsKnown (W : World) (q : Request) (s : RequestEntities) (others : Others) : Type 0 where
+pub record IsKnown (W : World) (q : Request) (s : RequestEntities) (others : AncestorMemo) : Type 0 where
   pub three : AreLookedUp W q s
   pub rest : HaveAllAbove W.parents others
 

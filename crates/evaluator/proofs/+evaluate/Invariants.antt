@@ -5,12 +5,12 @@ use Rattle.evaluator.proofs.+evaluate.Given as goal
 
 abbrev pub invariant-evaluating::evaluate_each-loop-expr : goal.invariant-evaluating::evaluate_each-loop-expr
 invariant-evaluating::evaluate_each-loop-expr g l =
-    let gives = meaning (g.L.Question.asked l.store) (decided_world (g.L.Lookup.stored l.store) (g.L.Ancestry.above l.store)) in
+    let gives = meaning (g.L.EvalEnv.asked l.store) (decided_world (g.L.Lookup.stored l.store) (g.L.Ancestry.above l.store)) in
     each (map gives l.exprs) ≡ and_then (each (map gives (drop l.expr-index l.exprs))) (λ rest. Ok (l.values.items ++ rest))
 
 abbrev pub invariant-evaluating::evaluate_fields-loop-field : goal.invariant-evaluating::evaluate_fields-loop-field
 invariant-evaluating::evaluate_fields-loop-field g l =
-    let gives = named_meaning (g.L.Question.asked l.store) (decided_world (g.L.Lookup.stored l.store) (g.L.Ancestry.above l.store)) in
+    let gives = named_meaning (g.L.EvalEnv.asked l.store) (decided_world (g.L.Lookup.stored l.store) (g.L.Ancestry.above l.store)) in
     each_field (map gives l.fields) [] ≡ each_field (map gives (drop l.field-index l.fields)) l.record
 
 -- What goes down two or three operands is as deep as the deepest of them.

@@ -4,12 +4,12 @@ use Rattle.std.specs.declared.alloc.Global.{Global}
 use denote.Ref.{MutBor}
 use Rattle.grammar_trees.specs.grammar_tokens.declared.cursor.Cursor.{Cursor}
 use Rattle.grammar_trees.specs.declared.tree.ExprTree.{ExprTree}
-use Rattle.grammar_trees.specs.grammar_tokens.declared.fault.Halt.{Halt}
+use Rattle.grammar_trees.specs.grammar_tokens.declared.fault.StopCause.{StopCause}
 use Rattle.grammar_trees.specs.grammar_tokens.ParsesTo.{ParsesTo}
 use Rattle.grammar_expressions.specs.ExpressionReading.{expr}
 
 pub record Nests (levels : ℕ) (pre : Global → MutBor Cursor → ℕ → Type 0)
-    (post : Global → MutBor Cursor → ℕ → Result ExprTree Halt → MutBor Cursor → Type 0) : Type 0 where
+    (post : Global → MutBor Cursor → ℕ → Result ExprTree StopCause → MutBor Cursor → Type 0) : Type 0 where
   pub callable : (alloc : Global) (old : MutBor Cursor) → pre alloc old levels
-  pub reads : (alloc : Global) (old new : MutBor Cursor) (r : Result ExprTree Halt) → post alloc old levels r new
+  pub reads : (alloc : Global) (old new : MutBor Cursor) (r : Result ExprTree StopCause) → post alloc old levels r new
       → ParsesTo (expr levels old.now.rest.now) r new.now.rest.now

@@ -1,7 +1,7 @@
 -- What becomes of one request, with the text that its reply is appended to.
 use Rattle.std.specs.Prelude.{◌≡◌, ◌⊎◌, ℕ, List, ◌++◌, Err}
 use Rattle.http.specs.declared.status.StatusCode.{StatusCode}
-use Rattle.http_replies.specs.site_steps.Seen.{Seen}
+use Rattle.http_replies.specs.site_steps.SiteViews.{SiteView}
 use Rattle.http_replies.specs.Replies.{IsReplyOrNoMemory}
 use Rattle.http_service.specs.Asked.{Asked}
 use Rattle.http_replies.specs.site_steps.declared.fault.SiteFault.TheVariants as fault
@@ -15,7 +15,7 @@ ReportsOrNoMemory reply status before after =
     (line : List ℕ) × (after ≡ before ++ line) × IsReplyOrNoMemory reply status line
 
 -- the reply to what was asked is appended, and the site goes on
-abbrev pub Deals : Seen → Asked → StatusCode → List ℕ → List ℕ → Seen → Type 0
+abbrev pub Deals : SiteView → Asked → StatusCode → List ℕ → List ℕ → SiteView → Type 0
 Deals old a status before after new =
     (line : List ℕ) × (after ≡ before ++ line) × Replies old a status line new
 

@@ -1,4 +1,4 @@
--- One walk over the names of a store and the stamps of a summary, both ascending.
+-- Defines one walk over the names of a store and the stamps of a summary, both ascending.
 use Rattle.std.specs.Prelude.{◌≡◌, ◌++◌, T, true, List}
 use Rattle.std.specs.List.{AllByRecursion}
 use Rattle.std.specs.Ordering.{is_le}
@@ -15,20 +15,21 @@ use Rattle.message_format.specs.Summaries.{ascend}
 use Rattle.entity_uids.specs.Tokens.{AppendsAll}
 use Rattle.message_format.specs.inner.Writing.{all_news_json}
 
--- `left` is what is left of stamps from this name on
+-- `IsFrom name known left` holds if `left` ascends, and has the stamps of `known` from `name` on.
 pub record IsFrom (name : Name) (known left : Summary) : Type 0 where
   pub ascending : ascend left ≡ true
   pub same : (q : Name) → is_le (name_cmp name q) ≡ true → value_at name_cmp left q ≡ value_at name_cmp known q
 
--- what is left of the stamps is enough for these updates, which ascend: each of their names has the stamp there that it
--- has among all
+-- `IsAhead left known us` holds if `left` and the names of `us` ascend, and each name of `us` has the stamp in `left`
+-- that it has in `known`.
 pub record IsAhead (left known : Summary) (us : List Update) : Type 0 where
   pub ascending : ascend left ≡ true
   pub sorted : T (is_sorted name_cmp us)
   pub same : AllByRecursion (λ u. value_at name_cmp left u.0 ≡ value_at name_cmp known u.0) us
 
--- of `all` entries, those `done` were walked over and `rest` is to come: what is news of the former was written behind
--- what was there before, and what is left of the stamps is enough for the latter and whatever comes next
+-- `IsWalked name known left before after all done rest` holds if, of the entries `all`, those of `done` that `known`
+-- lacks or has smaller were written after `before`, which gave `after`; and `left` suffices for `rest` and whatever
+-- comes next.
 abbrev pub IsWalked : {N P : Type 0} → (N → Name) → (known left : Summary) → (before after : Written)
     → (all done rest : List (N × Entry P)) → Type 0
 IsWalked name known left before after all done rest = (next : List Update)

@@ -1,14 +1,14 @@
 -- A site that takes a message before it serves.
 use Rattle.std.specs.Prelude.{◌≡◌, ℕ, List, ◌++◌}
-use Rattle.http_service.specs.policy_grammar.declared.policy.Policy.{Policy}
-use Rattle.http_service.specs.entity_data.declared.entity.Entity.{Entity}
+use Rattle.program_drills.specs.http_service.policy_grammar.declared.policy.Policy.{Policy}
+use Rattle.program_drills.specs.http_service.entity_data.declared.entity.Entity.{Entity}
 use Rattle.program_lines.specs.stamped_store.Store.{store_of, updates}
 use Rattle.state_exchanges.specs.message_format.declared.update.Update.{Update as SentUpdate}
 use Rattle.state_exchanges.specs.message_format.Updates.{plain_updates}
-use Rattle.site_loading.specs.site_steps.Seen.{Seen, schema_of, store_in, IsSameSite}
-use Rattle.http_service.specs.site_steps.sync_messages.Messages.{IsMessageOf}
+use Rattle.site_loading.specs.site_steps.SiteViews.{SiteView, schema_of, store_in, IsSameSite}
+use Rattle.program_drills.specs.http_service.site_steps.sync_messages.Messages.{IsMessageOf}
 
 -- all updates of the message are taken
-abbrev pub TakesState : Seen → List ℕ → Seen → Type 0
+abbrev pub TakesState : SiteView → List ℕ → SiteView → Type 0
 TakesState before bytes after = (us : List (SentUpdate Policy Entity)) × IsMessageOf (schema_of before) bytes us
     × (store_in after ≡ store_of (updates (store_in before) ++ plain_updates us)) × IsSameSite before after

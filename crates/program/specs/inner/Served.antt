@@ -2,7 +2,7 @@
 use Rattle.std.specs.Prelude.{◌≡◌, ℕ, zero, suc, Bool, true, false, List, [], ◌∷◌, ◌++◌, Some, Result, Ok, Err}
 use Rattle.state_exchanges.specs.http_devices.declared.devices.Source.{Ghosts as Source}
 use Rattle.state_exchanges.specs.http_devices.declared.devices.Sink.{Ghosts as Sink}
-use Rattle.site_loading.specs.site_steps.Seen.{Seen}
+use Rattle.site_loading.specs.site_steps.SiteViews.{SiteView}
 use Rattle.program.specs.declared.device.Link.{Link}
 use Rattle.program.specs.declared.device.NetworkFailed.{NetworkFailed}
 use Rattle.program.specs.declared.device.Stream.TheVariants.{Faults}
@@ -36,12 +36,13 @@ module _ {L : Type 0} where
 
 module _ {R W : Type 0} (reader : Source R) (writer : Sink W) where
   -- a connection was served, or none came
-  abbrev pub IsNextOrNone : List ℕ → Seen → Result (Unit {0}) NetworkFailed → List (Event (Link R W)) → Seen → Type 0
+  abbrev pub IsNextOrNone : List ℕ → SiteView → Result (Unit {0}) NetworkFailed → List (Event (Link R W))
+      → SiteView → Type 0
   IsNextOrNone address old (Ok done) events new = IsNextServed reader writer address old events new
   IsNextOrNone address old (Err failed) events new = IsGivenUp address events × (new ≡ old)
 
   -- so many were served, or fewer came
-  abbrev pub AreServedOrFewer : List ℕ → ℕ → Seen → Result (Unit {0}) NetworkFailed → List (Event (Link R W)) → Seen
-      → Type 0
+  abbrev pub AreServedOrFewer : List ℕ → ℕ → SiteView → Result (Unit {0}) NetworkFailed → List (Event (Link R W))
+      → SiteView → Type 0
   AreServedOrFewer address most old (Ok done) events new = AreServed reader writer address most old events new
   AreServedOrFewer address most old (Err failed) events new = AreCutShort reader writer address most old events new

@@ -1,7 +1,7 @@
 -- Lines, each with its end.
 use Rattle.std.specs.Prelude.{◌≡◌, ℕ, List, [], ◌∷◌, ◌++◌}
 use Rattle.std.specs.List.{AllZip}
-use Rattle.site.specs.declared.event.EventReply.{EventReply}
+use Rattle.http_service.specs.site.declared.event.EventReply.{EventReply}
 use Rattle.program_drills.specs.Lines.{line_end}
 use Rattle.program_drills.specs.Drills.{IsTold}
 

@@ -3,22 +3,22 @@ use Rattle.std.specs.Prelude.{◌≡◌, ◌≤◌, ℕ, List, ◌++◌, length,
 use Rattle.std.specs.List.{AllZip}
 use Rattle.serde_json.specs.Data.{Data}
 use Rattle.json_words.specs.Json.{json_of}
-use Rattle.site.specs.declared.event.Deed.{Deed}
-use Rattle.site.specs.declared.event.Event.{Event}
+use Rattle.http_service.specs.site.declared.event.Operation.{Operation}
+use Rattle.http_service.specs.site.declared.event.Event.{Event}
 use Rattle.program_drills.specs.declared.made.Made.{Made}
 use Rattle.program_drills.specs.Lines.{lines}
-use Rattle.program_drills.specs.Said.{Asked, Said, IsDeedOf, IsEventOf}
+use Rattle.program_drills.specs.ScriptLines.{Asked, ScriptLine, IsOperationOf, IsEventOf}
 use Rattle.program_drills.specs.Scripts.{said_from, script_of}
 
--- a deed of what is asked for, or none where nothing is
-abbrev pub IsReadAs : Option Asked → Option Deed → Type 0
+-- an operation of what is asked for, or none where nothing is
+abbrev pub IsReadAs : Option Asked → Option Operation → Type 0
 IsReadAs None None = Unit {0}
 IsReadAs None (Some d) = ⊥
 IsReadAs (Some asked) None = ⊥
-IsReadAs (Some asked) (Some d) = IsDeedOf asked d
+IsReadAs (Some asked) (Some d) = IsOperationOf asked d
 
 -- an event of what is said, or none where nothing is
-abbrev pub IsLineRead : Option Said → Option Event → Type 0
+abbrev pub IsLineRead : Option ScriptLine → Option Event → Type 0
 IsLineRead None None = Unit {0}
 IsLineRead None (Some e) = ⊥
 IsLineRead (Some said) None = ⊥
@@ -34,13 +34,13 @@ AreBytesOf (Some d) (Some bytes) = json_of bytes ≡ Some d
 -- ---- the whole script
 
 -- what was said before, in front of what is left
-abbrev pub onto : List Said → Result (List Said) ℕ → Result (List Said) ℕ
+abbrev pub onto : List ScriptLine → Result (List ScriptLine) ℕ → Result (List ScriptLine) ℕ
 onto said (Ok more) = Ok (said ++ more)
 onto said (Err place) = Err place
 
 -- the lines up to `rest` are read: they say these events, and make so much
 pub record IsReadUpTo (n : ℕ) (script : List ℕ) (made : Made) (rest : List ℕ) (events : List Event) : Type 0 where
-  pub said : List Said
+  pub said : List ScriptLine
   pub is : script_of n script ≡ onto said (said_from n made (length events) (lines rest))
   pub each : AllZip IsEventOf said events
   pub messages : made.messages ≤ length events

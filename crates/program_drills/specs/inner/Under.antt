@@ -1,7 +1,7 @@
 -- A script that is played under a schema that was read.
 use Rattle.std.specs.Prelude.{ℕ, List}
 use Rattle.schema_decisions.specs.schema.Schemas.{StatedSchema}
-use Rattle.site.specs.declared.event.Event.{Event}
+use Rattle.http_service.specs.site.declared.event.Event.{Event}
 use Rattle.program_drills.specs.Scripts.{AreEventsOf}
 use Rattle.program_drills.specs.Drills.{IsPlayedOut}
 

@@ -6,7 +6,7 @@ use Rattle.schema.specs.declared.spans.Span.{Span}
 use Rattle.schema.specs.Spans.{has_number}
 use Rattle.values.specs.declared.entity_uid.EntityUid.{EntityUid}
 use Rattle.values.specs.Names.{uid_cmp, text_cmp}
-use Rattle.ancestor_search.specs.Hierarchy.{Parents, Above, names}
+use Rattle.ancestor_search.specs.Hierarchy.{Parents, IsAncestor, names}
 use Rattle.schema_names.specs.Qualifying.{FoundEntityType}
 use Rattle.schema.specs.LookUps.{has_number_at}
 use Rattle.schema.specs.declared.numbering.Numbered.{Numbered}
@@ -45,7 +45,7 @@ pub record AddsNumber (u : EntityUid) (old new : Numbered) : Type 0 where
 -- of the entities that have numbers the spans have those above u
 abbrev pub HasAbove : Parents → Numbers → EntityUid → List Span → Type 0
 HasAbove parents at u spans =
-    (q : EntityUid) (i : ℕ) → at q ≡ Some i → IsTrue (has_number spans i) ↔ Above parents q u
+    (q : EntityUid) (i : ℕ) → at q ≡ Some i → IsTrue (has_number spans i) ↔ IsAncestor parents q u
 
 -- so it is of each entity that was reached
 abbrev pub KeepsAbove : Parents → Numbers → List (List Span) → Type 0
@@ -86,7 +86,7 @@ singles at (u ∷ us) = single_of (at u) ++ singles at us
 abbrev pub AreAbove : Parents → Numbers → List (List Span) → Type 0
 AreAbove parents at spans =
     (u q : EntityUid) (i j : ℕ) → at u ≡ Some i → at q ≡ Some j
-    → IsTrue (has_number_at (slice_get spans i) j) ↔ Above parents q u
+    → IsTrue (has_number_at (slice_get spans i) j) ↔ IsAncestor parents q u
 
 -- ---- entity types
 
@@ -112,5 +112,5 @@ type_points es = map (λ e. type_uid e.name) es
 -- each of these types has a number, and at it stands what is above it
 pub record AreNumbers (parents : Parents) (es : List FoundEntityType) (t : TypeNumbers) : Type 0 where
   pub exact : (n q : List ℕ) (i j : ℕ) → get text_cmp t.numbers n ≡ Some i → get text_cmp t.numbers q ≡ Some j
-      → IsTrue (has_number_at (slice_get t.spans i) j) ↔ Above parents (type_uid q) (type_uid n)
+      → IsTrue (has_number_at (slice_get t.spans i) j) ↔ IsAncestor parents (type_uid q) (type_uid n)
   pub all : (e : FoundEntityType) → Contains es e → IsSome (get text_cmp t.numbers e.name)

@@ -1,4 +1,4 @@
--- Parts of commands: what is stamped and stored, whatever is judged before.
+-- Defines parts of commands: stamping and storing, after the checks.
 use Rattle.std.specs.Prelude.{◌≡◌, ◌↔◌, ◌<◌, ℕ, Bool, true, false, List, Option, Some, None, Result, Ok, Err, IsTrue}
 use Rattle.plain.specs.Words.{IsPath}
 use Rattle.values.specs.declared.entity_uid.EntityUid.{EntityUid}
@@ -20,52 +20,55 @@ use Rattle.site_steps.specs.declared.outcome.Put.{Put}
 use Rattle.site_steps.specs.Admitted.{IsEntityUnder, IsAdmitted, entity_stated, IsNoRequest}
 use Rattle.site_steps.specs.Steps.{Records, IsClockFull, most_count}
 
--- a body is stamped and stored, or the clock is full, or memory is wanting
+-- `RecordsOr n s name body r t` holds if `body` is stamped and stored under `name`; or the clock is full or an
+-- allocation failed, and `t` is `s`.
 abbrev pub RecordsOr : List ℕ → Store → Name → Option (List ℕ) → Result Stamp SiteFault → Store → Type 0
 RecordsOr n s name body (Ok stamp) t = Records n s name body stamp t
 RecordsOr n s name body (Err fault.NoMemory) t = t ≡ s
 RecordsOr n s name body (Err fault.ClockFull) t = IsClockFull s t
 RecordsOr n s name body (Err _) t = ⊥
 
--- the next stamp at the site with name n, or none where the clock is full
+-- `IsNext n s r` holds if `r` is the next stamp at the site named `n` with store `s`, or none if the clock is full.
 abbrev pub IsNext : List ℕ → Store → Option Stamp → Type 0
 IsNext n s (Some stamp) = (greatest_count s < most_count) × (stamp ≡ issue s n)
 IsNext n s None = greatest_count s ≡ most_count
 
--- an entity's text is put under its uid, unless it would be on a cycle
+-- `PutsUnless n s cycle uid text r t` holds if `text` is put under `uid`; but if `cycle` is true, or an error, `r` is
+-- `WouldCycle`, or `NoMemory`, and `t` is `s`.
 abbrev pub PutsUnless : {E : Type 0} → List ℕ → Store → Result Bool E → EntityUid → List ℕ → Result Stamp SiteFault
     → Store → Type 0
 PutsUnless n s (Ok false) uid text r t = RecordsOr n s (entity_name uid) (Some text) r t
 PutsUnless n s (Ok true) uid text r t = (r ≡ Err fault.WouldCycle) × (t ≡ s)
 PutsUnless n s (Err e) uid text r t = (r ≡ Err fault.NoMemory) × (t ≡ s)
 
--- the outcome of a put is that of recording it, and whether the policy is impossible
+-- `put_result impossible r` is the result of a put whose recording had the result `r`.
 abbrev pub put_result : Bool → Result Stamp SiteFault → Result Put SiteFault
 put_result impossible (Ok stamp) = Ok (record { stamp = stamp; impossible = impossible })
 put_result impossible (Err f) = Err f
 
--- some JSON states this entity
+-- `IsStated schema e` holds if some JSON states the entity `e`.
 abbrev pub IsStated : StatedSchema → Entity → Type 0
 IsStated schema e = (d : Data) × (entity_stated_in schema d ≡ Ok e)
 
--- an entity that JSON states, with its text
+-- `IsStatedBy schema json b` holds if `json` states the entity in `b`, and `b` has its canonical text.
 pub record IsStatedBy (schema : StatedSchema) (json : Option Data) (b : ReadText Entity) : Type 0 where
   pub states : entity_stated schema json ≡ Ok b.read
   pub path : IsPath b.read.uid.type_name
   pub canonical : b.text ≡ canonical_text b.read
   pub reads : IsEntityUnder schema b.read.uid b.text b.read
 
--- why JSON states no entity, as a fault of the site
+-- `StatesNone schema json f` holds if `f` is the site's error for `json` that does not state an entity.
 abbrev pub StatesNone : StatedSchema → Option Data → SiteFault → Type 0
 StatesNone schema json (fault.Entity f) = entity_stated schema json ≡ Err f
 StatesNone schema json _ = ⊥
 
--- why JSON states no request, as a fault of the site
+-- `AsksNone schema json f` holds if `f` is the site's error for `json` that does not state a request.
 abbrev pub AsksNone : StatedSchema → Option Data → SiteFault → Type 0
 AsksNone schema json (fault.Request f) = IsNoRequest schema json f
 AsksNone schema json _ = ⊥
 
--- a policy that may be put, with its text, and whether it is impossible
+-- `IsJudged schema id text b impossible` holds if the policy in `b`, with this text, may be put under `id`, and
+-- `impossible` is whether it is impossible.
 pub record IsJudged (schema : StatedSchema) (id text : List ℕ) (b : ReadText Policy) (impossible : Bool) : Type 0 where
   pub same : b.text ≡ text
   pub admitted : IsAdmitted schema id text b.read

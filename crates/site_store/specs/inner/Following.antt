@@ -1,10 +1,11 @@
--- Ancestors beside a store while they follow a change.
+-- Defines a store's ancestor cache during an incremental update.
 use Rattle.values.specs.declared.entity_uid.EntityUid.{EntityUid}
-use Rattle.ancestor_closure.specs.declared.keeping.KeptAncestors.{KeptAncestors}
-use Rattle.ancestor_closure.specs.Kept.{AreKeptBut}
+use Rattle.ancestor_closure.specs.declared.keeping.AncestorCache.{AncestorCache}
+use Rattle.ancestor_closure.specs.Kept.{IsStaleAt}
 use Rattle.site_meaning.specs.schema.Schemas.{StatedSchema}
 use Rattle.site_store.specs.Kept.{EntityEntries, edges_under}
 
--- what is kept was of the edges before the parents of one entity changed, which led to these
-abbrev pub AreAncestorsBut : EntityUid → StatedSchema → EntityEntries → KeptAncestors → Type 0
-AreAncestorsBut uid schema entries held = AreKeptBut uid (edges_under schema entries) held
+-- `AreAncestorsBut uid schema entries held` holds if `held` is the ancestor cache of edges that differ from these at
+-- most in the parents of `uid`.
+abbrev pub AreAncestorsBut : EntityUid → StatedSchema → EntityEntries → AncestorCache → Type 0
+AreAncestorsBut uid schema entries held = IsStaleAt uid (edges_under schema entries) held

@@ -1,4 +1,4 @@
--- A policy's expression in parts, and what its environments come to in turn.
+-- Defines the parts of a policy's expression, and the result of typing it in each environment in turn.
 use Rattle.std.specs.Prelude.{◌≡◌, ◌≢◌, List, [], ◌∷◌, map, All, Bool, true, Result, Ok, Err}
 use Rattle.std.specs.Bool.{Decides}
 use Rattle.grammar_core.specs.declared.leaf.Variable.TheVariants.{Principal, Resource}
@@ -20,29 +20,30 @@ use Rattle.validator.specs.declared.fault.TypeFault.TheVariants.{NoMemory}
 use Rattle.validator.specs.Faults.{of_typing, of_types}
 use Rattle.validator.specs.Passing.{HasType, HasBooleanType, FirstFaulty}
 
--- the three parts of a scope, in order
+-- `scope_parts scope` is the list of the expressions of `scope`: principal, action, resource.
 abbrev pub scope_parts : Scope → List Expr
 scope_parts scope =
     entity_part Principal scope.principal ∷ action_part scope.action ∷ entity_part Resource scope.resource ∷ []
 
--- these environments of the schema, as policies are typed in them
+-- `typed_in s ps` is the list of typing environments of the environments `ps` of `s`.
 abbrev pub typed_in : StatedSchema → List given.Environment → List Environment
 typed_in s ps = map (λ p. typing_environment_of s (environment_view p)) ps
 
--- whether a type that was found is False, or why none was
+-- `ReportsFalse found r` holds if `r` is whether the type in `found` is False, or the error of `found`.
 abbrev pub ReportsFalse : Result StaticType FoundFault → Result Bool TypeFault → Type 0
 ReportsFalse (Ok t) (Ok b) = Decides b (static_view t ≡ false_type)
 ReportsFalse (Ok t) (Err f) = ⊥
 ReportsFalse (Err f) (Ok b) = ⊥
 ReportsFalse (Err f) (Err g) = g ≡ of_types f
 
--- whether the expression is False in the environment, or why it has no type there
+-- `IsJudged env x r` holds if `x` has a boolean type in `env` and `r` is whether it is False; or `r` is `NoMemory`,
+-- or an error for which `x` has no type there.
 abbrev pub IsJudged : Environment → Expr → Result Bool TypeFault → Type 0
 IsJudged env x (Ok b) = HasBooleanType x env × Decides b (HasType x false_type env)
 IsJudged env x (Err f) = f ≢ NoMemory → (n : ExpressionFault) × (f ≡ of_typing n) × Faults env [] x n
 
--- Whether it is False in each of these environments, where `before` says whether it was so in those before them; or
--- the first fault.
+-- `AreJudged x before envs r` holds if `x` has a boolean type in each of `envs`, and `r` is whether `before` is true
+-- and each of these types is False; or `r` is `NoMemory`, or the error of the first of `envs` that has one.
 abbrev pub AreJudged : Expr → Bool → List Environment → Result Bool TypeFault → Type 0
 AreJudged x before envs (Ok b) =
     All (HasBooleanType x) envs × Decides b ((before ≡ true) × All (HasType x false_type) envs)

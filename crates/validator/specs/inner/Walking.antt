@@ -1,4 +1,4 @@
--- The walk over the names of an expression, as a function that computes it.
+-- Defines the check of an expression's names as a function.
 use Rattle.std.specs.Prelude.{ℕ, List, [], ◌∷◌, map, Bool, false, ◌||◌, if◌then◌else◌, Option, Some, None, is_some}
 use Rattle.std.specs.Prelude.{⊤, Result, Ok, Err}
 use Rattle.std.specs.List.{list_any}
@@ -20,57 +20,69 @@ use Rattle.validator.specs.declared.fault.TypeFault.{TypeFault}
 use Rattle.validator.specs.declared.fault.TypeFault.TheVariants.{UnknownType, UnknownAction}
 use Rattle.validator.specs.Names.{Name, tested_type, entity}
 
--- nothing, or the first fault
+-- A `WalkResult` is success or the first error.
 abbrev pub WalkResult : Type 0
 WalkResult = Result ⊤ TypeFault
 
+-- `and_then r q` is `q` if `r` is a success, else the error of `r`.
 abbrev pub and_then : WalkResult → WalkResult → WalkResult
 and_then (Ok u) r = r
 and_then (Err f) r = Err f
 
+-- `in_turn rs` is the first error of the results `rs`, else a success.
 abbrev pub in_turn : List WalkResult → WalkResult
 in_turn [] = Ok tt
 in_turn (r ∷ rs) = and_then r (in_turn rs)
 
+-- `or_fault f b` is a success if `b` is true, else the error `f`.
 abbrev pub or_fault : TypeFault → Bool → WalkResult
 or_fault f b = if b then Ok tt else Err f
 
--- whether what may be an action has a type
+-- `type_at n o` is whether `o` is an action of type `n`.
 abbrev pub type_at : List ℕ → Option EntityUid → Bool
 type_at n None = false
 type_at n (Some u) = bytes_eq u.type_name n
 
+-- `is_type_of_action s n` is whether `s` declares an action of type `n`.
 abbrev pub is_type_of_action : StatedSchema → List ℕ → Bool
 is_type_of_action s n = list_any (λ u. bytes_eq u.type_name n) s.actions
 
+-- `is_declared_action s u` is whether `s` declares the action `u`.
 abbrev pub is_declared_action : StatedSchema → EntityUid → Bool
 is_declared_action s u = list_any (λ v. is_same u v) s.actions
 
+-- `tested_type_told s n` is the result of checking the type `n` of an `is` under `s`.
 abbrev pub tested_type_told : StatedSchema → List ℕ → WalkResult
 tested_type_told s n = or_fault UnknownType (is_some (s.shape n) || is_type_of_action s n)
 
+-- `action_told s u` is the result of checking the entity `u` of an action type under `s`.
 abbrev pub action_told : StatedSchema → EntityUid → WalkResult
 action_told s u = or_fault UnknownAction (is_declared_action s u)
 
+-- `other_told s u` is the result of checking the entity `u` of another type under `s`.
 abbrev pub other_told : StatedSchema → EntityUid → WalkResult
 other_told s u = or_fault UnknownType (is_some (s.shape u.type_name))
 
+-- `entity_told s u` is the result of checking the entity literal `u` under `s`.
 abbrev pub entity_told : StatedSchema → EntityUid → WalkResult
 entity_told s u = if is_action_type u.type_name then action_told s u else other_told s u
 
+-- `name_told s n` is the result of checking the name `n` under `s`.
 abbrev pub name_told : StatedSchema → Name → WalkResult
 name_told s (tested_type n) = tested_type_told s n
 name_told s (entity u) = entity_told s u
 
+-- `literal_told s l` is the result of checking the names of the literal `l` under `s`.
 abbrev pub literal_told : StatedSchema → Literal → WalkResult
 literal_told s (literal.Entity u) = entity_told s u
 literal_told s l = Ok tt
 
+-- `operator_told s op` is the result of checking the names of the unary operator `op` under `s`.
 abbrev pub operator_told : StatedSchema → Unary → WalkResult
 operator_told s (Is n) = tested_type_told s n
 operator_told s op = Ok tt
 
--- a form over parts that come to these
+-- `walk_step s form` is the result of checking an expression `form` whose operands have the results in it.
 abbrev pub walk_step : StatedSchema → Expr-F WalkResult → WalkResult
 walk_step s (Expr-F.Literal l) = literal_told s l
 walk_step s (Expr-F.Variable x) = Ok tt
@@ -86,16 +98,18 @@ walk_step s (Expr-F.Record fs) = in_turn (values_of fs)
 walk_step s (Expr-F.UnaryCall called a) = a
 walk_step s (Expr-F.BinaryCall called a b) = and_then a b
 
+-- `walk s x` is the result of checking the names of the expression `x` under `s`.
 abbrev pub walk : StatedSchema → Expr → WalkResult
 walk s = fold-Expr WalkResult (walk_step s)
 
+-- `named_walk s f` is the result of checking the value of the record field `f`, with its key.
 abbrev pub named_walk : StatedSchema → Named Expr → Named WalkResult
 named_walk s f = record { name = f.name; value = walk s f.value }
 
--- names one after the other
+-- `names_told s ns` is the result of checking the names `ns` in turn.
 abbrev pub names_told : StatedSchema → List Name → WalkResult
 names_told s ns = in_turn (map (name_told s) ns)
 
--- the parts of a policy's expression, before its condition, and then that
+-- `parts_told s parts condition` is the result of checking `parts` in turn, and then `condition`.
 abbrev pub parts_told : StatedSchema → List Expr → Expr → WalkResult
 parts_told s parts condition = and_then (in_turn (map (walk s) parts)) (walk s condition)

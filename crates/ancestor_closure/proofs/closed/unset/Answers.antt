@@ -1,5 +1,5 @@
 use Rattle.std.proofs.Common.{sym, subst}
-use Rattle.ancestor_closure.specs.Kept.{AreKept}
+use Rattle.ancestor_closure.specs.Kept.{IsCacheOf}
 use Rattle.ancestor_closure.proofs.Pairs.{edges_gone}
 use Rattle.ancestor_closure.proofs.closed.unset.Goals as goal
 
@@ -8,4 +8,4 @@ returns-clause-ok c = edges_gone c.args.edges.now c.remove.new.self c.args.uid.n
 
 pub returns-clause-kept : goal.returns-clause-kept
 returns-clause-kept c =
-    subst (λ p. AreKept p c.follow_change.new.kept) (sym (edges_gone c.args.edges.now c.remove.new.self c.args.uid.now c.remove.ensures.updates.0)) c.in_ok-follow_change.ensures.ok
+    subst (λ p. IsCacheOf p c.follow_change.new.kept) (sym (edges_gone c.args.edges.now c.remove.new.self c.args.uid.now c.remove.ensures.updates.0)) c.in_ok-follow_change.ensures.ok

@@ -1,6 +1,6 @@
 use Rattle.std.proofs.Common.{[], sym, ap, ◌∙◌, ◌≡◌, List, Result}
 use Rattle.grammar_tokens.specs.Kinds.{Kinds}
-use Rattle.grammar_tokens.specs.declared.fault.Halt.{Halt}
+use Rattle.grammar_tokens.specs.declared.fault.StopCause.{StopCause}
 use Rattle.grammar_tokens.specs.declared.token.Token.{Token}
 use Rattle.grammar_tokens.specs.ParsesTo.{ParsesTo}
 use Rattle.grammar_tokens.specs.Reading.{Parser, many}
@@ -8,7 +8,7 @@ use Rattle.grammar_tokens.specs.Repeats.{many_onto}
 use Rattle.grammar_tokens.proofs.Gathered.{as_read, instead}
 use Rattle.grammar_tokens.proofs.repeated.read_many.Goals as goal
 
-after_none : {A : Type 0} (ks : Kinds) (p : Parser A) (ts rest : List Token) (none : List A) (r : Result (List A) Halt)
+after_none : {A : Type 0} (ks : Kinds) (p : Parser A) (ts rest : List Token) (none : List A) (r : Result (List A) StopCause)
     → none ≡ [] → ParsesTo (many_onto none ks p ts) r rest → ParsesTo (many ks p ts) r rest
 after_none ks p ts rest none r empty =
     instead (many ks p ts) (many_onto none ks p ts) r rest (as_read (many ks p ts) ∙ ap (λ found. many_onto found ks p ts) (sym empty))

@@ -1,13 +1,13 @@
 use Rattle.std.proofs.Common.{[], ◌∷◌, ◌++◌, ap, ◌∙◌, ◌≡◌, List, Result, subst}
 use Rattle.grammar_tokens.specs.Kinds.{Kinds}
-use Rattle.grammar_tokens.specs.declared.fault.Halt.{Halt}
+use Rattle.grammar_tokens.specs.declared.fault.StopCause.{StopCause}
 use Rattle.grammar_tokens.specs.declared.token.Token.{Token}
 use Rattle.grammar_tokens.specs.ParsesTo.{ParsesTo}
 use Rattle.grammar_tokens.specs.Reading.{Parser}
 use Rattle.grammar_tokens.specs.Repeats.{many_onto, many_after}
 use Rattle.grammar_tokens.proofs.repeated.read_more.Goals as goal
 
-after_one : {A : Type 0} (ks : Kinds) (p : Parser A) (ts rest : List Token) (first : A) (none one : List A) (r : Result (List A) Halt)
+after_one : {A : Type 0} (ks : Kinds) (p : Parser A) (ts rest : List Token) (first : A) (none one : List A) (r : Result (List A) StopCause)
     → none ≡ [] → one ≡ none ++ first ∷ [] → ParsesTo (many_onto one ks p ts) r rest → ParsesTo (many_after first ks p ts) r rest
 after_one ks p ts rest first none one r empty begun =
     subst (λ found. ParsesTo (many_onto found ks p ts) r rest) (begun ∙ ap (λ z. z ++ first ∷ []) empty)

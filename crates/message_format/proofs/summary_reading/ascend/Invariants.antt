@@ -2,7 +2,7 @@ use Rattle.std.proofs.Common.{◌≡◌, ◌-◌, ◌≤◌, drop}
 use Rattle.message_format.specs.Summaries.{ascend}
 use Rattle.message_format.proofs.summary_reading.ascend.Given as goal
 
--- the places before this one ascend, so the rest decides
+-- the names before this index ascend, so the rest decides
 abbrev pub invariant-loop-place : goal.invariant-loop-place
 invariant-loop-place l = record {
   from : 1 ≤ l.place;

@@ -2,7 +2,7 @@ use Rattle.std.proofs.Common.{length}
 use Rattle.message_format.specs.inner.Walking.{IsFrom}
 use Rattle.message_format.proofs.writing.from_name.Given as goal
 
--- the names that were left out come before the name
+-- the skipped names are less than the name
 abbrev pub invariant-loop-first : goal.invariant-loop-first
 invariant-loop-first g l = record {
   from : IsFrom (g.N.Lent.named l.name) l.known l.left;

@@ -4,7 +4,7 @@ use Rattle.message_format.specs.Summaries.{ascend}
 use Rattle.message_format.specs.inner.Walking.{IsWalked}
 use Rattle.message_format.proofs.writing.push_all.Given as goal
 
--- where the walk stands
+-- how far the walk is
 abbrev pub invariant-loop-name : goal.invariant-loop-name
 invariant-loop-name g l = record {
   rest : map deref_pair l.yielded ++ l.name-iterator ≡ l.fn.entries;

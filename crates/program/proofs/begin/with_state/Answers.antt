@@ -1,4 +1,4 @@
-use Rattle.site_loading.specs.site_steps.Seen.{schema_of}
+use Rattle.site_loading.specs.site_steps.SiteViews.{schema_of}
 use Rattle.program.proofs.ServeLemmas.{refused_as_told}
 use Rattle.program.proofs.begin.with_state.Goals as goal
 

@@ -1,5 +1,5 @@
 use Rattle.std.proofs.Common.{◌≡◌, ◌++◌, map, take}
-use Rattle.program_drills.specs.Told.{state_told}
+use Rattle.program_drills.specs.EventReports.{state_told}
 use Rattle.program_drills.specs.inner.Ended.{ended}
 use Rattle.program_drills.proofs.reporting.append_states.Given as goal
 

@@ -1,7 +1,7 @@
 use Rattle.std.proofs.lemmas.Result.{IfOk-weaker}
 use Rattle.serde_json.specs.View.{view}
 use Rattle.json_words.proofs.CompactLemmas.{text_of}
-use Rattle.program_drills.specs.Told.{message_json, message_line}
+use Rattle.program_drills.specs.EventReports.{message_json, message_line}
 use Rattle.program_drills.proofs.EndedLines.{no_float_message}
 use Rattle.program_drills.proofs.reporting.message_line.Goals as goal
 

@@ -1,7 +1,7 @@
 use Rattle.std.proofs.lemmas.Result.{IfOk-weaker}
 use Rattle.serde_json.specs.View.{view}
 use Rattle.json_words.proofs.CompactLemmas.{text_of}
-use Rattle.program_drills.specs.Told.{summary_json, summary_line}
+use Rattle.program_drills.specs.EventReports.{summary_json, summary_line}
 use Rattle.program_drills.proofs.EndedLines.{no_float_summary}
 use Rattle.program_drills.proofs.reporting.summary_line.Goals as goal
 

@@ -1,6 +1,6 @@
 use Rattle.std.proofs.Common.{◌∙◌, ℕ, Some, ap, sym, subst, rules}
 use Rattle.schema_decisions.specs.answer_lines.Refusals.{bad_shape}
-use Rattle.program_drills.specs.Said.{said_of}
+use Rattle.program_drills.specs.ScriptLines.{said_of}
 use Rattle.program_drills.specs.inner.Reading.{IsLineRead, IsReadUpTo}
 use Rattle.program_drills.proofs.ScriptSteps.{read_more, all_read, next_refused, is_unread}
 use Rattle.program_drills.proofs.whole.read_script.Goals as goal
@@ -14,11 +14,11 @@ returns-in_default-clause-refused c _ =
 
 pub loop-rest-preserved : goal.loop-rest-preserved
 loop-rest-preserved c =
-    subst (IsReadUpTo c.args.count c.args.script.now c.after_deed-made.result c.first_line.result.1.now) (sym c.in_ok-push.ensures.items) (
+    subst (IsReadUpTo c.args.count c.args.script.now c.after_operation-made.result c.first_line.result.1.now) (sym c.in_ok-push.ensures.items) (
     read_more c.args.count c.args.script.now c.loop-rest.made c.loop-rest.rest.now c.first_line.result.0.now c.first_line.result.1.now
-    c.loop-rest.events.items c.in-Some.event c.after_deed-made.result c.loop-rest.invariant c.first_line.ensures.lines
+    c.loop-rest.events.items c.in-Some.event c.after_operation-made.result c.loop-rest.invariant c.first_line.ensures.lines
     (subst (IsLineRead (said_of c.args.count c.loop-rest.made c.first_line.result.0.now)) c.in-Some.is c.in_ok-event.ensures)
-    c.after_deed-made.ensures)
+    c.after_operation-made.ensures)
 
 pub returns-clause-read : goal.returns-clause-read
 returns-clause-read c =

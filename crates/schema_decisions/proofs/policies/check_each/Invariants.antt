@@ -5,7 +5,7 @@ use Rattle.decision_texts.specs.answer_lines.declared.refusal.Refusal.{Refusal}
 use Rattle.schema_decisions.proofs.CheckLemmas.{cores, AreChecked}
 use Rattle.schema_decisions.proofs.policies.check_each.Given as goal
 
--- what is left to check comes to what all come to
+-- the result of checking the remaining policies is that of checking all
 abbrev pub invariant-loop-place : goal.invariant-loop-place
 invariant-loop-place l =
     (r : Result ⊤ Refusal) → AreChecked (schema_view l.schema) l.place (cores (drop l.place l.policies)) r

@@ -1,5 +1,6 @@
-use Rattle.std.proofs.Common.{subst}
+use Rattle.std.proofs.Common.{subst, sym}
 use Rattle.std.specs.Str.{IsUtf8}
+use Rattle.site.proofs.Labels.{digits_are_utf8}
 use Rattle.site_steps.proofs.RunLemmas.{texts_of}
 use Rattle.site_steps.specs.schema.Views.{schema_view}
 use Rattle.site.proofs.Growing.{StoreLaws}
@@ -9,8 +10,7 @@ use Rattle.site.proofs.Promised.{TakingLaws, worlds_keep}
 use Rattle.site.proofs.laws.worlds_keep_promises.Goals as goal
 
 pub returns : goal.returns
-returns c =
-    let schema = c.args.schema.now in
+returns c schema stated =
     let w = schema_view schema in
     let stores : StoreLaws = record {
       greatest = c.updates_have_one_store.ensures.greatest;
@@ -26,9 +26,9 @@ returns c =
       utf8 = c.json_texts_are_utf8.ensures;
       json = c.canonical_texts_are_read.ensures.json;
       read = c.canonical_texts_are_read-2.ensures;
-      well_formed = c.stated_schemas_are_well_formed.ensures c.is_stated.ensures.0 w c.is_stated.ensures.1;
+      well_formed = c.stated_schemas_are_well_formed.ensures stated.0 w stated.1;
     } in
-    let label_text : IsUtf8 w.label = subst IsUtf8 c.label.ensures c.label.utf8 in
+    let label_text : IsUtf8 w.label = subst IsUtf8 (sym stated.1.label) (digits_are_utf8 _) in
     let sending : SendingLaws w.label = record {
       states_read = λ s h texts. c.messages_read_back.ensures.state_texts w.label s label_text h texts;
       deltas_read = λ s h texts. c.messages_read_back.ensures.delta_texts w.label s label_text h texts;
@@ -39,6 +39,6 @@ returns c =
     let taking : TakingLaws w = record {
       deltas = c.deltas_are_joined.ensures.whole;
       read = c.valid_messages_are_read.ensures.read (texts_of schema) w.label;
-      one = c.inputs_have_one_outcome.ensures.one c.is_stated.ensures.0 schema c.is_stated.ensures.1;
+      one = c.inputs_have_one_outcome.ensures.one stated.0 schema stated.1;
     } in
     worlds_keep w stores commands sending taking

@@ -4,7 +4,7 @@ use Rattle.site.specs.Sites.{SiteName, start}
 use Rattle.site.specs.Played.{IsPlayed, IsShown}
 use Rattle.site.proofs.playing.play.Given as goal
 
--- what was played so far is a world
+-- the run so far is that of a system
 abbrev pub invariant-loop-event : goal.invariant-loop-event
 invariant-loop-event l = record {
   played : (schema : StatedSchema) (names : List SiteName) → IsShown schema names l.fn.sites.items l.fn.messages.items l.fn.summaries.items (start names)

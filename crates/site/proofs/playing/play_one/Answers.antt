@@ -1,7 +1,7 @@
 use Rattle.std.proofs.Common.{arith, subst, Option}
 use Rattle.site_steps.specs.declared.reply.Reply.{Reply}
-use Rattle.site_steps.specs.Seen.{schema_of, store_in}
-use Rattle.site.specs.inner.Playing.{AnswersDeed, input_among}
+use Rattle.site_steps.specs.SiteViews.{schema_of, store_in}
+use Rattle.site.specs.inner.Playing.{AnswersOperation, input_among}
 use Rattle.site.proofs.Played.{plays_at_zero, plays_beyond, plays_unmade, plays_replied}
 use Rattle.site.proofs.playing.play_one.Goals as goal
 
@@ -17,12 +17,12 @@ pub returns-in_default : goal.returns-in_default
 returns-in_default c =
     plays_unmade c.args.sites.now.items c.args.messages.now.items c.args.summaries.now.items c.as_slice.result.now c.as_slice-2.result.now c.args.event.now c.index_mut.result.now c.step-reply.new.site
     c.has_texts.ensures c.if-event-eq0.false (omega (arith, c.if-event-len.false, c.len.ensures)) c.index_mut.ensures.value c.as_slice.ensures.value c.as_slice-2.ensures.value c.step-reply.ensures.same
-    (subst (λ (o : Option Reply). AnswersDeed (schema_of c.index_mut.result.now) c.index_mut.result.now.name (store_in c.index_mut.result.now) (input_among c.as_slice.result.now c.as_slice-2.result.now c.args.event.now.deed) o (store_in c.step-reply.new.site)) c.in_default.is c.step-reply.ensures.step)
+    (subst (λ (o : Option Reply). AnswersOperation (schema_of c.index_mut.result.now) c.index_mut.result.now.name (store_in c.index_mut.result.now) (input_among c.as_slice.result.now c.as_slice-2.result.now c.args.event.now.operation) o (store_in c.step-reply.new.site)) c.in_default.is c.step-reply.ensures.step)
 
 pub returns : goal.returns
 returns c =
     plays_replied c.args.sites.now.items c.args.messages.now.items c.args.summaries.now.items c.as_slice.result.now c.as_slice-2.result.now c.args.event.now c.index_mut.result.now c.step-reply.new.site
     c.has_texts.ensures c.if-event-eq0.false (omega (arith, c.if-event-len.false, c.len.ensures)) c.index_mut.ensures.value c.as_slice.ensures.value c.as_slice-2.ensures.value c.step-reply.ensures.same
     c.in-Some.reply c.in_ok-answer.answer c.keep.new.messages.items c.keep.new.summaries.items
-    (subst (λ (o : Option Reply). AnswersDeed (schema_of c.index_mut.result.now) c.index_mut.result.now.name (store_in c.index_mut.result.now) (input_among c.as_slice.result.now c.as_slice-2.result.now c.args.event.now.deed) o (store_in c.step-reply.new.site)) c.in-Some.is c.step-reply.ensures.step)
+    (subst (λ (o : Option Reply). AnswersOperation (schema_of c.index_mut.result.now) c.index_mut.result.now.name (store_in c.index_mut.result.now) (input_among c.as_slice.result.now c.as_slice-2.result.now c.args.event.now.operation) o (store_in c.step-reply.new.site)) c.in-Some.is c.step-reply.ensures.step)
     c.in_ok-answer.ensures.answer c.in_ok-answer.ensures.messages c.in_ok-answer.ensures.summaries

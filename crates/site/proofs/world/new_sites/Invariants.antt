@@ -3,7 +3,7 @@ use Rattle.site.specs.Sites.{first_sites, start}
 use Rattle.site.specs.Played.{AreSitesOf}
 use Rattle.site.proofs.world.new_sites.Given as goal
 
--- so many sites were made
+-- this many sites were made
 abbrev pub invariant-loop-before : goal.invariant-loop-before
 invariant-loop-before l =
     AreSitesOf (schema_view l.schema) (first_sites l.before) (start (first_sites l.before)).stores l.sites.items

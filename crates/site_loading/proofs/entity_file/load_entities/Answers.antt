@@ -4,7 +4,7 @@ use Rattle.schema_decisions.specs.schema.SchemaEntries.{SchemaEntries}
 use Rattle.schema_decisions.specs.schema.Views.{schema_view}
 use Rattle.schema_decisions.specs.decision_texts.EntityArrays.{entities_of}
 use Rattle.schema_decisions.specs.UnderSchema.{reading_under}
-use Rattle.site_steps.specs.Seen.{schema_of, store_in}
+use Rattle.site_steps.specs.SiteViews.{schema_of, store_in}
 use Rattle.site_loading.proofs.LoadLemmas.{some_members, members_are, items_are, entities_loaded, entities_refused}
 use Rattle.site_loading.proofs.entity_file.load_entities.Goals as goal
 

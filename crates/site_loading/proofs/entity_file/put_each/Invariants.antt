@@ -1,10 +1,10 @@
 use Rattle.std.proofs.Common.{◌+◌, ◌≤◌, length}
 use Rattle.schema_decisions.specs.json_values.Arrays.{to_come}
-use Rattle.site_steps.specs.Seen.{schema_of, store_in, IsSameSite}
+use Rattle.site_steps.specs.SiteViews.{schema_of, store_in, IsSameSite}
 use Rattle.site_loading.proofs.PutLemmas.{AreAlong}
 use Rattle.site_loading.proofs.entity_file.put_each.Given as goal
 
--- what is left to put comes to what all come to
+-- the result of the remaining puts is that of all
 abbrev pub invariant-members : goal.invariant-members
 invariant-members l = record {
   same : IsSameSite l.fn.site l.site;

@@ -1,11 +1,11 @@
 use Rattle.std.proofs.Common.{drop}
-use Rattle.site_steps.specs.Seen.{schema_of, store_in, IsSameSite}
+use Rattle.site_steps.specs.SiteViews.{schema_of, store_in, IsSameSite}
 use Rattle.site_loading.specs.Loads.{policy_puts}
 use Rattle.site_loading.proofs.PutLemmas.{Along}
 use Rattle.site_loading.proofs.LoadLemmas.{words, nows}
 use Rattle.site_loading.proofs.policies.put_each.Given as goal
 
--- what is left to put comes to what all come to
+-- the result of the remaining puts is that of all
 abbrev pub invariant-loop-place : goal.invariant-loop-place
 invariant-loop-place l = record {
   same : IsSameSite l.fn.site l.site;

@@ -3,7 +3,7 @@ use Rattle.std.proofs.Math.Seq.{take-length}
 use Rattle.std.proofs.lemmas.List.{take_more, map-append}
 use Rattle.site_store.specs.schema.SchemaEntries.{SchemaEntries}
 use Rattle.site_store.specs.schema.Views.{schema_view, IsStated}
-use Rattle.site_steps.specs.Seen.{schema_of, store_in}
+use Rattle.site_steps.specs.SiteViews.{schema_of, store_in}
 use Rattle.site_steps.specs.declared.input.Input as code
 use Rattle.site_steps.specs.Inputs.{Input, input_of}
 use Rattle.site_steps.specs.declared.reply.Reply.{Reply}
@@ -65,6 +65,6 @@ returns-clause-right c =
     let s = store_in c.args.site.now in
     let all : c.loop-input.input-index ≡ length inputs = omega arith in
     let is = subst (λ (x : SchemaEntries). IsStated x) c.schema.ensures c.is_stated.ensures in
-    c.runs_go_right.ensures is.0 a is.1 n s (map input_of inputs) c.loop-input.replies.items (store_in c.loop-input.site)
+    c.runs_are_sound.ensures is.0 a is.1 n s (map input_of inputs) c.loop-input.replies.items (store_in c.loop-input.site)
     (subst (λ (xs : List code.Input). Run a n s (map input_of xs) c.loop-input.replies.items (store_in c.loop-input.site))
     (ap (λ k. take k inputs) all ∙ take-length inputs) i.run)

@@ -1,5 +1,5 @@
 use Rattle.std.proofs.Common.{◌≡◌, ◌≤◌, map, take, length, vec_capacity}
-use Rattle.site_steps.specs.Seen.{schema_of, store_in, IsSameSite}
+use Rattle.site_steps.specs.SiteViews.{schema_of, store_in, IsSameSite}
 use Rattle.site_steps.specs.Inputs.{input_of}
 use Rattle.site_steps.specs.Runs.{Run}
 use Rattle.site_steps.proofs.answering.run.Given as goal

@@ -11,6 +11,6 @@ pub returns-in-Ok-clause-judged : goal.returns-in-Ok-clause-judged
 returns-in-Ok-clause-judged c =
     IfOk-weaker c.with_verdict.result _ _
     (λ j h. judged_by (schema_view c.args.schema.now) c.args.id.now c.args.text.now c.in-Ok.policy
-    c.is_impossible-verdict.result c.handed_in-text.result j.body j.impossible (c.is_id.ensures.0 c.if-not-is_id.false)
-    c.in-Ok.ensures.read c.is_impossible-verdict.ensures.passes c.handed_in-text.ensures h.0 h.1 h.3)
+    c.is_impossible-verdict.result c.copy_text-text.result j.body j.impossible (c.is_id.ensures.0 c.if-not-is_id.false)
+    c.in-Ok.ensures.read c.is_impossible-verdict.ensures.passes c.copy_text-text.ensures h.0 h.1 h.3)
     c.with_verdict.ensures.all

@@ -2,7 +2,7 @@ use Rattle.std.proofs.Common.{ap, subst}
 use Rattle.site_store.specs.stamped_store.Store.{Store}
 use Rattle.site_store.specs.schema.Views.{schema_view}
 use Rattle.site_soundness.specs.message_format.Messages.{state_text}
-use Rattle.site_store.specs.site_meaning.Said.{IsAnswerOver}
+use Rattle.site_store.specs.site_meaning.StoreMeaning.{IsAnswerOver}
 use Rattle.site_steps.specs.Admitted.{IsPolicyUnder, IsEntityUnder}
 use Rattle.site_steps.proofs.RunLemmas.{texts_of, same_stores}
 use Rattle.site_steps.proofs.laws.equal_updates_leave_equal_stores.Goals as goal

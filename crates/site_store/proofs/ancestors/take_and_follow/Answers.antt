@@ -1,6 +1,6 @@
 use Rattle.std.proofs.Common.{ap, sym, subst, Option}
 use Rattle.std.specs.Prelude.{IfSome}
-use Rattle.ancestor_closure.specs.declared.keeping.KeptAncestors.{KeptAncestors}
+use Rattle.ancestor_closure.specs.declared.keeping.AncestorCache.{AncestorCache}
 use Rattle.scope_index.specs.policy_grammar.declared.policy.Policy.{Policy}
 use Rattle.site_meaning.specs.schema.Views.{schema_view}
 use Rattle.site_meaning.specs.entity_data.declared.entity.Entity.{Entity}
@@ -13,7 +13,7 @@ pub followed-requires : goal.followed-requires
 followed-requires c =
     right_elsewhere (schema_view c.args.schema.now) c.args.store.now.entities c.take_entity.new.self.entities c.args.uid c.args.entry
     (ap (λ k. k.entities) c.in_ok-take_entity.ensures.kept) c.in-Ok.name c.in-Ok.ensures c.take-before.result
-    (subst (λ (o : Option KeptAncestors). IfSome o (AreAncestorsOf (schema_view c.args.schema.now) c.args.store.now.entities)) (sym c.take-before.ensures.value) c.requires)
+    (subst (λ (o : Option AncestorCache). IfSome o (AreAncestorsOf (schema_view c.args.schema.now) c.args.store.now.entities)) (sym c.take-before.ensures.value) c.requires)
 
 pub returns-in_err-take_entity-clause-followed : goal.returns-in_err-take_entity-clause-followed
 returns-in_err-take_entity-clause-followed c =

@@ -1,7 +1,7 @@
 use Rattle.std.proofs.Common.{subst, sym}
 use Rattle.std.specs.Prelude.{Option}
 use Rattle.std.specs.Option.{IfSome}
-use Rattle.ancestor_closure.specs.declared.keeping.KeptAncestors.{KeptAncestors}
+use Rattle.ancestor_closure.specs.declared.keeping.AncestorCache.{AncestorCache}
 use Rattle.site_meaning.specs.schema.Views.{schema_view}
 use Rattle.site_store.specs.Kept.{AreAncestorsOf}
 use Rattle.site_store.proofs.Standing.{if_made}
@@ -9,7 +9,7 @@ use Rattle.site_store.proofs.store.stand_ancestors.Goals as goal
 
 pub returns-then-begin : goal.returns-then-begin
 returns-then-begin c =
-    subst (λ (o : Option KeptAncestors). IfSome o (AreAncestorsOf (schema_view c.args.schema.now) c.args.store.now.entities))
+    subst (λ (o : Option AncestorCache). IfSome o (AreAncestorsOf (schema_view c.args.schema.now) c.args.store.now.entities))
     (sym c.ok.ensures.value)
     (if_made (AreAncestorsOf (schema_view c.args.schema.now) c.args.store.now.entities) c.ancestors_of.result
     c.ancestors_of.ensures)

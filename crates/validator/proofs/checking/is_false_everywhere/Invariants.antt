@@ -5,7 +5,7 @@ use Rattle.validator.specs.declared.fault.TypeFault.{TypeFault}
 use Rattle.validator.specs.inner.Checking.{typed_in, AreJudged}
 use Rattle.validator.proofs.checking.is_false_everywhere.Given as goal
 
--- what is left to judge, with what is known so far, comes to what all come to
+-- the result of the remaining environments, with that of those before, is the result of all
 abbrev pub invariant-loop-environment : goal.invariant-loop-environment
 invariant-loop-environment l =
     let x = expression_of l.policy in

@@ -5,7 +5,7 @@ use Rattle.site_store.specs.schema.Views.{schema_view}
 use Rattle.site_store.specs.stamped_store.Store.{policy_name, issued}
 use Rattle.site_steps.specs.declared.fault.SiteFault.{SiteFault}
 use Rattle.site_steps.specs.declared.outcome.Put.{Put}
-use Rattle.site_steps.specs.Seen.{Seen, schema_of, store_in}
+use Rattle.site_steps.specs.SiteViews.{SiteView, schema_of, store_in}
 use Rattle.site_steps.specs.Steps.{PutsPolicy}
 use Rattle.site_steps.specs.inner.Recording.{RecordsOr, IsJudged}
 use Rattle.site_steps.proofs.Recording.{puts_policy, put_stands, stands}
@@ -18,7 +18,7 @@ returns-in-Ok-clause-puts c =
     let t = store_in c.record_policy-stamped.new.self in
     let r = c.record_policy-stamped.result in
     let is : IsJudged (schema_of s) c.args.id.now c.args.text.now j.body j.impossible =
-    subst (λ (v : Seen). IsJudged (schema_of v) c.args.id.now c.args.text.now j.body j.impossible) c.self.view_is
+    subst (λ (v : SiteView). IsJudged (schema_of v) c.args.id.now c.args.text.now j.body j.impossible) c.self.view_is
     (subst (λ (x : SchemaEntries). IsJudged (schema_view x) c.args.id.now c.args.text.now j.body j.impossible) c.schema.ensures c.in-Ok.ensures.judged) in
     let records : RecordsOr s.name (store_in s) (policy_name c.args.id.now) (Some j.body.text) r t =
     subst (λ (id : List ℕ). RecordsOr s.name (store_in s) (policy_name id) (Some j.body.text) r t) c.in-Ok.ensures.named c.record_policy-stamped.ensures.records in

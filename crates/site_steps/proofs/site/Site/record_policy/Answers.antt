@@ -14,7 +14,7 @@ use Rattle.site_soundness.specs.message_format.Summaries.{IsStamped}
 use Rattle.site_steps.specs.Admitted.{IsPolicyUnder}
 use Rattle.std.specs.Prelude.{Some}
 use Rattle.site_steps.specs.inner.Recording.{IsNext}
-use Rattle.site_steps.specs.Seen.{IsSite}
+use Rattle.site_steps.specs.SiteViews.{IsSite}
 use Rattle.site_steps.proofs.Recording.{site_after}
 use Rattle.site_steps.proofs.site.Site.record_policy.Goals as goal
 

@@ -9,7 +9,7 @@ use Rattle.site_store.specs.stamped_store.Store.{store_of, updates}
 use Rattle.site_soundness.specs.message_format.declared.update.Update.{Update}
 use Rattle.site_soundness.specs.message_format.Updates.{plain_update, plain_updates}
 use Rattle.site_steps.specs.Admitted.{IsValidUnder}
-use Rattle.site_steps.specs.Seen.{schema_of, store_in}
+use Rattle.site_steps.specs.SiteViews.{schema_of, store_in}
 use Rattle.site_steps.proofs.Taking.{stores_none, stores_more, stores_first}
 use Rattle.site_steps.proofs.site.Site.take_all.Goals as goal
 

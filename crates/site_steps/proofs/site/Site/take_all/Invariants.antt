@@ -3,10 +3,10 @@ use Rattle.std.specs.List.{AllByRecursion}
 use Rattle.site_store.specs.stamped_store.Store.{store_of, updates}
 use Rattle.site_soundness.specs.message_format.Updates.{plain_updates}
 use Rattle.site_steps.specs.Admitted.{IsValidUnder}
-use Rattle.site_steps.specs.Seen.{schema_of, store_in, IsSameSite}
+use Rattle.site_steps.specs.SiteViews.{schema_of, store_in, IsSameSite}
 use Rattle.site_steps.proofs.site.Site.take_all.Given as goal
 
--- what was yielded is taken, and what is left is valid
+-- what was yielded is applied, and what is left is valid
 abbrev pub invariant-loop-update : goal.invariant-loop-update
 invariant-loop-update l = record {
   can_next : (goal.iterator-loop-update).can_next l.update-iterator;

@@ -7,7 +7,7 @@ use Rattle.site_store.specs.stamped_store.Reading.{IsEntryRead}
 use Rattle.site_store.specs.stamped_store.Store.{kept, entity_name}
 use Rattle.site_store.specs.stamped_store.Stored.{taken}
 use Rattle.site_steps.specs.Admitted.{IsEntityUnder}
-use Rattle.site_steps.specs.Seen.{IsSite}
+use Rattle.site_steps.specs.SiteViews.{IsSite}
 use Rattle.site_steps.proofs.Recording.{site_after}
 use Rattle.site_steps.proofs.site.Site.take_entity.Goals as goal
 

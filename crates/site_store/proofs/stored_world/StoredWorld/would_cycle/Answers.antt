@@ -2,7 +2,7 @@ use Rattle.std.proofs.Common.{subst, List, IsTrue}
 use Rattle.std.specs.Prelude.{◌↔◌, IfOk}
 use Rattle.values.specs.declared.entity_uid.EntityUid.{EntityUid}
 use Rattle.ancestor_closure.specs.ancestor_search.Hierarchy.{Parents, IsOnCycle, with_parents}
-use Rattle.site_store.specs.Seen.{world_stored}
+use Rattle.site_store.specs.StoreViews.{world_stored}
 use Rattle.site_store.proofs.WorldSeen.{ancestors_kept, edges_searched}
 use Rattle.site_store.proofs.stored_world.StoredWorld.would_cycle.Goals as goal
 

@@ -2,8 +2,8 @@ use Rattle.std.proofs.Common.{subst, refl}
 use Rattle.std.specs.Prelude.{IfOk}
 use Rattle.std.proofs.lemmas.Result.{IfOk-weaker}
 use Rattle.ancestor_closure.specs.ancestor_search.Hierarchy.{Parents, IsAllAbove, IsAscending, names}
-use Rattle.ancestor_closure.specs.Kept.{AreKept}
-use Rattle.site_store.specs.Seen.{world_stored}
+use Rattle.ancestor_closure.specs.Kept.{IsCacheOf}
+use Rattle.site_store.specs.StoreViews.{world_stored}
 use Rattle.site_store.proofs.Tops.{nothing_above, none_ascend}
 use Rattle.site_store.proofs.WorldSeen.{ancestors_kept, edges_searched}
 use Rattle.site_store.proofs.stored_world.StoredWorldAncestry.ancestors.Goals as goal
@@ -20,7 +20,7 @@ returns-else-is_top_action-clause-all c =
     let edges = (world_stored c.args.self.now).parents in
     let held = c.in-Some.kept in
     let kept = ancestors_kept c.self.invariant c.args.self.now c.self.view_is held c.in-Some.is in
-    IfOk-weaker c.ancestors.result (λ v. (parents : Parents) → AreKept parents held → IsAllAbove parents c.args.uid.now (names v.items))
+    IfOk-weaker c.ancestors.result (λ v. (parents : Parents) → IsCacheOf parents held → IsAllAbove parents c.args.uid.now (names v.items))
     (λ v. IsAllAbove edges c.args.uid.now (names v.items)) (λ v h. h edges kept) c.ancestors.ensures.all
 
 pub returns-else-is_top_action-clause-ascending : goal.returns-else-is_top_action-clause-ascending
@@ -28,7 +28,7 @@ returns-else-is_top_action-clause-ascending c =
     let edges = (world_stored c.args.self.now).parents in
     let held = c.in-Some.kept in
     let kept = ancestors_kept c.self.invariant c.args.self.now c.self.view_is held c.in-Some.is in
-    IfOk-weaker c.ancestors.result (λ v. (parents : Parents) → AreKept parents held → IsAscending (names v.items)) (λ v. IsAscending (names v.items))
+    IfOk-weaker c.ancestors.result (λ v. (parents : Parents) → IsCacheOf parents held → IsAscending (names v.items)) (λ v. IsAscending (names v.items))
     (λ v h. h edges kept) c.ancestors.ensures.ascending
 
 pub returns-in-None-clause-all : goal.returns-in-None-clause-all

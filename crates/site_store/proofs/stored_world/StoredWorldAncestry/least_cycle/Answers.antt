@@ -2,13 +2,13 @@ use Rattle.std.proofs.Common.{sym, subst, MatchOption}
 use Rattle.std.specs.Prelude.{IfOk}
 use Rattle.ancestor_closure.specs.ancestor_search.Hierarchy.{Parents, names}
 use Rattle.ancestor_closure.specs.ancestor_search.LeastCycle.{HasNoCycle, IsLeastCycle}
-use Rattle.ancestor_closure.specs.Kept.{AreKept}
+use Rattle.ancestor_closure.specs.Kept.{IsCacheOf}
 use Rattle.site_store.proofs.WorldSeen.{ancestors_kept, edges_searched}
 use Rattle.site_store.proofs.stored_world.StoredWorldAncestry.least_cycle.Goals as goal
 
 pub least_cycle-requires : goal.least_cycle-requires
 least_cycle-requires c =
-    subst (λ (p : Parents). AreKept p c.in-Some.kept)
+    subst (λ (p : Parents). IsCacheOf p c.in-Some.kept)
     (sym (edges_searched c.self.invariant c.args.self.now c.self.view_is))
     (ancestors_kept c.self.invariant c.args.self.now c.self.view_is c.in-Some.kept c.in-Some.is)
 

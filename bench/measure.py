@@ -1,0 +1,54 @@
+#!/usr/bin/env python3
+"""Measures the program and its parts: instructions (by valgrind), greatest resident memory, and times where it says so.
+
+    bench/measure.py                    lists the measures
+    bench/measure.py NAME [WORD ..]     takes one; without words, at its usual sizes
+    bench/measure.py NAME --help        says what it measures, and its words
+
+A measure is a module of bench/measures, or one of the tables in bench/measures/parts.py. Instructions are the same on a
+busy machine, times are not. PROGRAM names another binary than the one that is built here. Needs valgrind, and GNU time
+for memory.
+"""
+import ast
+import os
+import runpy
+import sys
+
+HERE = os.path.dirname(os.path.abspath(__file__))
+FOLDER = f"{HERE}/measures"
+sys.path[:0] = [HERE, FOLDER, f"{HERE}/../tools"]
+sys.dont_write_bytecode = True
+import parts  # noqa: E402
+
+
+def documents():
+    """What each measure says of itself, by its name."""
+    found = dict(parts.DOCUMENTS)
+    for file in os.listdir(FOLDER):
+        name = file.removesuffix(".py")
+        if name != "parts":
+            with open(f"{FOLDER}/{file}", encoding="utf-8") as source:
+                found[name] = ast.get_docstring(ast.parse(source.read()))
+    return dict(sorted(found.items()))
+
+
+def main(words):
+    found = documents()
+    name = words[0] if words else ""
+    if name not in found:
+        for name, document in found.items():
+            print(f"{name:<16} {document.splitlines()[0]}")
+        return 0 if not words else 2
+    if "--help" in words[1:]:
+        print(found[name])
+        return 0
+    if name in parts.DOCUMENTS:
+        parts.measure(name, words[1:])
+        return 0
+    sys.argv = words
+    runpy.run_path(f"{FOLDER}/{name}.py", run_name="__main__")
+    return 0
+
+
+if __name__ == "__main__":
+    sys.exit(main(sys.argv[1:]))

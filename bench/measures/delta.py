@@ -1,0 +1,57 @@
+"""Measures a delta of ten news over so many names: instructions a name (by valgrind) for the walk over store and summary
+and for the text. What reading the summary takes is taken off, by a summary that is refused at its last stamp.
+
+  bench/measure.py delta [NAMES ..]       (default: 10,000 and 100,000)
+
+The names are policies that were deleted, in a state that the site begins with. PROGRAM names another binary. Needs
+python3 and valgrind; 100,000 names take a minute.
+"""
+import hashlib
+import json
+import re
+import subprocess
+import sys
+import tempfile
+from row_sites import connected, free_port, request
+from runs import whole
+
+PROGRAM, SIZES = whole(), [int(it) for it in sys.argv[1:]] or [10_000, 100_000]
+LABEL, NEWS = hashlib.sha256(b"{}").hexdigest(), 10
+
+
+def stamp(number, count):
+    return {"count": count, "name": {"policy": f"p{number:06}"}, "site": "2"}
+
+
+def counted(folder, summary):
+    """The instructions of a site that is asked once, and its reply."""
+    port = free_port()
+    words = ["valgrind", "--tool=callgrind", "--callgrind-out-file=/dev/null", PROGRAM, "serve", "--schema",
+             f"{folder}/schema", "--site", "1", "--listen", f"127.0.0.1:{port}", "--state", f"{folder}/state",
+             "--connections", "1"]
+    site = subprocess.Popen(words, stdout=subprocess.PIPE, stderr=subprocess.PIPE)
+    site.stdout.readline()
+    with connected(port) as link:
+        link.settimeout(600)
+        link.sendall(request("POST", "/v1/delta", summary))
+        link.shutdown(1)
+        reply = b"".join(iter(lambda: link.recv(65536), b""))
+    _, told = site.communicate(timeout=600)
+    return int(re.search(rb"Collected : (\d+)", told)[1]), reply
+
+
+for size in SIZES:
+    with tempfile.TemporaryDirectory() as folder:
+        entries = [{"body": None, **stamp(it, 10**6 + it if it < NEWS else 1 + it)} for it in range(size)]
+        with open(f"{folder}/schema", "w") as file:
+            file.write("{}")
+        with open(f"{folder}/state", "w") as file:
+            json.dump({"entries": entries, "kind": "state", "schema": LABEL, "version": 2}, file)
+        stamps = [stamp(it, 1 + it) for it in range(size)]
+        good, bad = ({"kind": "summary", "schema": LABEL, "stamps": it, "version": 2}
+                     for it in (stamps, [*stamps[:-1], stamp(size - 1, 0)]))
+        less, refused = counted(folder, json.dumps(bad).encode())
+        more, given = counted(folder, json.dumps(good).encode())
+    if b'"code":54' not in refused or given.count(b'"policy"') != NEWS:
+        sys.exit(f"another reply than was to come: {refused[:200]} {given[:200]}")
+    print(f"{size} names: {(more - less) / size:.1f} instructions a name")

@@ -1,0 +1,203 @@
+"""Measures how the work grows by what a schema, a policy, entities or a request drive: instructions (by valgrind) at
+each size.
+
+  bench/measure.py growth [SIZE ..]       (default: 10, 100 and 1,000)
+  WHAT="known field" bench/measure.py growth [SIZE ..]       these rows alone
+
+  is        one `action is Action` more in a condition, where the schema has so many actions
+  actions   so many actions, each a member of the next
+  types     so many entity types, each a member of the two before
+  uses      a policy and environment, where so many actions each have an environment
+  known     one fact more, where a condition tells so many records apart of which each has the same field
+  field     one `context.f` more, of the last of so many fields
+  members   a set of `context`, so many times, compared with another, where the context has so many fields
+  apart     the same, but that no two of these expressions are equal: `{a: context, b: n}.a`
+  shared    a condition whose shared forms, counted each time they stand, are some fifteen times so many
+  asked     one request more at a served site, under so many environments
+  above     one condition more with `in` of an entity that the request does not name, below a chain of so many groups
+
+Taken off is, by row: a condition of one `is`; for the next two a schema as long that is refused at its first byte; a
+file without policies; half as many facts; a condition of one `context.f`; for the next two the same schema with one
+member; without a condition; what HTTP takes; the same condition with `==`. PROGRAM names another binary. Needs python3
+and valgrind.
+"""
+import json
+import os
+import sys
+import tempfile
+from runs import COUNTING, Ended, Link, Served, collected, request, whole
+
+PROGRAM, SIZES = whole(), [int(it) for it in sys.argv[1:]] or [10, 100, 1000]
+USES = {"principalTypes": ["User"], "resourceTypes": ["Doc"]}
+AGE = {"type": "Record", "attributes": {"age": {"type": "Long", "required": False}}}
+TYPES = {"User": {"memberOfTypes": ["Group"], "shape": AGE}, "Group": {}, "Doc": {}}
+ASKED, POLICIES = 1000, 100
+
+
+def compact(types, actions):
+    return json.dumps({"": {"entityTypes": types, "actions": actions}}, separators=(",", ":"))
+
+
+def action_names(count):
+    return compact(TYPES, {f"a{n:04}": {} for n in range(1, count)} | {"a0000": {"appliesTo": USES}})
+
+
+def action_chain(count):
+    above = [[{"id": f"a{n + 1}"}] if n + 1 < count else [] for n in range(count)]
+    return compact(TYPES, {f"a{n}": {"memberOf": above[n]} for n in range(count)})
+
+
+def type_lattice(count):
+    above = ([f"T{it}" for it in (n - 1, n - 2) if it >= 0] for n in range(count))
+    return compact({f"T{n}": {"memberOfTypes": it} for n, it in enumerate(above)}, {})
+
+
+def environments(count):
+    return compact(TYPES, {f"a{n}": {"appliesTo": USES} for n in range(count)})
+
+
+def ordinary(count):
+    condition = "principal has age && principal.age > {}"
+    scope = 'principal in Group::"g{}", action, resource'
+    return "\n".join(f"permit({scope.format(n)}) when {{ {condition.format(n)} }};" for n in range(count))
+
+
+def grouped(parts):
+    """A condition of these parts, each group of 30 in parentheses, so that none nests deep."""
+    groups = [" && ".join(parts[at:at + 30]) for at in range(0, len(parts), 30)]
+    while len(groups) > 30:
+        groups = ["(" + ") && (".join(groups[at:at + 30]) + ")" for at in range(0, len(groups), 30)]
+    return "permit(principal, action, resource) when { (" + ") && (".join(groups) + ") };"
+
+
+def known(count):
+    """So many records, each told apart from the others by a number, and each of which has an age."""
+    return grouped([f"{{a: principal, b: {n}}}.a has age" for n in range(count)])
+
+
+def wide_context(count, required):
+    """A schema whose context has so many fields."""
+    fields = {f"f{n:04}": {"type": "Long", "required": required} for n in range(count)}
+    context = {"type": "Record", "attributes": fields}
+    return compact(TYPES, {"view": {"appliesTo": USES | {"context": context}}})
+
+
+def members(expressions):
+    return "permit(principal, action, resource) when { [" + ", ".join(expressions) + "] == [context] };"
+
+
+def shared(count):
+    """A condition that holds the one before twice in `is .. in`, until its forms are so many."""
+    condition, forms = "principal", 1
+    while forms < count:
+        condition, forms = f'(if {condition} is User in Group::"g" then principal else principal)', 2 * forms
+    return f'permit(principal, action, resource) when {{ {condition} == principal }};'
+
+
+def ran(words, files, status=0):
+    """The instructions of a run over files of these names, which ends with this status."""
+    with tempfile.TemporaryDirectory() as room:
+        for name, text in files.items():
+            with open(f"{room}/{name}", "w", encoding="utf-8") as file:
+                file.write(text)
+        ended = Ended([*COUNTING, PROGRAM, *words], room)
+        if ended.status != status:
+            sys.exit(f"status {ended.status}: {ended.out[:300]!r} {ended.err[-300:]}")
+        return collected(ended.err)
+
+
+def checked(schema, policies, status=0):
+    """The instructions of a check, which ends with this status."""
+    return ran(["check", "--schema", "schema", "policies"], {"schema": schema, "policies": policies}, status)
+
+
+def read(schema):
+    return checked(schema, "") - checked("x" * len(schema), "", 1)
+
+
+def searched(count, operator):
+    """The instructions of deciding by so many policies with a condition on one group, below a chain of others."""
+    above = [[{"type": "Group", "id": f"g{n + 1}"}] if n + 1 < count else [] for n in range(count)]
+    entities = [{"uid": {"type": "Group", "id": f"g{n}"}, "parents": above[n]} for n in range(count)]
+    asked = {"principal": 'User::"u"', "action": 'Action::"a"', "resource": 'Doc::"d"'}
+    condition = f'when {{ Group::"g0" {operator} Group::"none" }};'
+    policies = "\n".join([f"permit(principal, action, resource) {condition}"] * POLICIES)
+    words = ["decide", "--policies", "policies", "--entities", "entities", "--request", "request"]
+    return ran(words, {"policies": policies, "entities": json.dumps(entities), "request": json.dumps(asked)})
+
+
+def served(schema, requests):
+    """The instructions of a site that serves one connection with these requests."""
+    with tempfile.TemporaryDirectory() as room:
+        with open(f"{room}/schema", "w", encoding="utf-8") as file:
+            file.write(schema)
+        with Served([*COUNTING, PROGRAM], room, "--connections", "1") as site:
+            link = Link(site.port)
+            replies = [link.ask(request(*one))[0][0] for one in requests]
+            link.close()
+            site.ended()
+            if {*replies} - {200, 404}:
+                sys.exit(f"replies {replies}")
+            return collected(site.told())
+
+
+def asked(count):
+    """One request more, under so many environments, at a site that has taken an update."""
+    body = json.dumps({"principal": 'User::"u"', "action": f'Action::"a{count - 1}"', "resource": 'Doc::"d"'}).encode()
+    one, idle = ("POST", "/v1/authorize", body), ("POST", "/no/authorize", body)
+    schema, put = environments(count), ("PUT", "/v1/entities", b'{"uid":{"type":"Group","id":"g"}}')
+    return (served(schema, [put] + [one] * 11) - served(schema, [put, one] + [idle] * 10)) / 10
+
+
+def is_action(size):
+    names, one = action_names(size), ["action is Action"]
+    return (checked(names, grouped(one * ASKED)) - checked(names, grouped(one))) / (ASKED - 1)
+
+
+def uses(size):
+    schema = environments(size)
+    return (checked(schema, ordinary(POLICIES)) - checked(schema, "")) / POLICIES / size
+
+
+def facts(size):
+    schema = compact(TYPES, {"view": {"appliesTo": USES}})
+    return (checked(schema, known(2 * size)) - checked(schema, known(size))) / size
+
+
+def field(size):
+    schema, one = wide_context(size, True), [f"context.f{size - 1:04} > 0"]
+    return (checked(schema, grouped(one * ASKED)) - checked(schema, grouped(one))) / (ASKED - 1)
+
+
+def joined(size):
+    schema = wide_context(size, False)
+    return checked(schema, members(["context"] * size)) - checked(schema, members(["context"]))
+
+
+def joined_apart(size):
+    schema, many = wide_context(size, False), [f"{{a: context, b: {n}}}.a" for n in range(size)]
+    return checked(schema, members(many)) - checked(schema, members(many[:1]))
+
+
+def forms(size):
+    schema = compact(TYPES, {"view": {"appliesTo": USES}})
+    return checked(schema, shared(size)) - checked(schema, "permit(principal, action, resource);")
+
+
+MEASURES = {
+    "is": is_action,
+    "actions": lambda size: read(action_chain(size)),
+    "types": lambda size: read(type_lattice(size)),
+    "uses": uses,
+    "known": facts,
+    "field": field,
+    "members": joined,
+    "apart": joined_apart,
+    "shared": forms,
+    "asked": asked,
+    "above": lambda size: (searched(size, "in") - searched(size, "==")) / POLICIES,
+}
+print(f"{'what':<8} {'size':>6} {'instructions':>14}")
+for size in SIZES:
+    for what in os.environ.get("WHAT", "").split() or MEASURES:
+        print(f"{what:<8} {size:>6} {MEASURES[what](size):>14,.0f}", flush=True)

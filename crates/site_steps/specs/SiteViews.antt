@@ -1,0 +1,49 @@
+-- Defines the abstract view of a site: its schema, its name, and its store.
+-- Rules of this product: a site is a store of stamped texts, each with its parsed form. Its caches, an index of its
+-- policies and the ancestors of its entities, change no answer, and contracts do not see them.
+use Rattle.std.specs.Prelude.{◌≡◌, ℕ, List}
+use Rattle.site_store.specs.policy_grammar.declared.policy.Policy.{Policy}
+use Rattle.site_store.specs.schema.SchemaEntries as kept_schema
+use Rattle.site_store.specs.schema.Schemas.{StatedSchema}
+use Rattle.site_store.specs.schema.Views.{schema_view}
+use Rattle.site_store.specs.entity_data.declared.entity.Entity.{Entity}
+use Rattle.site_store.specs.stamped_store.Reading.{AreEntriesRead}
+use Rattle.site_store.specs.stamped_store.SiteNames.{IsSiteName}
+use Rattle.site_store.specs.stamped_store.Store.{Store, StoreEntries, abstract_store, updates}
+use Rattle.site_soundness.specs.message_format.Updates.{AreInRange, AreValid}
+use Rattle.site_steps.specs.Admitted.{IsPolicyUnder, IsEntityUnder}
+
+-- A `SiteView` is a schema, a name, and the entries of a store, each text with its parsed form.
+pub record SiteView : Type 0 where
+  pub schema : kept_schema.SchemaEntries
+  pub name : List ℕ
+  pub kept : StoreEntries Policy Entity
+
+-- `schema_of a` is what the schema of the site `a` states.
+abbrev pub schema_of : SiteView → StatedSchema
+schema_of a = schema_view a.schema
+
+-- `store_in a` is the abstract store of the site `a`: at each name at most one stamped body.
+abbrev pub store_in : SiteView → Store
+store_in a = abstract_store a.kept
+
+-- `IsSameSite a b` holds if the sites `a` and `b` have one schema and one name.
+abbrev pub IsSameSite : SiteView → SiteView → Type 0
+IsSameSite a b = (b.schema ≡ a.schema) × (b.name ≡ a.name)
+
+-- `IsHeld schema k` holds if each text of the store `k` is read as its parsed form under `schema`.
+abbrev pub IsHeld : StatedSchema → StoreEntries Policy Entity → Type 0
+IsHeld schema k = AreEntriesRead (IsPolicyUnder schema) (IsEntityUnder schema) k
+
+-- `IsSite schema name k` is the invariant of a site: its texts are read as their parsed forms, each name and stamp of
+-- its store is in its range, and its name is that of a site.
+pub record IsSite (schema : StatedSchema) (name : List ℕ) (k : StoreEntries Policy Entity) : Type 0 where
+  pub held : IsHeld schema k
+  pub in_range : AreInRange (updates (abstract_store k))
+  pub named : IsSiteName name
+
+-- `IsValidStore schema s` holds if the names and stamps of `s` are in their ranges, and each text may be read under
+-- its name.
+pub record IsValidStore (schema : StatedSchema) (s : Store) : Type 0 where
+  pub in_range : AreInRange (updates s)
+  pub valid : AreValid (IsPolicyUnder schema) (IsEntityUnder schema) (updates s)

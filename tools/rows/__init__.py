@@ -1,0 +1,1 @@
+"""The tables of rows/: what answers their rows."""

@@ -1,0 +1,179 @@
+"""Runs the rows of rows/ through a built program, and reports each row with another outcome than expected.
+
+    python3 tools/rows PROGRAM [TABLE ..]        all tables of rows/, or the named ones
+
+A table rows/NAME.txt (for `sites` crates/site_rows/stdout) is plain text. An empty line, or one that begins with `#`,
+is a heading; every other line is `WORD TEXT  ->  EXPECTED`, split at its last arrow. (The tables `merge` and `pull`
+have blocks of lines instead.) KINDS has the class that answers the rows of each table, and explains each word. Tables
+run in parallel, as many as there are processors; the rows of a table run in order. The last line is `N passed, M
+failed`; the status is 1 if a row failed. Standard library alone.
+"""
+import concurrent.futures
+import os
+import signal
+import sys
+import tempfile
+import threading
+import time
+
+sys.dont_write_bytecode = True  # the tables' tools leave nothing beside them
+TOP = os.path.dirname(os.path.dirname(os.path.dirname(os.path.abspath(__file__))))
+sys.path.insert(0, f"{TOP}/tools")
+
+from rows import commands, drills, hostile, schemas, sites, sound  # noqa: E402
+import tried  # noqa: E402
+
+KINDS = {
+    **commands.KINDS,
+    **drills.KINDS,
+    **hostile.KINDS,
+    **schemas.KINDS,
+    **sites.KINDS,
+    **sound.KINDS,
+}
+# tables that stand elsewhere: they have what a program of the gate prints, too
+ELSEWHERE = {"sites": "crates/site_rows/stdout"}
+# how many characters of a text are shown
+SHOWN = 200
+# a row that takes so many seconds hangs, and those below it would, too
+HANGS = 25
+
+
+class Stopped(Exception):
+    """The tables are to be tried no further."""
+
+
+class Tables:
+    """The tables that are tried, what is known of them, and whether to go on."""
+
+    def __init__(self, program, room):
+        self.program, self.room = program, room
+        self.stop, self.telling = threading.Event(), threading.Lock()
+        self.kinds = []
+        self.passed = self.failed = 0
+
+    def tell(self, *lines):
+        """Prints lines that stay together."""
+        with self.telling:
+            print("\n".join(lines), flush=True)
+
+    def came_to(self, kind, row):
+        """Returns the outcome of a row; a failed kind is reported as such."""
+        try:
+            return kind.came_to(row.word, row.text)
+        except Exception as fault:  # a row that cannot be tried is a wrong one, and the others are tried
+            return f"{type(fault).__name__}: {fault}"
+
+    def try_rows(self, name, kind, rows):
+        """Tries the rows of a table, in order. Returns how many were wrong, or not tried behind one that hangs."""
+        wrong = 0
+        for tried, row in enumerate(rows, 1):
+            if self.stop.is_set():
+                raise Stopped
+            began = time.monotonic()
+            came = self.came_to(kind, row)
+            if came != row.expected and not self.stop.is_set():
+                wrong += 1
+                at = first_difference(row.expected, came)
+                wanted, came = cut(row.expected, at), cut(came, at)
+                self.tell(f"{name}:{row.line}: {cut(row.shown())}", f"  wanted: {wanted}", f"  came:   {came}")
+            if time.monotonic() - began > HANGS:
+                self.tell(f"{name}:{row.line}: took too long: the {len(rows) - tried} rows below it are not tried")
+                return wrong + len(rows) - tried
+        return wrong
+
+    def try_table(self, name):
+        """Tries a table, and tells how many rows it has and how long it took."""
+        began = time.monotonic()
+        with open(path_of(name), encoding="utf-8", newline="\n") as file:
+            rows = KINDS[name].rows_of(file.read())
+        room = f"{self.room}/{name}"
+        os.mkdir(room)
+        kind = KINDS[name](self.program, room)
+        self.kinds.append(kind)
+        try:
+            wrong = self.try_rows(name, kind, rows)
+        finally:
+            kind.close()
+        with self.telling:
+            self.passed, self.failed = self.passed + len(rows) - wrong, self.failed + wrong
+        self.tell(f"{name}: {len(rows)} rows, {wrong} wrong, {time.monotonic() - began:.1f} s")
+
+    def end(self):
+        """Lets no further row be tried, and ends what was begun."""
+        self.stop.set()
+        for kind in list(self.kinds):
+            kind.close()
+
+
+def first_difference(one, other):
+    """Returns where two texts begin to differ."""
+    return len(os.path.commonprefix([one, other]))
+
+
+def cut(text, at=0):
+    """Returns a text that fits on a screen; of a long one, the part around a position."""
+    if len(text) <= SHOWN:
+        return text
+    begin = max(0, min(at - SHOWN // 2, len(text) - SHOWN))
+    before, behind = ".. " if begin else "", " .." if begin + SHOWN < len(text) else ""
+    return f"{before}{text[begin : begin + SHOWN]}{behind} ({len(text)} characters)"
+
+
+def try_all(tables, names):
+    """Tries tables side by side. Where one cannot be tried, or at Ctrl-C, the others end too."""
+    count = len(os.sched_getaffinity(0))
+    with concurrent.futures.ThreadPoolExecutor(count) as pool:
+        going = [pool.submit(tables.try_table, name) for name in names]
+        try:
+            for one in concurrent.futures.as_completed(going):
+                one.result()
+        finally:
+            for one in going:
+                one.cancel()
+            tables.end()
+
+
+def path_of(name):
+    """Returns the path of a table."""
+    return f"{TOP}/{ELSEWHERE.get(name, f'rows/{name}.txt')}"
+
+
+def table_names(words):
+    """Returns the named tables, or all of rows/ and all with a kind, the largest first."""
+    names = {os.path.basename(word).removesuffix(".txt") for word in words}
+    stand = {name.removesuffix(".txt") for name in os.listdir(f"{TOP}/rows") if name.endswith(".txt")} | set(ELSEWHERE)
+    names = names or stand | set(KINDS)
+    for name in sorted(names):
+        if name not in KINDS or name not in stand:
+            raise ValueError(f"expected a table with a kind of rows, got {name}")
+    return sorted(names, key=lambda name: os.path.getsize(path_of(name)), reverse=True)
+
+
+def main(words):
+    """Tries the tables, and gives the status."""
+    if not words or words[0].startswith("-"):
+        print(__doc__, file=sys.stderr)
+        return 2
+    program = os.path.abspath(words[0])
+    if not os.access(program, os.X_OK):
+        print(f"rows: expected a program, got none at {program}", file=sys.stderr)
+        return 2
+    try:
+        names = table_names(words[1:])
+    except ValueError as fault:
+        print(f"rows: {fault}", file=sys.stderr)
+        return 2
+    signal.signal(signal.SIGTERM, tried.interrupt)
+    with tempfile.TemporaryDirectory(prefix="rows-") as room:
+        tables = Tables(program, room)
+        try_all(tables, names)
+    print(f"{tables.passed} passed, {tables.failed} failed", flush=True)
+    return 1 if tables.failed else 0
+
+
+if __name__ == "__main__":
+    try:
+        sys.exit(main(sys.argv[1:]))
+    except KeyboardInterrupt:
+        sys.exit(130)

@@ -1,0 +1,97 @@
+"""The form of the tables of rows/: rows, and the texts in them. Used by tools/rows and the kinds of rows."""
+import os
+
+ARROW = "  ->  "
+# where the tables stand, and the files that their texts name
+TABLES = os.path.join(os.path.dirname(os.path.dirname(os.path.dirname(os.path.abspath(__file__)))), "rows")
+
+
+class Row:
+    """A row of a table: where it begins, a word, the text behind it, and what it has to come to."""
+
+    def __init__(self, line, word, text, expected):
+        self.line, self.word, self.text, self.expected = line, word, text, expected
+
+    def shown(self):
+        """Returns the row as in its table."""
+        return f"{self.word} {self.text}" if self.text else self.word
+
+
+class Kind:
+    """What answers the rows of a table, in their order. What a row gives to those below it is kept here.
+
+    A kind has `came_to`, and may have an `__init__` and a `close` of its own that call these, or a `rows_of` of its own
+    where its tables are of another form.
+    """
+
+    def __init__(self, program, room):
+        """PROGRAM is an absolute path, ROOM a fresh folder for this table."""
+        self.program, self.room = program, room
+
+    def came_to(self, word, text):
+        """Returns the outcome of one row, as a text to compare with the expected one."""
+        raise NotImplementedError
+
+    def close(self):
+        """Ends what was begun for this table."""
+
+    @staticmethod
+    def rows_of(table):
+        """Returns the rows in the text of a table."""
+        return rows_of(table)
+
+
+def rows_of(table):
+    """Returns the rows of a table with a row a line. An empty line, and one that begins with `#`, is a heading."""
+    rows = []
+    for number, line in enumerate(table.split("\n"), 1):
+        if line and not line.startswith("#"):
+            row, arrow, expected = line.rpartition(ARROW)
+            if not arrow:
+                raise ValueError(f"line {number}: expected an arrow, got none: {line[:100]}")
+            word, _, text = row.partition(" ")
+            rows.append(Row(number, word, text, expected))
+    return rows
+
+
+def numbered(count, part):
+    """Returns a part so many times; in each `#` is its index, and `+` one more."""
+    return "".join(part.replace("#", str(number)).replace("+", str(number + 1)) for number in range(count))
+
+
+def inside_of(text):
+    """Returns the bytes of a bracket: a repeated part, numbered or not, a file, or bytes."""
+    if text.startswith("@"):
+        with open(os.path.join(TABLES, text[1:]), "rb") as file:
+            return file.read()
+    count, sign, part = text.partition("№")
+    if sign:
+        return numbered(int(count), part).encode()
+    count, sign, part = text.partition("×")
+    if sign:
+        return part.encode() * int(count)
+    return bytes(int(byte, 16) for byte in text.split(" "))
+
+
+def expanded(text):
+    """Returns the bytes that a text stands for.
+
+    `⟦3×ab⟧` is `ababab`, `⟦2№a#+⟧` is `a01a12`, `⟦0a ff⟧` two bytes, and `⟦@NAME⟧` what the file rows/NAME holds.
+    """
+    first, *pieces = text.split("⟦")
+    found = [first.encode()]
+    for piece in pieces:
+        inside, bracket, behind = piece.partition("⟧")
+        if not bracket:
+            raise ValueError(f"expected a closed bracket, got {piece[:100]}")
+        found += [inside_of(inside), behind.encode()]
+    return b"".join(found)
+
+
+def printed(output):
+    """Returns the text of a line that a program wrote, without its end, or a note if it is not UTF-8 or has no end."""
+    try:
+        text = output.decode()
+    except UnicodeDecodeError:
+        return f"no UTF-8: {output[:200]!r}"
+    return text.removesuffix("\n") if text.endswith("\n") else f"{text} without a line's end"
