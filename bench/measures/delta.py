@@ -12,7 +12,7 @@ import re
 import subprocess
 import sys
 import tempfile
-from row_sites import connected, free_port, request
+from rows.sites import connected, free_port, request
 from runs import whole
 
 PROGRAM, SIZES = whole(), [int(it) for it in sys.argv[1:]] or [10_000, 100_000]
