@@ -2,11 +2,11 @@
 """Measures the program and its parts: instructions (by valgrind), greatest resident memory, and times where it says so.
 
     bench/measure.py                    lists the measures
-    bench/measure.py NAME [WORD ..]     takes one; without words, at its usual sizes
-    bench/measure.py NAME --help        says what it measures, and its words
+    bench/measure.py NAME [WORD ..]     runs a measure; without arguments, at its usual sizes
+    bench/measure.py NAME --help        prints what it measures, and its arguments
 
 A measure is a module of bench/measures, or one of the tables in bench/measures/parts.py. Instructions are the same on a
-busy machine, times are not. PROGRAM names another binary than the one that is built here. Needs valgrind, and GNU time
+busy machine, times are not. PROGRAM names another binary than the built one. Needs valgrind, and GNU time
 for memory.
 """
 import ast
@@ -22,7 +22,7 @@ import parts  # noqa: E402
 
 
 def documents():
-    """What each measure says of itself, by its name."""
+    """Returns the help of each measure, by its name."""
     found = dict(parts.DOCUMENTS)
     for file in os.listdir(FOLDER):
         name = file.removesuffix(".py")
@@ -32,12 +32,20 @@ def documents():
     return dict(sorted(found.items()))
 
 
+def first_sentence(document):
+    """Returns the first sentence of a text."""
+    return " ".join(document.partition("\n\n")[0].split()).partition(". ")[0].rstrip(".")
+
+
 def main(words):
+    if words in (["-h"], ["--help"]):
+        print(__doc__)
+        return 0
     found = documents()
     name = words[0] if words else ""
     if name not in found:
         for name, document in found.items():
-            print(f"{name:<16} {document.splitlines()[0]}")
+            print(f"{name:<16} {first_sentence(document)}")
         return 0 if not words else 2
     if "--help" in words[1:]:
         print(found[name])

@@ -10,9 +10,9 @@ import sys
 import tempfile
 import time
 
-# behind these words a run tells its instructions, which are the same whatever else the machine does
+# with these arguments before it a run reports its instructions, whatever else the machine does
 COUNTING = ("valgrind", "--tool=callgrind", "--callgrind-out-file=/dev/null")
-# behind these its memory; what the system tells of a child begins with what its parent has
+# and with these its memory; the system counts that of its parent too, from the start
 TIMING = ("/usr/bin/time", "-f", "%M")
 
 
@@ -118,7 +118,7 @@ class Link:
                     return int(head[9:12]), body
             came = self.stream.recv(1 << 16)
             if not came:
-                raise ConnectionResetError("the connection ended")
+                raise ConnectionResetError("expected a reply, got the end of the connection")
             self.buffer += came
 
     def ask(self, *requests):

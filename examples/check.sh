@@ -1,12 +1,11 @@
 #!/usr/bin/env bash
-# Compares the examples' answers with what the program prints, and tries what a new user gets wrong. Stands beside the gate.
+# Compares the program's output for the examples with the expected answers, and tries the mistakes of a new user.
 set -uo pipefail
 cd "$(dirname "${BASH_SOURCE[0]}")/photos"
 site=${PROGRAM:-../../cedar_site}
 failed=0
 
-# name, wanted status, the wanted lines ("nothing" where none are wanted; empty where they are not compared),
-# stream (1 or 2), words
+# name, expected status, expected lines ("nothing": none; empty: not compared), stream (1 or 2), arguments
 wants() {
     local name=$1 status=$2 line=$3 stream=$4
     shift 4
@@ -14,10 +13,10 @@ wants() {
     out=$(mktemp) err=$(mktemp)
     "$site" "$@" >"$out" 2>"$err"
     got=$?
-    local told=$out
-    [ "$stream" = 2 ] && told=$err
-    if [ "$got" != "$status" ] || { [ -n "$line" ] && [ "$(cat "$told")" != "${line#nothing}" ]; }; then
-        echo "$name: status $got, told: $(cat "$told")"
+    local output=$out
+    [ "$stream" = 2 ] && output=$err
+    if [ "$got" != "$status" ] || { [ -n "$line" ] && [ "$(cat "$output")" != "${line#nothing}" ]; }; then
+        echo "$name: expected status $status${line:+ and $line}, got $got and $(cat "$output")"
         failed=1
     fi
     rm -f "$out" "$err"
@@ -59,7 +58,7 @@ printf '[{"uid":{"type":"User"}}]' >"$broken/entities.json"
 wants "code 30" 1 '{"error":{"code":30,"place":0,"within":null}}' 2 decide --policies policies.cedar --entities "$broken/entities.json" --request request.json
 
 
-# The clinic: policies that are checked under a schema, attributes and a context.
+# The clinic: validation under a schema, attributes and a context.
 cd ../clinic
 decide=(decide --schema schema.json --policies policies.cedar --entities entities.json)
 wants "the clinic's policies" 0 "$(cat policies_verdicts.txt)" 1 check --schema schema.json policies.cedar
@@ -84,5 +83,5 @@ printf '{"site":3,"do":"offer"}' >"$broken/third.jsonl"
 wants "a script with a third site of two" 1 '{"error":{"code":30,"place":0,"within":null}}' 2 drill --schema schema.json --sites 2 "$broken/third.jsonl"
 wants "no site" 2 "" 2 drill --schema schema.json --sites 0 lost_and_late.jsonl
 
-[ $failed = 0 ] && echo "examples: as they should be"
+[ $failed = 0 ] && echo "examples: all checks passed"
 exit $failed

@@ -1,14 +1,15 @@
 #!/usr/bin/env python3
-"""Types what README.md, docs/operating.md and examples/tinytodo/README.md show, block by block and in order, and sees that each command does what the page says.
+"""Types the commands of README.md, docs/operating.md and examples/tinytodo/README.md, block by block, and compares their output with what the page says.
 
     PROGRAM=FILE examples/first_hour.py
 
-A block is what a page has indented by four spaces; those that begin with a command are typed into one shell a page, in a copy of
-examples/. `cedar_site` is the program that PROGRAM names, ports are free ones, a site that is served goes to the background and
-ends before the next one begins, and what waits in a loop is done once. Each command has to end with status 0, and what WANTED
-tells of a block has to be printed by it. The last line is `N passed, M failed`. It needs bash and curl: where there is none it
-says so. Standard library alone.
+A block is a part of a page that is indented by four spaces. Those that begin with a command are typed into one shell a page,
+in a copy of examples/. `cedar_site` is the program that PROGRAM names; ports are replaced by free ones; served sites go to
+the background, and all end before one starts where another listens; a loop runs once. Each command must end with status 0,
+and each block must print its texts of WANTED, in order. The last line is `N passed, M failed`. Without bash, curl,
+sha256sum or timeout the script is skipped, and says so. Standard library alone.
 """
+import argparse
 import os
 import re
 import shutil
@@ -21,14 +22,14 @@ import time
 
 TOP = os.path.dirname(os.path.dirname(os.path.abspath(__file__)))
 PROGRAM = os.path.abspath(os.environ.get("PROGRAM", f"{TOP}/crates/cedar_site/out/cedar_site"))
-# a page, and where its shell begins
+# each page, and the folder of its shell
 PAGES = (
     ("README.md", "."),
     ("docs/operating.md", "."),
     ("examples/tinytodo/README.md", "examples/tinytodo"),
 )
-TYPED = re.compile(r"(cd|cedar_site (check|decide|load|serve|pull|merge|drill)|\./cedar_site|curl|while) |\w+=http")
-# what a block prints in this order, by its first words
+TYPED = re.compile(r"(cd|sed|tail|cedar_site (check|decide|load|serve|exchange|pull|merge|drill)|\./cedar_site|curl|while) |\w+=http")
+# the expected output of a block, in this order, by its first words
 WANTED = {
     "cd examples/photos": [r'\{"cycle":\[\],"decision":"Allow","errors":\[\],"reason":\["family-sees-summer"\]\}'],
     "cd ../clinic": ["listening ", r'\{"taken":1\}'],
@@ -36,26 +37,32 @@ WANTED = {
     "cedar_site load --schema schema.json --site files --policies policies.cedar \\\n"
     "    --entities entities.json > begun.json\ncedar_site serve": ["listening "],
     "at=": [r'"count":1,.*"site":"1"', "permit", r'"decision":', r'"kind":"state"', r'\{"taken":0\}'],
+    "tail": [r'"method":"GET","target":"/v1/summary","status":200', r'"target":"/v1/merge","status":200'],
     "cedar_site serve --schema schema.json --site 1 --listen 127.0.0.1:7000 &": [
         "listening ", "listening ", r'\{"taken":1\}', r'\{"taken":0\}', r"(?P<sum>[0-9a-f]{64})", r"(?P=sum)"],
     "while": [r'\{"taken":\d+\}'],
+    "cedar_site pull --schema schema.json --site 3": [r'\{"taken":1\}', "listening ", r'\{"taken":0\}', r'\{"taken":0\}'],
+    "cedar_site serve --schema schema.json --site 2-b": ["listening ", r'\{"taken":0\}', r'\{"taken":0\}'],
+    "sed": ["listening "],
     "cedar_site check --schema schema.json policies.cedar\ncedar_site decide": [r'"decision":"Deny".*"reason":\["interns"\]'],
     "cedar_site drill": [r'"decision"|"stamp"|"count"'],
 }
+# the ports of a block's sites
+SERVED = re.compile(r"serve [^&]*?--listen 127\.0\.0\.1:(\d+)")
 END = "==== end of a block"
-# what hangs is ended, and has failed
+# the time limit of the run
 MOST_SECONDS = 240
 
 
 def free_port():
-    """A port of 127.0.0.1 that nobody listens at."""
+    """Returns a free port of 127.0.0.1."""
     with socket.socket() as it:
         it.bind(("127.0.0.1", 0))
         return it.getsockname()[1]
 
 
 def blocks_of(page):
-    """The blocks of a page that begin with a command, as they stand."""
+    """Returns the blocks of a page that begin with a command."""
     with open(f"{TOP}/{page}", encoding="utf-8") as file:
         text = file.read()
     found = re.findall(r"(?m)(?:^(?:    .*)?\n)*^    .*\n", text)
@@ -64,7 +71,7 @@ def blocks_of(page):
 
 
 def of_block(table, block):
-    """What a table has at a block: at the longest beginning of it."""
+    """Returns the value of the longest key of a table with which a block begins, or None."""
     fits = [it for it in table if block.startswith(it)]
     return table[max(fits, key=len)] if fits else None
 
@@ -75,10 +82,10 @@ def is_listening(port):
 
 
 class Shell:
-    """One shell, which tells each command that fails."""
+    """A shell that reports each command that fails."""
 
     def __init__(self, folder, room):
-        self.ports = {"7000": str(free_port()), "7001": str(free_port())}
+        self.ports = {str(port): str(free_port()) for port in range(7000, 7005)}
         path = f"{room}:{os.environ['PATH']}"
         self.process = subprocess.Popen(
             ["bash", "--norc"], cwd=folder, env={**os.environ, "PATH": path}, text=True, bufsize=1,
@@ -86,13 +93,13 @@ class Shell:
         self.type("set -E -o pipefail; trap 'echo FAILED: $BASH_COMMAND' ERR")
 
     def type(self, text):
-        """Types a text, and gives what it printed."""
+        """Types a text. Returns its output."""
         for page_port, port in self.ports.items():
             text = text.replace(f"127.0.0.1:{page_port}", f"127.0.0.1:{port}")
         self.process.stdin.write(f"{text}\necho; echo '{END}'\n")
         said = []
         for line in self.process.stdout:
-            # a site in the background may be in the midst of a line
+            # a site in the background may have written part of a line
             front, end, behind = line.partition(END)
             said.append(front + behind)
             if end:
@@ -100,12 +107,16 @@ class Shell:
         return "".join(said)
 
     def wait_for(self, block):
-        """Waits until the sites that a block serves listen."""
-        for page_port in re.findall(r"serve .*--listen 127\.0\.0\.1:(\d+)", block):
+        """Waits until the sites of a block listen."""
+        for page_port in SERVED.findall(block):
             for _ in range(200):
                 if is_listening(int(self.ports[page_port])):
                     break
                 time.sleep(0.05)
+
+    def is_taken(self, block):
+        """Returns whether a block serves a site where one of an earlier block listens."""
+        return any(is_listening(int(self.ports[it])) for it in SERVED.findall(block))
 
     def end_sites(self):
         self.type("for job in $(jobs -p); do kill $job; wait $job 2>/dev/null || true; done 2>/dev/null")
@@ -117,23 +128,23 @@ class Shell:
 
 
 def as_typed(block):
-    """The commands of a block as they are typed here: sites in the background, loops once, and each site awaited."""
+    """Returns the commands of a block as they are typed: sites in the background, loops once."""
     text = re.sub(r"(\.\./\.\./|\./)cedar_site(?= )", "cedar_site", block).replace("cedar_site --unproved", "cedar_site")
     text = text.replace("while sleep 10; do", "for once in 1; do")
     return re.sub(r"(?m)^(cedar_site serve [^&\n]*[^&\s])$", r"\1 &", text)
 
 
 def parts_of(block):
-    """A block in two: what serves sites, and what is typed once they listen."""
+    """Returns the part of a block that serves sites, and the part to type once they listen."""
     lines = as_typed(block).split("\n")
     last = max([at for at, line in enumerate(lines) if line.startswith("cedar_site serve")], default=-1)
     return "\n".join(lines[:last + 1]), "\n".join(lines[last + 1:])
 
 
 def tried(shell, block):
-    """What went wrong with a block, or nothing."""
+    """Returns the output of a block if it is not as expected, else None."""
     serving, rest = parts_of(block)
-    if serving:
+    if shell.is_taken(serving):
         shell.end_sites()
     said = shell.type(serving)
     shell.wait_for(block)
@@ -145,10 +156,11 @@ def tried(shell, block):
 
 
 def main():
+    argparse.ArgumentParser(description=__doc__, formatter_class=argparse.RawDescriptionHelpFormatter).parse_args()
     signal.alarm(MOST_SECONDS)
     missing = [it for it in ("bash", "curl", "sha256sum", "timeout") if shutil.which(it) is None]
     if missing:
-        print(f"first hour: left out, since there is no {missing[0]}")
+        print(f"skipped: the first hour (no {missing[0]})")
         print("0 passed, 0 failed")
         return 0
     passed = failed = 0
@@ -162,7 +174,7 @@ def main():
                 wrong = tried(shell, block)
                 passed, failed = passed + (wrong is None), failed + (wrong is not None)
                 if wrong is not None:
-                    print(f"{page}: {block}\ncame to\n{wrong}")
+                    print(f"{page}:\n{block}\nexpected status 0 of each command and {of_block(WANTED, block) or []}, got\n{wrong}")
             shell.end()
     print(f"{passed} passed, {failed} failed")
     return 1 if failed else 0

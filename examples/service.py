@@ -1,18 +1,20 @@
 #!/usr/bin/env python3
-"""Runs sites on loopback and compares what they answer with examples/clinic/service_answers.txt.
+"""Runs sites on loopback and compares their replies with examples/clinic/service_answers.txt.
 
     [PROGRAM=FILE] examples/service.py
 
-Every route, a connection that is kept, requests sent together, clients that send garbage, cut off, stall or are idle, two sites
-that exchange until they are equal, `pull` and `merge`, and what ends a command. PROGRAM names another binary than the
-built one. Standard library alone.
+It tries every route, a kept connection, requests sent together, the log, clients that send garbage, cut off, stall or are
+idle, two sites that exchange until they are equal, `pull` and `merge`, and what ends a command. PROGRAM names another
+binary than the built one. Standard library alone.
 """
+import argparse
 import atexit
 import hashlib
 import http.client
 import json
 import os
 import random
+import resource
 import shutil
 import socket
 import struct
@@ -34,7 +36,7 @@ wrong, servers = [], []
 def same(name, wanted, came):
     if wanted != came:
         wrong.append(name)
-        print(f"{name}: wanted: {wanted!r} came: {came!r}")
+        print(f"{name}: expected {wanted!r}, got {came!r}")
 
 
 def free_port():
@@ -43,15 +45,15 @@ def free_port():
         return probe.getsockname()[1]
 
 
-def begin(name, *words):
+def begin(name, *words, **how):
     """Starts a site. Returns its process and its port once it listens."""
     port = free_port()
     words = ["serve", "--schema", "schema.json", "--site", name, "--listen", f"127.0.0.1:{port}", *words]
-    site = subprocess.Popen([PROGRAM, *words], cwd=CLINIC, stdout=subprocess.PIPE, stderr=subprocess.PIPE, text=True)
+    site = subprocess.Popen([PROGRAM, *words], cwd=CLINIC, stdout=subprocess.PIPE, stderr=subprocess.PIPE, text=True, **how)
     servers.append(site)
     told = site.stdout.readline()
     if told != f"listening 127.0.0.1:{port}\n":
-        sys.exit(f"site {name} does not listen: {told}{site.communicate()[1]}")
+        sys.exit(f"site {name}: expected `listening 127.0.0.1:{port}`, got {told!r}: {site.communicate()[1]}")
     return site, port
 
 
@@ -71,7 +73,7 @@ LABEL = hashlib.sha256(text_of(f"{CLINIC}/schema.json").encode()).hexdigest()
 
 
 def asked(port, method, path, body=None, fields=()):
-    """The status and the text of the reply to one request, on a connection of its own."""
+    """Returns the status and the text of the reply to one request, on a new connection."""
     link = http.client.HTTPConnection("127.0.0.1", port, timeout=20)
     try:
         link.putrequest(method, path)
@@ -195,7 +197,7 @@ def opened(port):
 
 
 def to_end(stream):
-    """What comes until the connection ends."""
+    """Returns the bytes that come until the connection ends."""
     came = b""
     try:
         while part := stream.recv(65536):
@@ -206,7 +208,7 @@ def to_end(stream):
 
 
 def sent_and_ended(port, pieces):
-    """What comes back for these pieces, behind which nothing more is sent."""
+    """Sends these pieces and ends the stream. Returns the bytes that come back."""
     with opened(port) as stream:
         try:
             for piece in pieces:
@@ -251,7 +253,7 @@ def clients_that_cut_off(port):
 
 
 def a_client_that_stalls(port):
-    """It is waited for, and who comes meanwhile waits for it."""
+    """A stalled client holds up the next one."""
     stalled = opened(port)
     stalled.sendall(ASK[:10])
     with opened(port) as waiting:
@@ -268,8 +270,8 @@ def a_client_that_stalls(port):
 
 
 def idle_clients():
-    """With --idle 1 three clients that send nothing and one that sends half a request hold up a fifth for a second each,
-    and one that takes no reply for a second more."""
+    """With --idle 1 three clients that send nothing and one that sends half a request hold up a later one for a second each,
+    and one that receives no reply for a second more."""
     site, port = begin("idle", "--idle", "1")
     silent = [opened(port) for _ in range(4)]
     silent[3].sendall(ASK[:10])
@@ -281,7 +283,7 @@ def idle_clients():
     except BlockingIOError:
         pass
     began = time.monotonic()
-    same("who comes behind idle clients", LINE.decode(), asked(port, "GET", "/v1/policies/absent")[1])
+    same("a client after idle ones", LINE.decode(), asked(port, "GET", "/v1/policies/absent")[1])
     took = time.monotonic() - began
     same("how long it waited for them", True, 3 < took < 12)
     for link in silent:
@@ -289,7 +291,86 @@ def idle_clients():
         same("a client that was idle", b"", link.recv(1))
         link.close()
     greedy.close()
-    same("the site behind idle clients is still there", None, site.poll())
+    same("the site after idle clients still runs", None, site.poll())
+
+
+def line_of(method, target, status, **more):
+    return json.dumps({"method": method, "target": target, "status": status, **more}, separators=(",", ":"), ensure_ascii=False)
+
+
+def raw_status(port, head):
+    """The status of the reply to one head, whose connection then ends."""
+    return int(sent_and_ended(port, [head + b"\r\n\r\n"]).split(b" ")[1])
+
+
+def asks_of_log(port):
+    """Sends requests to a site with a log. Yields the expected line of each."""
+    status, stamp = put(port, "keeper", "permit(principal, action, resource) when { resource.keeper == principal };")
+    yield line_of("PUT", "/v1/policies/keeper", status)[:-1] + f',"stamp":{stamp}}}'
+    status, stamp = put(port, "a%0A%22b", "permit(principal, action, resource);")
+    yield line_of("PUT", "/v1/policies/a%0A%22b", status)[:-1] + f',"stamp":{stamp}}}'
+    names = {"principal": 'Staff::"a\\nb"', "action": 'Action::"read"', "resource": 'Chart::"é"'}
+    status, answer = post(port, "/v1/authorize", json.dumps({**names, "context": {"address": "10.4.0.7"}}, indent=1))
+    wanted = {"cycle": [], "decision": "Allow", "errors": [{"error": "entityDoesNotExist", "policy": "keeper"}], "reason": ['a\n"b']}
+    same("a decision that is logged", (200, wanted), (status, json.loads(answer)))
+    yield line_of("POST", "/v1/authorize", 200, **names)[:-1] + "," + answer[1:]
+    objects = {"principal": {"type": "Staff", "id": "a\nb"}, "action": {"__entity": {"type": "Action", "id": "read"}},
+               "resource": {"id": "é", "type": "Chart"}}
+    status, answer = post(port, "/v1/authorize", json.dumps({**objects, "context": {"address": "10.4.0.7"}}))
+    same("a decision whose uids are objects", (200, wanted), (status, json.loads(answer)))
+    uids = {"principal": {"id": "a\nb", "type": "Staff"}, "action": {"id": "read", "type": "Action"}, "resource": objects["resource"]}
+    yield line_of("POST", "/v1/authorize", 200, **uids)[:-1] + "," + answer[1:]
+    status, _ = post(port, "/v1/authorize", "{}")
+    yield line_of("POST", "/v1/authorize", status)
+    yield line_of("GET", "/v1/policies/absent", asked(port, "GET", "/v1/policies/absent")[0])
+    yield line_of("GET", '/"\\é?{"a":1}', raw_status(port, 'GET /"\\é?{"a":1} HTTP/1.1'.encode()))
+    yield line_of(None, None, raw_status(port, b"GET /\xff HTTP/1.1"))
+    yield line_of(None, None, raw_status(port, b"POST /v1/merge HTTP/1.1"))
+    status, stamp = asked(port, "DELETE", "/v1/policies/keeper")
+    yield line_of("DELETE", "/v1/policies/keeper", status)[:-1] + f',"stamp":{stamp}}}'
+
+
+def logs():
+    """With --log each reply has its line before it goes out; if a line can't be written, no reply goes out."""
+    file = f"{WORK}/decisions.log"
+    with open(file, "w", encoding="utf-8") as log:
+        log.write("what was there\n")
+    site, port = begin("logged", "--log", file)
+    wanted = "what was there\n"
+    for number, line in enumerate(asks_of_log(port)):
+        wanted += f"{line}\n"
+        same(f"the log after request {number}", wanted, text_of(file))
+    same("statuses of the log", [200, 200, 200, 200, 422, 404, 404, 400, 411, 200],
+         [json.loads(line)["status"] for line in wanted.splitlines()[1:]])
+    site, port = begin("full", "--log", "/dev/full")
+    for _ in range(2):
+        same("a reply without its line", b"", sent_and_ended(port, [ASK]))
+    same("the site with a full log still runs", None, site.poll())
+    site, port = begin("printing", "--log", "-")
+    same("a request of a site that prints its log", 404, asked(port, "GET", "/v1/policies/absent")[0])
+    same("a line on standard output", line_of("GET", "/v1/policies/absent", 404) + "\n", site.stdout.readline())
+    nowhere = f"{WORK}/none/decisions.log"
+    words = ("serve", "--schema", "schema.json", "--site", "east", "--listen", "127.0.0.1:0", "--connections", "0")
+    ends("a log that can't be opened", 3, f"fault: {nowhere}", *words, "--log", nowhere)
+
+
+def cut_lines():
+    """Behind a line that was cut, by an end of the disk or in an earlier run, the next one begins on a line of its own."""
+    file, line = f"{WORK}/cut.log", line_of("GET", "/v1/policies/absent", 404) + "\n"
+    with open(file, "w", encoding="utf-8") as log:
+        log.write('{"method":"GE')
+    # what ends a file is an error, and no signal
+    site, port = begin("cut", "--log", file, restore_signals=False)
+    same("a request behind a cut line", 404, asked(port, "GET", "/v1/policies/absent")[0])
+    wanted = '{"method":"GE\n' + line
+    same("the log behind a cut line", wanted, text_of(file))
+    resource.prlimit(site.pid, resource.RLIMIT_FSIZE, (len(wanted) + 9, resource.RLIM_INFINITY))
+    for _ in range(2):
+        same("a reply whose line is cut", b"", sent_and_ended(port, [ASK]))
+        same("the log that is full", wanted + line[:9], text_of(file))
+    resource.prlimit(site.pid, resource.RLIMIT_FSIZE, (resource.RLIM_INFINITY, resource.RLIM_INFINITY))
+    same("a request behind the full log", 404, asked(port, "GET", "/v1/policies/absent")[0])
+    same("the log behind that", wanted + line[:9] + "\n" + line, text_of(file))
 
 
 def garbage(port):
@@ -306,13 +387,13 @@ def state(port):
 
 
 def exchange(asks, answers):
-    """One site asks another for what is news to it, and takes it."""
+    """Brings one site up to date from another by a summary and a delta."""
     summary = asked(asks, "GET", "/v1/summary")[1]
     return post(asks, "/v1/merge", post(answers, "/v1/delta", summary)[1])[1]
 
 
 def two_sites(one, two):
-    """Changes at both, then turns of exchange until their states are equal."""
+    """Changes both, then exchanges until their states are equal."""
     chance = random.Random(11)
     for i in range(1, 6):
         put(one, f"p{i}", f'permit(principal == Staff::"s{i}", action, resource);')
@@ -326,17 +407,17 @@ def two_sites(one, two):
         if turn >= 8 and state(one) == state(two):
             break
     same("two sites after their turns", state(one), state(two))
-    same("nothing is news to equal sites", '{"taken":0}', exchange(one, two))
+    same("equal sites miss nothing", '{"taken":0}', exchange(one, two))
 
 
 def ran(*words):
-    """The status of a command, and both of its streams."""
+    """Returns the status of a command, and both of its streams."""
     done = subprocess.run([PROGRAM, *words], cwd=CLINIC, capture_output=True, timeout=20, check=False)
     return done.returncode, done.stdout.decode(), done.stderr.decode()
 
 
 def pulls_and_merges(one, two):
-    """`pull` into a file that is not there, and again; `merge` of it with itself; a site that begins with it."""
+    """`pull` into a missing file, and again; `merge` of the file with itself; a site that starts with it."""
     file = f"{WORK}/state.json"
 
     def pulled(port):
@@ -398,6 +479,7 @@ def refusals(one, file):
 
 
 def main():
+    argparse.ArgumentParser(description=__doc__, formatter_class=argparse.RawDescriptionHelpFormatter).parse_args()
     atexit.register(end_all)
     site, one = begin("north")
     clients = (clients_that_send_together, clients_that_cut_off, a_client_that_stalls, garbage)
@@ -408,7 +490,9 @@ def main():
     two_sites(one, two)
     refusals(one, pulls_and_merges(one, two))
     idle_clients()
-    print(f"service: {len(wrong)} wrong" if wrong else "service: as it should be")
+    logs()
+    cut_lines()
+    print(f"service: {len(wrong)} checks failed" if wrong else "service: all checks passed")
     return 1 if wrong else 0
 
 

@@ -7,6 +7,7 @@ Each policy has to pass the check under the schema first. Each request is asked 
 with the state that the files are loaded into. The last line is `N passed, M failed`. PROGRAM names another binary than the built
 one. Standard library alone.
 """
+import argparse
 import http.client
 import os
 import socket
@@ -23,13 +24,13 @@ POLICIES = ("anyone-creates", "owner", "shared", "editors", "admins", "interns")
 
 
 def told(*words):
-    """The status of a command, and both of its streams."""
+    """Returns the status of a command, and both of its streams."""
     done = subprocess.run([PROGRAM, *words], cwd=FOLDER, capture_output=True, text=True, timeout=20, check=False)
     return done.returncode, done.stdout, done.stderr
 
 
 def answers():
-    """The requests, each with its answer."""
+    """Yields the requests, each with its answer."""
     with open(f"{FOLDER}/answers.txt", encoding="utf-8") as file:
         for line in file:
             name, _, answer = line.partition(" ")
@@ -37,7 +38,7 @@ def answers():
 
 
 def of_files():
-    """What is asked of the files: its name, what it is to come to, and what it came to."""
+    """Yields the commands over the files: the name, the expected outcome and the actual one of each."""
     verdicts = "".join(f'{{"id":"{it}","verdict":"accepted"}}\n' for it in POLICIES)
     yield "check", (0, verdicts, ""), told("check", *SCHEMA, "policies.cedar")
     for request, answer in answers():
@@ -45,14 +46,14 @@ def of_files():
 
 
 def free_address():
-    """An address of this machine that nobody listens at."""
+    """Returns a free address of this machine."""
     with socket.socket() as it:
         it.bind(("127.0.0.1", 0))
         return f"127.0.0.1:{it.getsockname()[1]}"
 
 
 def authorized(address, request):
-    """The status and the answer of a site to a request."""
+    """Returns the status and the answer of a site to a request."""
     with open(f"{FOLDER}/{request}", "rb") as file:
         body = file.read()
     connection = http.client.HTTPConnection(address, timeout=20)
@@ -64,7 +65,7 @@ def authorized(address, request):
 
 
 def of_a_site():
-    """The same of a site that begins with what the files are loaded into."""
+    """Yields the same for a site that starts with the state of the files."""
     status, state, faults = told("load", *SCHEMA, "--site", "files", *FILES)
     yield "load", (0, ""), (status, faults)
     with tempfile.NamedTemporaryFile("w", suffix=".json") as file:
@@ -73,20 +74,23 @@ def of_a_site():
         address, asked = free_address(), list(answers())
         words = ("serve", *SCHEMA, "--site", "todo", "--listen", address, "--state", file.name)
         with subprocess.Popen([PROGRAM, *words, "--connections", str(len(asked))], cwd=FOLDER, stdout=subprocess.PIPE) as site:
-            # it listens once it says so
-            site.stdout.readline()
+            line = site.stdout.readline().decode()
+            yield "the site's first line", f"listening {address}\n", line
+            if not line:
+                return
             for request, answer in asked:
                 yield f"{request} of a site", (200, answer), authorized(address, request)
             yield "the site's end", 0, site.wait(20)
 
 
 def main():
+    argparse.ArgumentParser(description=__doc__, formatter_class=argparse.RawDescriptionHelpFormatter).parse_args()
     passed = failed = 0
     for ask in (of_files, of_a_site):
         for name, wanted, came in ask():
             passed, failed = passed + (came == wanted), failed + (came != wanted)
             if came != wanted:
-                print(f"{name}: wanted: {wanted!r} came: {came!r}")
+                print(f"{name}: expected {wanted!r}, got {came!r}")
     print(f"{passed} passed, {failed} failed")
     return 1 if failed else 0
 

@@ -13,6 +13,7 @@ compilers build the program, and its stored run is compared. The result goes to 
 a program that measures. --if-needed does nothing if the program was built from these sources; --is-built reports only
 that, by its status. Standard library alone.
 """
+import argparse
 import hashlib
 import os
 import shutil
@@ -23,10 +24,10 @@ import threading
 import time
 
 TOP = os.path.dirname(os.path.dirname(os.path.abspath(__file__)))
-# where programs that only measure stand, and the ending that keeps their code from being taken for that of a crate
+# the folder of programs that only measure, and the suffix that keeps their code from being read as a crate's
 MEASURING, AS_TEXT = "bench/programs", ".txt"
 CODE = (f".rt{AS_TEXT}", f".antt{AS_TEXT}")
-# what a build reads of a crate: its must-fail edits are the gate's business
+# the parts of a crate that a build reads: only the gate reads its must-fail edits
 PARTS = ("src", "specs", "proofs", "data", "stdin", "stdout", "args", "status")
 
 
@@ -34,7 +35,7 @@ class Program:
     """A program to build: its name, the folder of its files, and the place of the built program."""
 
     def __init__(self, word):
-        """From a crate's name, or from the folder of a program that measures."""
+        """Creates it from a crate's name, or from the folder of a program that measures."""
         word = os.path.normpath(word)
         self.measures = os.path.dirname(word) == MEASURING
         self.name = os.path.basename(word) if self.measures else word
@@ -142,7 +143,7 @@ class Progress:
             if crate not in self.began and os.path.isdir(f"{self.room}/crates/{crate}/out"):
                 self.began[crate] = now
         going = [f"{it} ({minutes(now - self.began[it])})" for it in self.began if it not in self.proved]
-        text = f"{len(self.proved)} of {len(self.crates)} crates proved; at work: {', '.join(going) or 'the next one'}"
+        text = f"{len(self.proved)} of {len(self.crates)} crates proved; being proved: {', '.join(going) or 'the next one'}"
         if text != self.last:
             print(f"  {minutes(now - self.start):>6}  {text}", file=sys.stderr, flush=True)
             self.last = text
@@ -206,7 +207,7 @@ def build(program, crates, wanted, jobs):
         status, said = prove(crates, room, jobs)
         if status:
             sys.stderr.write("".join(said))
-            print(f"{name}: not built", file=sys.stderr)
+            print(f"{name}: expected `rt ci` to pass, got status {status}: not built", file=sys.stderr)
             return 1
         keep(program, f"{room}/crates/{name}/out/{name}", wanted)
     used = os.times()
@@ -216,25 +217,30 @@ def build(program, crates, wanted, jobs):
     return 0
 
 
-def main(words):
-    jobs = len(os.sched_getaffinity(0))
-    if "--jobs" in words:
-        place = words.index("--jobs")
-        jobs = int(words[place + 1])
-        words = words[:place] + words[place + 2:]
-    word = next((word for word in words if not word.startswith("--")), "cedar_site")
-    program = Program(word)
+def parser():
+    """Returns the parser of the command line."""
+    words = argparse.ArgumentParser(description=__doc__, formatter_class=argparse.RawDescriptionHelpFormatter)
+    words.add_argument("--if-needed", action="store_true", help="does nothing if the program was built from these sources")
+    words.add_argument("--is-built", action="store_true", help="builds nothing; the status is 0 if it was built from these sources")
+    words.add_argument("--jobs", metavar="N", type=int, default=len(os.sched_getaffinity(0)), help="the number of parallel proofs (default: one a processor)")
+    words.add_argument("program", metavar="PROGRAM", nargs="?", default="cedar_site", help="the program to build (default: cedar_site)")
+    return words
+
+
+def main():
+    words = parser().parse_args()
+    program = Program(words.program)
     crates = crates_below(program)
     if not crates:
-        print(f"{word}: expected a crate of crates.txt or a program of {MEASURING}, got neither", file=sys.stderr)
+        print(f"{words.program}: expected a crate of crates.txt or a program of {MEASURING}, got neither", file=sys.stderr)
         return 2
     wanted = sum_of(program, crates)
-    if "--is-built" in words:
+    if words.is_built:
         return 0 if is_built(program, wanted) else 1
-    if "--if-needed" in words and is_built(program, wanted):
+    if words.if_needed and is_built(program, wanted):
         return 0
-    return build(program, crates, wanted, jobs)
+    return build(program, crates, wanted, words.jobs)
 
 
 if __name__ == "__main__":
-    sys.exit(main(sys.argv[1:]))
+    sys.exit(main())

@@ -6,8 +6,8 @@
 - README.md's picture has the layers of crates.txt. In crates.txt each crate names only crates before it; in the picture a crate's libraries are on its own
   layer or on rows below it.
 - docs/proved.md has, in bold, exactly the crates of crates.txt that are not tests, and each law by its name.
-- docs/definitions.md and docs/surface.md are what tools/made_docs.py makes of the sources.
-- The contract of the whole program rests on each of the twelve files of docs/reading.md, which have the stated lines; the totals there are right.
+- docs/definitions.md, docs/surface.md and the numbers of docs/reading.md are what tools/made_docs.py makes of the sources.
+- The contract of the whole program rests on each of the twelve files of docs/reading.md.
 - Each file of docs/, bench/, tools/, examples/, rows/ and of a crate's src/, specs/ and proofs/ that a document names by its path exists. Under a heading
   that names crates, so does each path that begins with specs/, proofs/, src/, must-fail/ or mutants/, in one of these crates.
 - README.md and docs/proving.md have the numbers of crates of the two programs, docs/proving.md that of all crates. tools/last_run.md has the number of
@@ -20,6 +20,7 @@
 - Each name of docs/where.md exists (tools/where_it_stands.py).
 Standard library alone.
 """
+import argparse
 import os
 import re
 import sys
@@ -35,8 +36,8 @@ BESIDE_CODES = {"200", "409", "422", "503"}
 INSIDE = re.compile(r"(?<![\w/.])((?:specs|proofs|src|must-fail|mutants)/[\w./-]*\w)(?![\w*])")
 NAMED = re.compile(r"(?<![\w/.])((?:docs|bench|tools|examples|rows)/[\w./-]*\w|crates/\w+/(?:src|specs|proofs)/[\w/]+\.\w+)")
 
-# of which docs/surface.md has some 12,000
-MOST_BYTES = 162_000
+# of which docs/definitions.md has some 16,000, docs/surface.md 8,000
+MOST_BYTES = 150_000
 # between a case and its outcome
 ARROW = "  ->  "
 
@@ -192,21 +193,19 @@ def about_cases():
 
 
 def about_reading():
-    text, (files, types) = text_of("docs/reading.md"), made_docs.reached()
-    count = f"{sum(map(len, files.values()))} files of specs/, {sum(sum(it.values()) for it in files.values())} lines of definitions"
-    if f"{count}; {sum(map(len, types.values()))} files that declare types" not in " ".join(text.split()):
-        yield f"docs/reading.md: expected the words: {count}; {sum(map(len, types.values()))} files that declare types"
-    rows = re.findall(r"(?m)^\| (crates/(\w+)/specs/\S+\.antt) \| (\d+) \|", text)
+    text, (files, _) = text_of("docs/reading.md"), made_docs.reached()
+    if not made_docs.TOTALS.search(text):
+        yield "docs/reading.md: expected the words: N files of specs/, N lines of definitions; N files that declare types"
+    rows = re.findall(r"(?m)^\| (crates/(\w+)/specs/\S+\.antt) \| \d+ \|", text)
     if len(rows) != 12:
         yield f"docs/reading.md: expected twelve files, got {len(rows)}"
-    for path, crate, lines in rows:
+    for path, crate in rows:
         if f"{TOP}/{path}" not in files.get(crate, ()):
             yield f"docs/reading.md: expected a file on which the contract of the whole program rests, got {path}"
-        elif text_of(path).count("\n") != int(lines):
-            yield f"docs/reading.md: {path}: expected {text_of(path).count(chr(10))} lines, got {lines}"
 
 
 def main():
+    argparse.ArgumentParser(description=__doc__, formatter_class=argparse.RawDescriptionHelpFormatter).parse_args()
     found = [*about_layers(), *about_crates(), *about_paths(), *about_numbers(), *about_lines(), *about_long_lines(), *about_codes()]
     found += [*about_cases(), *made_docs.stale(), *about_reading(), *where_it_stands.faults()]
     print("\n".join(found) or "documents: all checks passed")

@@ -1,18 +1,20 @@
 #!/usr/bin/env python3
-"""Makes docs/definitions.md and docs/surface.md from the sources, and lists what the sources export.
+"""Makes docs/definitions.md, docs/surface.md and the numbers of docs/reading.md from the sources, and lists exports.
 
     tools/made_docs.py [--check | --missing | --laws | --calls [CRATE ..] | --where NAME]
 
-docs/definitions.md has, for each file of specs/ outside specs/inner, the first clause of its head comment, its public
-source, its names that a public contract cites, and the number of its lines on which the contract of the whole program
-rests (tools/reading_list.py). docs/surface.md has the names of tools/surface.py, with the first clause of each doc
-comment.
+docs/definitions.md has each file of specs/ on which the contract of the whole program rests: the number of its lines that
+it rests on (`tools/definitions.py reading`), the first clause of its head comment, and its public source. docs/surface.md
+has the names of tools/surface.py, with the first clause of each doc comment. In docs/reading.md the totals and the lines
+of the named files are made.
 
 --check writes nothing: it prints the differences, and its status is 1 if there are any. --missing prints exports without
 a doc comment and files of specs/ without a head comment. --laws prints the laws, which are functions that do nothing.
 --calls prints what crates export: types and traits with their public methods, functions and constants, each with the
 first clause of its doc comment. --where NAME prints the files of specs/ that define a name. Standard library alone.
 """
+import argparse
+import functools
 import itertools
 import os
 import re
@@ -21,10 +23,9 @@ import textwrap
 
 HERE = os.path.dirname(os.path.abspath(__file__))
 sys.path.insert(0, HERE)
-import public_specs  # noqa: E402
-import reading_list  # noqa: E402
+import definitions as specs  # noqa: E402
 
-TOP = reading_list.TOP
+TOP = specs.TOP
 WIDTH = 100
 TESTS = re.compile(r"_tests$|^rows$|^site_rows$")
 ITEM = re.compile(r"^pub (?:const )?(?P<kind>fn|struct|enum|trait|const|type) (?P<name>\w+)")
@@ -34,6 +35,10 @@ IMPL = re.compile(r"^impl(?:<.*?>)? (?:(?P<trait>[\w:]+)(?:<.*>)? for )?(?P<type
 LONG = 44
 
 STANDARD = re.compile(r"(?:RFC|FIPS) [\d-]+(?:, sections? [\d., andto]*\d)?")
+# the totals of docs/reading.md
+TOTALS = re.compile(r"\d+(\s+files\s+of\s+specs/,\s+)\d+(\s+lines\s+of\s+definitions;\s+)\d+(\s+files\s+that\s+declare\s+types)")
+# sources in this repository
+OURS = re.compile(r"docs/|the (?:rules|ordinary order)\b|(?:\w+\.antt(?:,? and | of `\w+`)?)+$")
 # how sources are named in short
 SHORTER = (
     (r"(\"[^\"]*\")|\([^()]*\)", r"\1"),
@@ -53,16 +58,15 @@ DEFINITIONS = """# Definitions, in the order in which to read them
 
 Made from the sources by `tools/made_docs.py`: to change it, change a head comment there.
 
-The files of specs/, highest crate first, each with what it defines, in short, and its source.
-**With a number**, and with its relations that a public contract cites (or functions, where there
-are none): the contract of a whole run, `program::run`, rests on so many of its lines
-(docs/reading.md); these stand in the order in which a reader meets their names.
-**Without one**: of laws (docs/proved.md), and of what code shows to contracts, where they have a
-public source. `tools/made_docs.py --where NAME` tells of any.
+The files of specs/ on which the contract of a whole run, `program::run`, rests (docs/reading.md),
+highest crate first: each with the number of its lines that count, what it defines, and its source.
+Within a crate they are in the order in which a reader meets their names, which
+`tools/definitions.py reading --names` prints. `tools/made_docs.py --where NAME` prints the file and
+the source of any name, also of those on which only theorems rest.
 
-In brackets: *in quotes alone*, a heading of the Cedar reference guide 4.0; *with a slash*, a file
-below cedar-lean/Cedar of its formal model cedar-spec; *in part ours*: a rule of this product too.
-What has no bracket is one. What no public contract rests on stands in specs/inner, and not here.
+A source *in quotes alone* is a heading of the Cedar reference guide 4.0; *with a slash*, a file
+below cedar-lean/Cedar of the formal model cedar-spec; *in part ours*: partly a rule of this
+product. A file without a source has only rules of this product.
 """
 
 
@@ -162,17 +166,13 @@ class Crate:
 
 
 def products():
-    return [it for it in reading_list.crates_in_order() if not TESTS.search(it)]
+    return [it for it in specs.crates_in_order() if not TESTS.search(it)]
 
 
 def wrapped(text, depth=0):
     """Returns the lines of an item of a list."""
     indent = "  " * depth
     return textwrap.wrap(text, WIDTH, initial_indent=indent, subsequent_indent=f"{indent}  ", break_long_words=False, break_on_hyphens=False)
-
-
-def quoted(names):
-    return f"`{' '.join(names)}`" if names else ""
 
 
 def layers():
@@ -198,40 +198,20 @@ def laws():
         yield from ((crate.name, it.name) for item in crate.items for it in [item, *item.parts] if it.kind == "law")
 
 
-def defined_at(walk, crate, module, name):
-    """Returns the file of specs/ that defines a name, which a module may pass on, and its name there; or none."""
-    found = walk.module(crate, module)
-    while found and name not in found.items and name in found.imports:
-        crate, module, name = (it or name for it in found.imports[name])
-        found = walk.module(crate, module)
-    return (found.path, name) if found and name in found.items else None
-
-
 def modules_of(crate, folder=r"inner|formers"):
     """Yields the files of a crate's specs/ outside these folders, each with its module's name."""
-    for path in public_specs.modules_of(crate):
+    for path in specs.modules_of(crate):
         name = os.path.relpath(path, f"{TOP}/crates/{crate}/specs")[:-5]
         if not re.match(folder, name):
             yield path, name.replace("/", ".")
-
-
-def cited_names(walk):
-    """Of each file of specs/ the names that public contracts cite."""
-    cited = {}
-    for crate in reading_list.crates_in_order():
-        for (text, _), imports in public_specs.public_texts(crate, public_specs.given_out(crate)):
-            words = set(reading_list.WORD.findall(re.sub(r"(?m)--.*$", "", text)))
-            for shown, (at, module, name) in imports.items():
-                found = name and shown in words and defined_at(walk, at, module, name)
-                if found:
-                    cited.setdefault(found[0], set()).add(found[1])
-    return cited
 
 
 def source(head, told):
     """Returns the public source that a head comment names, in short, or that it has only rules of this product."""
     found = re.search(r"Sources?: (.*)", head)
     text = cut_at(found[1], ".:", 8) if found else "; ".join(dict.fromkeys(STANDARD.findall(head)))
+    # a page or a file of this repository is no public source
+    text = "; ".join(it for it in text.split("; ") if not OURS.match(it))
     if STANDARD.search(told) or not text and "of this product" in told:
         return ""
     for long, short in SHORTER:
@@ -244,13 +224,14 @@ def head_of(path):
     return " ".join(re.match(r"(?:--.*\n)*", text_of(os.path.relpath(path, TOP)))[0].replace("--", "").split())
 
 
+@functools.lru_cache(maxsize=None)
 def reached():
     """Of each crate the files of specs/ that the whole program's contract rests on, in the order in which a reader meets
     them, each with how many of its lines; and the files of src/ whose types these name."""
-    walk = reading_list.Walk()
-    reading_list.whole(walk)
+    walk = specs.Walk()
+    specs.whole(walk)
     files, types = {}, {}
-    for path, lines, _ in reading_list.rows_of(walk):
+    for path, lines, _ in specs.rows_of(walk):
         crate, name = path.split("/")[1], path.split("/", 3)[3].rsplit(".", 1)[0]
         if lines:
             files.setdefault(crate, {})[f"{TOP}/{path}"] = lines
@@ -265,19 +246,13 @@ def told_of(head):
     named = source(head, told)
     if len(told) > LONG:
         told = re.split(r", (?!of |or )(?![^(]*\))", told)[0]
+    told = re.sub(r"^Defines (?:the )?(\w?)", lambda it: it[1].upper(), told)
     return re.sub(r", sections? (?=\d)", " §", f"{told} ({named})" if named not in ("", "ours") else told)
-
-
-def names_of(walk, crate, path, module, cited):
-    """Returns the names of a file of specs/ that public contracts cite, in the order of the file: of relations and types, or else
-    of functions."""
-    items, names = walk.module(crate, module).items, cited.get(path, ())
-    return quoted(sorted([it for it in names if it[:1].isupper()] or names, key=lambda it: (min(items[it][0]), items[it][1].find(it), it)))
 
 
 def where(name):
     """Yields the files of specs/ that define a name, each with its first clause and source."""
-    walk = reading_list.Walk()
+    walk = specs.Walk()
     for crate in products():
         for path, module in modules_of(crate, "formers"):
             if name in walk.module(crate, module).items:
@@ -285,19 +260,14 @@ def where(name):
 
 
 def definitions():
-    walk = reading_list.Walk()
-    cited, (files, _), lines = cited_names(walk), reached(), [DEFINITIONS]
+    (files, _), lines = reached(), [DEFINITIONS]
     for crate in reversed(products()):
         modules = dict(modules_of(crate))
         counted = {it: lines for it, lines in files.get(crate, {}).items() if it in modules}
-        others = [it for it in modules if it not in counted and source(head_of(it), "") not in ("", "ours")]
-        told = [*counted, *others]
-        lines += [f"## `{crate}`", ""] if told else []
+        lines += [f"## `{crate}`", ""] if counted else []
         for path, number in counted.items():
-            names = names_of(walk, crate, path, modules[path], cited)
-            lines += wrapped(f"- {modules[path]} {number}: {told_of(head_of(path))}. {names}".rstrip())
-        lines += itertools.chain(*(wrapped(f"- {modules[it]}: {told_of(head_of(it))}.") for it in others))
-        lines += [""] if told else []
+            lines += wrapped(f"- {modules[path]} {number}: {told_of(head_of(path))}.")
+        lines += [""] if counted else []
     return "\n".join(lines).rstrip("\n") + "\n"
 
 
@@ -322,7 +292,21 @@ def surface_page():
     return surface.page()
 
 
-MADE = (("docs/definitions.md", definitions), ("docs/surface.md", surface_page))
+def reading_page():
+    """Returns docs/reading.md with the numbers of the sources: its totals, and the lines of the files that it names."""
+    files, types = reached()
+    lines = sum(sum(it.values()) for it in files.values())
+    totals = (sum(map(len, files.values())), lines, sum(map(len, types.values())))
+    text = TOTALS.sub(lambda it: "".join(f"{number}{words}" for number, words in zip(totals, it.groups())), text_of("docs/reading.md"))
+    return re.sub(r"(?m)^\| (crates/\S+\.antt) \| \d+ \|", lambda it: f"| {it[1]} | {lines_of(it[1])} |", text)
+
+
+def lines_of(path):
+    """Returns the number of lines of a file, or 0 if there is no such file."""
+    return text_of(path).count("\n") if os.path.isfile(f"{TOP}/{path}") else 0
+
+
+MADE = (("docs/definitions.md", definitions), ("docs/surface.md", surface_page), ("docs/reading.md", reading_page))
 
 
 def stale():
@@ -335,25 +319,39 @@ def stale():
                 break
 
 
-def main(words):
-    if "--missing" in words:
+def parser():
+    """Returns the parser of the command line."""
+    words = argparse.ArgumentParser(description=__doc__, formatter_class=argparse.RawDescriptionHelpFormatter)
+    what = words.add_mutually_exclusive_group()
+    what.add_argument("--check", action="store_true", help="prints the differences between the documents and the sources")
+    what.add_argument("--missing", action="store_true", help="prints exports and files of specs/ without a comment")
+    what.add_argument("--laws", action="store_true", help="prints the laws")
+    what.add_argument("--calls", metavar="CRATE", nargs="*", help="prints what crates export (default: all crates)")
+    what.add_argument("--where", metavar="NAME", help="prints the files of specs/ that define a name")
+    return words
+
+
+def main():
+    words = parser().parse_args()
+    if words.missing:
         print("\n".join(missing()))
-    elif "--calls" in words:
-        print("\n".join(calls(words[1:])))
-    elif "--where" in words:
-        print("\n".join(where(words[-1])))
-    elif "--laws" in words:
+    elif words.calls is not None:
+        print("\n".join(calls(words.calls)))
+    elif words.where:
+        print("\n".join(where(words.where)))
+    elif words.laws:
         print("\n".join(f"{crate}::{name}" for crate, name in laws()))
-    elif "--check" in words:
+    elif words.check:
         found = list(stale())
         print("\n".join(found) or "made documents: all agree with the sources")
         return 1 if found else 0
     else:
         for path, make in MADE:
+            text = make()
             with open(f"{TOP}/{path}", "w", encoding="utf-8") as file:
-                file.write(make())
+                file.write(text)
     return 0
 
 
 if __name__ == "__main__":
-    sys.exit(main(sys.argv[1:]))
+    sys.exit(main())

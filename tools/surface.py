@@ -7,6 +7,7 @@ Each name of SURFACE must be declared in the root of its crate, or passed on the
 declaring crate, with a doc comment. Prints what is missing; its status is 1 if anything is. tools/made_docs.py makes docs/surface.md of the same
 list. Standard library alone.
 """
+import argparse
 import os
 import re
 import sys
@@ -81,52 +82,42 @@ class Surface:
         item = next((it for it in self.items(crate, module)[0] if it.name == name), None)
         return item and (item, crate)
 
-    def methods(self, crate, item):
-        """Returns the public methods of a type, wherever its crate has them; of a trait all."""
-        if item.kind == "trait":
-            return [it.name for it in item.parts]
-        folder = f"{made_docs.TOP}/crates/{crate}/src"
-        named = []
-        for path in sorted(os.listdir(folder)):
-            if path.endswith(".rt"):
-                named += [it.name for type_name, it in self.items(crate, path[:-3])[1] if type_name == item.name and it.kind != "law"]
-        return list(dict.fromkeys(named))
-
 
 def rows():
-    """Yields the names of SURFACE, each with its crate, its item, or none, and its methods."""
+    """Yields the names of SURFACE, each with its crate and its item, or none."""
     surface = Surface()
     for crate, names in SURFACE.items():
         for name in names:
             found = surface.declared(crate, name)
-            yield crate, name, found and found[0], surface.methods(found[1], found[0]) if found else []
+            yield crate, name, found and found[0]
 
 
 PAGE = """# The surface
 
 Made from the sources by `tools/made_docs.py`: to change it, change a doc comment there.
 
-Fifteen crates for programs that build on Weirbowl, lowest first, each type with its methods.
-`tools/surface.py` fails where one is missing. A call that allocates takes `alloc: Global` first,
-behind `self`, and may return `NoMemory`; an error implements `Error`, and its `code` is a number of
-docs/codes.md.
+Fifteen crates for programs that build on Weirbowl, lowest first. `tools/surface.py` fails if a name
+is missing; `tools/made_docs.py --calls CRATE` prints each type with its methods. A call that
+allocates takes `alloc: Global` first, after `self`, and may return `NoMemory`. An error implements
+`Error`, and its `code` is a number of docs/codes.md.
 """
 
 
 def page():
     """Returns the text of docs/surface.md."""
     lines, last = [PAGE], None
-    for crate, name, item, methods in rows():
+    for crate, name, item in rows():
         if crate != last:
-            lines += [*([""] if last else []), f"## `{crate}`", "", *made_docs.wrapped(f"{made_docs.purpose_of(crate)}."), ""]
+            lines += [*([""] if last else []), f"## `{crate}`: {made_docs.purpose_of(crate)[:1].lower()}{made_docs.purpose_of(crate)[1:]}", ""]
             last = crate
-        says = made_docs.clause(item.says, 120) if item else "missing"
-        lines += made_docs.wrapped(f"- `{name}`: {says}. {made_docs.quoted(methods)}".rstrip())
+        says = made_docs.clause(item.says, 80) if item else "missing"
+        end = "" if says.endswith("?") else "."
+        lines += made_docs.wrapped(f"- `{name}`: {says}{end}")
     return "\n".join(lines) + "\n"
 
 
 def missing():
-    for crate, name, item, _ in rows():
+    for crate, name, item in rows():
         if item is None:
             yield f"expected {name} of {crate}, got no such export"
         elif not item.says:
@@ -134,6 +125,7 @@ def missing():
 
 
 def main():
+    argparse.ArgumentParser(description=__doc__, formatter_class=argparse.RawDescriptionHelpFormatter).parse_args()
     found = list(missing())
     print("\n".join(found) or f"{sum(map(len, SURFACE.values()))} names of {len(SURFACE)} crates are exported")
     return 1 if found else 0

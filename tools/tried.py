@@ -1,4 +1,4 @@
-"""Shared by the scripts that try a program row by row: how they begin and end, and what they print."""
+"""Shared by the scripts that try a program case by case: their arguments, their output and their status."""
 import contextlib
 import os
 import signal
@@ -12,11 +12,14 @@ def interrupt(*_):
 
 
 def main(words, usage, rows):
-    """Tries the program that the one word names. Returns the status to end with.
+    """Tries the program that the one argument names. Returns the status to end with.
 
-    `rows(program, folder)` gives the rows one after another, each with its name, what it came to, and whether that is
-    right. A line of each is printed, and `N passed, M failed` at the end.
+    `rows(program, folder)` yields the cases, each with its name, its outcome, and whether that is right. Prints a line for
+    each, and at the end `N passed, M failed`.
     """
+    if words in (["-h"], ["--help"]):
+        print(usage)
+        return 0
     if len(words) != 1:
         print(usage, file=sys.stderr)
         return 2

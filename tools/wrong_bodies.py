@@ -98,12 +98,15 @@ def main(words):
     names = words
     if words == ["--all"]:
         names = [it for it in sorted(os.listdir(f"{TOP}/crates")) if edits_of(it, "mutants")]
-    if not names or any(it.startswith("-") for it in names):
+    if words in (["-h"], ["--help"]):
         print(__doc__)
+        return 0
+    if not names or any(it.startswith("-") for it in names):
+        print(__doc__, file=sys.stderr)
         return 2
     lost = [it for it in names if not edits_of(it, "mutants")]
     if lost:
-        print(f"expected mutants of each crate, got none of {', '.join(lost)}")
+        print(f"expected mutants of each crate, got none of {', '.join(lost)}", file=sys.stderr)
         return 2
     return tried(names)
 

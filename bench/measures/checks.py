@@ -2,8 +2,8 @@
 
     bench/measure.py checks [POLICIES]   (default: 1,000 policies)
 
-The first table has the instructions a policy and environment. A hostile policy is a condition that asks `has` of so many
-attributes, one after the other: its instructions, seconds and greatest resident memory. Needs GNU time.
+The first table has instructions for each policy and environment. A hostile policy tests `has` of many attributes, one
+after the other: the second table has its instructions, seconds and greatest resident memory. Needs GNU time.
 """
 import json
 import os

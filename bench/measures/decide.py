@@ -3,9 +3,9 @@
     bench/measure.py decide ["POLICIES ENTITIES" ..]   (default: 10, 1,000 and 100,000 policies, each with 1,000 and with
                                                        100,000 entities)
 
-Policies have scopes alone, or if CONDITION is given that condition and no scope; one in ten names a group that the
-principal is in. Entities are users in groups, and groups in a tree of groups. With INSTRUCTIONS=1 it prints millions of
-instructions in place of seconds. Needs GNU time.
+Policies have scopes alone, or, if CONDITION is given, that condition and no scope. One in ten names a group of the
+principal. Entities are users in groups, and groups in a tree of groups. With INSTRUCTIONS=1 it prints millions of
+instructions instead of seconds. Needs GNU time.
 """
 import os
 import sys

@@ -1,10 +1,10 @@
-"""Measures a delta of ten news over so many names: instructions a name (by valgrind) for the walk over store and summary
-and for the text. What reading the summary takes is taken off, by a summary that is refused at its last stamp.
+"""Measures a delta of ten missing entries: instructions (by valgrind) for each name, of the walk over store and summary and
+of the text. It subtracts the reading of the summary, measured by a summary that is rejected at its last stamp.
 
   bench/measure.py delta [NAMES ..]       (default: 10,000 and 100,000)
 
-The names are policies that were deleted, in a state that the site begins with. PROGRAM names another binary. Needs
-python3 and valgrind; 100,000 names take a minute.
+The names are deleted policies in a state with which the site starts. PROGRAM names another binary. Needs python3 and
+valgrind; 100,000 names take a minute.
 """
 import hashlib
 import json
@@ -53,5 +53,5 @@ for size in SIZES:
         less, refused = counted(folder, json.dumps(bad).encode())
         more, given = counted(folder, json.dumps(good).encode())
     if b'"code":54' not in refused or given.count(b'"policy"') != NEWS:
-        sys.exit(f"another reply than was to come: {refused[:200]} {given[:200]}")
+        sys.exit(f"expected code 54 and {NEWS} entries, got {refused[:200]} and {given[:200]}")
     print(f"{size} names: {(more - less) / size:.1f} instructions a name")

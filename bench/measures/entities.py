@@ -3,9 +3,9 @@ text.
 
   bench/measure.py entities ["ATTRIBUTES PARENTS" ..]   (default: 10 attributes and 3 parents; then more of each)
 
-`merge` does both with each entity of a message. It is given one whose last entry is refused, and the same under the
-label of another schema, which is refused before any entity is read: these are the difference. PROGRAM names another
-binary. Needs python3 and valgrind.
+`merge` does both with each entity of a message. The measure is the difference of two runs: over a message whose last
+entry is rejected, and over the same message under the label of another schema, which is rejected before any entity is
+read. PROGRAM names another binary. Needs python3 and valgrind.
 """
 import hashlib
 import json
@@ -43,12 +43,12 @@ def message(label, text):
 
 
 def instructions(room, label, text, wanted):
-    """Of a merge of that message, which is refused so."""
+    """Returns the instructions of a merge of that message, which must be rejected with this error."""
     with open(f"{room}/message", "w", encoding="utf-8") as file:
         file.write(message(label, text))
     ran = Ended([*COUNTING, PROGRAM, "merge", "--schema", "schema", "message", "message"], room)
     if wanted not in ran.err:
-        sys.exit(f"refused otherwise: {ran.err}")
+        sys.exit(f"expected {wanted}, got {ran.err}")
     return collected(ran.err)
 
 

@@ -1,4 +1,4 @@
-"""Measures the evaluation of conditions: instructions of one, by how many strings the request's context holds.
+"""Measures the evaluation of a condition: instructions, by the number of strings in the request's context.
 
     bench/measure.py evaluator [STRINGS ..]   (default: 10 and 1,000)
 

@@ -1,25 +1,26 @@
-"""Measures how the work grows by what a schema, a policy, entities or a request drive: instructions (by valgrind) at
-each size.
+"""Measures how the work grows with the size of a part of a schema, a policy, entities or a request: instructions (by
+valgrind) at each SIZE.
 
   bench/measure.py growth [SIZE ..]       (default: 10, 100 and 1,000)
-  WHAT="known field" bench/measure.py growth [SIZE ..]       these rows alone
+  WHAT="known field" bench/measure.py growth [SIZE ..]       only these rows
 
-  is        one `action is Action` more in a condition, where the schema has so many actions
-  actions   so many actions, each a member of the next
-  types     so many entity types, each a member of the two before
-  uses      a policy and environment, where so many actions each have an environment
-  known     one fact more, where a condition tells so many records apart of which each has the same field
-  field     one `context.f` more, of the last of so many fields
-  members   a set of `context`, so many times, compared with another, where the context has so many fields
-  apart     the same, but that no two of these expressions are equal: `{a: context, b: n}.a`
-  shared    a condition whose shared forms, counted each time they stand, are some fifteen times so many
-  asked     one request more at a served site, under so many environments
-  above     one condition more with `in` of an entity that the request does not name, below a chain of so many groups
+  is        one `action is Action` more in a condition, under a schema of SIZE actions
+  actions   SIZE actions, each a member of the next
+  types     SIZE entity types, each a member of the two before
+  uses      one policy and environment, with SIZE actions that have one environment each
+  known     one capability more, in a condition that gives SIZE of them, for one attribute of different records
+  field     one `context.f` more, of the last of SIZE attributes
+  members   SIZE copies of a set of `context` compared with another, with SIZE attributes of the context
+  apart     the same, with expressions that all differ: `{a: context, b: n}.a`
+  shared    a condition whose shared nodes, counted wherever they occur, are some 15 times SIZE
+  asked     one request more at a served site, under SIZE environments
+  above     one condition more with `in` of an entity that the request does not name, below a chain of SIZE groups
 
-Taken off is, by row: a condition of one `is`; for the next two a schema as long that is refused at its first byte; a
-file without policies; half as many facts; a condition of one `context.f`; for the next two the same schema with one
-member; without a condition; what HTTP takes; the same condition with `==`. PROGRAM names another binary. Needs python3
-and valgrind.
+Each row subtracts a second run: for `is` a condition with one `is`; for `actions` and `types` a schema of the same length
+that is rejected at its first byte; for `uses` a file without policies; for `known` half as many capabilities; for `field`
+a condition with one `context.f`; for `members` and `apart` the same schema with one member; for `shared` no condition;
+for `asked` the cost of HTTP; for `above` the same condition with `==`. PROGRAM names another binary. Needs python3 and
+valgrind.
 """
 import json
 import os
@@ -102,7 +103,7 @@ def ran(words, files, status=0):
                 file.write(text)
         ended = Ended([*COUNTING, PROGRAM, *words], room)
         if ended.status != status:
-            sys.exit(f"status {ended.status}: {ended.out[:300]!r} {ended.err[-300:]}")
+            sys.exit(f"expected status {status}, got {ended.status}: {ended.out[:300]!r} {ended.err[-300:]}")
         return collected(ended.err)
 
 
@@ -137,7 +138,7 @@ def served(schema, requests):
             link.close()
             site.ended()
             if {*replies} - {200, 404}:
-                sys.exit(f"replies {replies}")
+                sys.exit(f"expected replies with status 200 or 404, got {replies}")
             return collected(site.told())
 
 

@@ -1,10 +1,10 @@
 r"""Measures HTTP over memory and over loopback, without a site: by the program bench/programs/stream_measures.
 
-    bench/measure.py http memory [REQUESTS]     instructions of a GET with five fields, and requests a second
-    bench/measure.py http loopback [REQUESTS]   requests a second on one kept connection, one by one and 32 sent together
-    bench/measure.py http slow                  instructions of a head of 16,384 bytes, of a body of 65,536 behind a head of
-                                                4,096 and of one of 8,388,608, each at once and, but for the longest, byte
-                                                by byte
+bench/measure.py http memory [REQUESTS]     instructions of a GET with five fields, and requests a second
+bench/measure.py http loopback [REQUESTS]   requests a second on one kept connection, one by one and 32 sent together
+bench/measure.py http slow                  instructions of a head of 16,384 bytes, of a body of 65,536 after a head of
+                                            4,096 and of one of 8,388,608, each at once and, except the longest, byte
+                                            by byte
 """
 import subprocess
 import sys
@@ -45,7 +45,7 @@ def seconds(count):
 
 
 def over_memory(requests):
-    # the making of the stream is in it
+    # includes the making of the stream
     print(f"instructions a request: {(counted('many 1500') - counted('many 500')) / 1000:.0f}")
     seconds(1000)
     took = min(seconds(requests) for _ in range(3)) - min(seconds(0) for _ in range(3))
@@ -62,7 +62,7 @@ def asked(port, requests, together):
         while left:
             came = stream.recv(left)
             if not came:
-                sys.exit("the connection ended")
+                sys.exit("expected a reply, got the end of the connection")
             left -= len(came)
     took = time.monotonic() - began
     stream.close()
@@ -95,4 +95,4 @@ elif WHAT == "loopback":
 elif WHAT == "slow":
     slow()
 else:
-    sys.exit("http memory, http loopback or http slow")
+    sys.exit("usage: bench/measure.py http memory | loopback | slow")

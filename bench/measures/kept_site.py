@@ -1,13 +1,12 @@
-"""Measures what a site keeps beside its store, without its service: instructions (by valgrind), and the greatest resident
-memory of a run.
+"""Measures the caches of a site, without its service: instructions (by valgrind), and the greatest resident memory of a run.
 
   bench/measure.py kept_site                  all of these
-  bench/measure.py kept_site authorize        one request more, over policies of which ten can apply, and over policies whose
-                                      scopes name no entity
-  bench/measure.py kept_site rebuild          the ancestors and the index made anew, by a put behind `drop`
-  bench/measure.py kept_site take             an update of a message: of a state that a new site takes, of one that a site takes
-                                      whose ancestors stand, of one that it has already, and of a chain of groups, from
-                                      the top downwards and from the bottom upwards
+  bench/measure.py kept_site authorize        one request more, over policies of which ten can apply, and over policies
+                                              whose scopes name no entity
+  bench/measure.py kept_site rebuild          ancestors and index rebuilt, by a put after `drop`
+  bench/measure.py kept_site take             an update of a message: of a state that a new site applies, of one that a
+                                              site with its caches applies, of one that it has already, and of a chain of
+                                              groups, from the top downwards and from the bottom upwards
   bench/measure.py kept_site memory           bytes for a policy and for an entity
 
 PROGRAM names another binary. Needs python3, valgrind and GNU time.
@@ -93,7 +92,7 @@ def run(lines, *before):
         with open(file.name, encoding="utf-8") as given:
             ran = subprocess.run([*before, PROGRAM], stdin=given, capture_output=True, text=True, check=True)
     if "no\n" in ran.stdout or "bad row" in ran.stdout:
-        sys.exit(f"refused: {ran.stdout}")
+        sys.exit(f"expected each row to be accepted, got {ran.stdout}")
     return ran
 
 

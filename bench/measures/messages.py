@@ -1,12 +1,12 @@
-"""Measures messages: for each size, the instructions an entry of reading a state, of taking its updates and of writing
-it again, and the greatest resident memory of each. Half of the entries are policies with a condition, half entities
-with two attributes and a parent.
+"""Measures messages: for each size, instructions for each entry of reading a state, applying its updates and writing it,
+and the greatest resident memory of each. Half of the entries are policies with a condition, half entities with two
+attributes and a parent.
 
   bench/measure.py messages [SIZE ..]       (default: 1,000 and 10,000 entries)
 
-Each is a `merge` that goes so far: the state is refused at its first byte; at its last entry, once all others are
-read; it is taken, and the second message refused; it is taken and written. PROGRAM names another binary. Needs
-python3, valgrind and GNU time.
+Each step is the difference of two runs of `merge`: the state is rejected at its first byte; at its last entry, after all
+others are read; it is applied, and the second message rejected; it is applied and written. PROGRAM names another binary.
+Needs python3, valgrind and GNU time.
 """
 import hashlib
 import json
@@ -59,7 +59,7 @@ def merged(room, first, second, wanted):
     words = [PROGRAM, "merge", "--schema", "schema", first, second]
     ran = Ended([*TIMING, *words], room)
     if wanted not in (ran.out.decode() if ran.status == 0 else ran.err):
-        sys.exit(f"{first} and {second}: {ran.out[:200]!r} {ran.err}")
+        sys.exit(f"{first} and {second}: expected {wanted}, got {ran.out[:200]!r} {ran.err}")
     return collected(Ended([*COUNTING, *words], room).err), resident(ran.err)
 
 

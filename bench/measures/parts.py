@@ -1,6 +1,6 @@
 """Measures of single crates, by the program bench/programs/measures: tables whose rows share one form.
 
-Each column is the difference of two runs, for each of so many items. A run is named PART/CASE/SIZE/TIMES.
+Each column is the difference of two runs, divided by the number of items. A run is named PART/CASE/SIZE/TIMES.
 """
 from runs import counted, memory, part
 
@@ -23,9 +23,9 @@ def table(*columns):
 
 
 def ancestor_search(program, sizes):
-    """Measures a hierarchy that is searched: instructions an edge of one question.
+    """Measures the search of a hierarchy: instructions an edge of one query.
 
-    Words: numbers of entities (1,000 and 10,000).
+    Arguments: numbers of entities (1,000 and 10,000).
     """
     table("shape", "entities", "question", "an edge")
     for shape in ("chain", "tree", "layers", "cycle"):
@@ -38,13 +38,13 @@ def ancestor_search(program, sizes):
 
 
 def ancestor_cache(program, sizes):
-    """Measures a hierarchy whose ancestors are cached: an entity while it is built (parents first), a put at the bottom and
-    in the middle, one question who is above whom and one for a cycle, and bytes of memory an entity.
+    """Measures the ancestor cache: instructions for an entity while it is built (parents first), for a put at the bottom and
+    in the middle, for a query of an ancestor and of a cycle, and bytes of memory for an entity.
 
-    In a chain and in layers each list holds all above, so these are measured up to 1,000 entities. An entity in the middle
-    of a tree has what is below it written anew. Puts at the bottom are a tenth of the entities, and 100 at least.
+    In a chain and in layers each list holds all ancestors, so these are measured up to 1,000 entities. A put in the middle
+    of a tree rewrites the lists of its descendants. Puts at the bottom are a tenth of the entities, and 100 at least.
 
-    Words: numbers of entities (100 to 100,000).
+    Arguments: numbers of entities (100 to 100,000).
     """
     table("shape", "entities", "build", "bottom", "middle", "ancestor", "cycle", "bytes")
     for shape in ("tree", "chain", "layers"):
@@ -62,10 +62,10 @@ def ancestor_cache(program, sizes):
 def policy_grammar(program, counts):
     """Measures the reading of policy files: instructions and bytes of memory for each byte of a file.
 
-    A part is a policy, an action of one policy's list or an annotation of one policy; of the texts from `string` on, on
-    which the lexer has the most work, a letter or two. The making of the text is taken off.
+    A part is a policy, an action of one policy's list or an annotation of one policy; in the texts from `string` on, which
+    cost the lexer most, a letter or two. The making of the text is subtracted.
 
-    Words: numbers of parts (1,000 and 10,000).
+    Arguments: numbers of parts (1,000 and 10,000).
     """
     kinds = ("policies", "named", "conditions", "actions", "annotations", "string", "escapes", "comment", "comments",
              "colons", "word", "words", "number", "blanks", "unclosed")
@@ -83,7 +83,7 @@ def stamped_store(program, sizes):
     `take` fills one store. The others are the difference to a run without them: a merge of two stores of the same names,
     the same where counts are equal and sites are compared, and a look-up, a comparison and a step over a name.
 
-    Words: numbers of names (1,000, 10,000 and 100,000).
+    Arguments: numbers of names (1,000, 10,000 and 100,000).
     """
     table("names", "take", "merge", "ties", "get", "below", "iter")
     for size in sizes or (1000, 10_000, 100_000):
@@ -95,9 +95,9 @@ def stamped_store(program, sizes):
 
 
 def values(program, sizes):
-    """Measures sets: instructions for each value that a set is made of, and that is looked up in it; bytes for each.
+    """Measures sets: instructions for each member made and looked up; bytes for each.
 
-    Words: numbers of values (10,000 and 100,000).
+    Arguments: numbers of values (10,000 and 100,000).
     """
     table("size", "made", "found", "bytes")
     for size in sizes or (10_000, 100_000):
@@ -111,5 +111,5 @@ DOCUMENTS = {name: it.__doc__ for name, it in PARTS.items()}
 
 
 def measure(name, words):
-    """Takes the measure of this name at these sizes."""
+    """Runs the measure of this name at these sizes."""
     PARTS[name](part(PROGRAM_NAME), [int(it) for it in words])

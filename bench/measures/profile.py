@@ -3,7 +3,7 @@
     bench/measure.py profile policy [LESS MORE]   (default: 2,000 and 6,000 policies with scopes alone, 1,000 entities)
     bench/measure.py profile entity [LESS MORE]   (default: 4,000 and 8,000 entities with one parent each, 10 policies)
 
-It divides the difference of two runs. What the compiler put into a caller counts as the caller's.
+It divides the difference of two runs. Inlined code counts as its caller's.
 """
 import re
 import subprocess
@@ -47,7 +47,7 @@ def profile(policies, entities):
 
 kind = sys.argv[1] if sys.argv[1:] else ""
 if kind not in USUAL:
-    sys.exit("profile policy, or profile entity, and perhaps two sizes")
+    sys.exit("usage: bench/measure.py profile policy | entity [LESS MORE]")
 sizes = [int(it) for it in sys.argv[2:]] or USUAL[kind]
 less, more = (profile(it, 1000) if kind == "policy" else profile(10, it) for it in sizes)
 rows = sorted(((more.get(name, 0) - less.get(name, 0)) / (sizes[1] - sizes[0]), name) for name in {*less, *more})

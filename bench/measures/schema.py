@@ -1,8 +1,8 @@
 """Measures the reading of schemas: instructions (by valgrind) of `check` over a file without policies, less those of a
-run with a file as long that is refused at its first byte.
+run with a file of the same length that is rejected at its first byte.
 
-  bench/measure.py schema [COUNT ..]   so many entity types with three attributes, actions with a context and environments
-                               (default: 10, 100 and 1,000)
+  bench/measure.py schema [COUNT ..]   COUNT entity types with three attributes, actions with a context and environments
+                                       (default: 10, 100 and 1,000)
 
 PROGRAM names another binary. Needs python3 and valgrind.
 """
@@ -32,7 +32,7 @@ def instructions(room, text, status):
         file.write(text)
     ran = Ended([*COUNTING, PROGRAM, "check", "--schema", "schema", "policies"], room)
     if ran.status != status:
-        sys.exit(f"status {ran.status}: {ran.err}")
+        sys.exit(f"expected status {status}, got {ran.status}: {ran.err}")
     return collected(ran.err)
 
 

@@ -1,12 +1,12 @@
 """Measures the served program over loopback, and `merge`: microseconds a request (by the clock, so on a quiet machine),
 and the greatest resident memory. Needs python3 and GNU time. PROGRAM names another binary.
 
-  bench/measure.py service authorize [POLICIES ..]   one keep-alive connection: one by one, and 32 together (default: 10,
-                                             1,000, 10,000)
-  bench/measure.py service put [COUNT ..]            puts of policies, one by one, where so many are stored (default: 1,000,
-                                             10,000)
-  bench/measure.py service merge [ENTRIES ..]        two states of so many entries (default: 1,000, 10,000, 100,000)
-  bench/measure.py service start                     from the start to `listening`, with nothing stored
+  bench/measure.py service authorize [POLICIES ..]   one kept connection: one by one, and 32 together (default: 10, 1,000,
+                                                     10,000)
+  bench/measure.py service put [COUNT ..]            puts of policies, one by one, with COUNT policies stored (default:
+                                                     1,000, 10,000)
+  bench/measure.py service merge [ENTRIES ..]        two states of ENTRIES entries (default: 1,000, 10,000, 100,000)
+  bench/measure.py service start                     from the start to `listening`, with an empty store
 """
 import hashlib
 import json
@@ -81,7 +81,7 @@ def merge(room):
         ran = Ended([*TIMING, PROGRAM, "merge", "--schema", "schema", "f", "g"], room)
         ended = resource.getrusage(resource.RUSAGE_CHILDREN)
         if ran.status != 0:
-            sys.exit(f"not merged: {ran.err}")
+            sys.exit(f"expected status 0, got {ran.status}: {ran.err}")
         seconds, kib = ended.ru_utime - began.ru_utime + ended.ru_stime - began.ru_stime, resident(ran.err)
         size = (os.path.getsize(f"{room}/f") + os.path.getsize(f"{room}/g")) / 1e6
         each = seconds / count / 2 * 1e6
@@ -97,9 +97,9 @@ def start(room):
     print(f"start: {sorted(found)[10]:.1f} ms, {kib} KiB")
 
 
-DEEDS = {"authorize": authorize, "put": put, "merge": merge, "start": start}
-if WHAT not in DEEDS:
-    sys.exit("bench/measure.py service authorize | put | merge | start")
+MEASURES = {"authorize": authorize, "put": put, "merge": merge, "start": start}
+if WHAT not in MEASURES:
+    sys.exit("usage: bench/measure.py service authorize | put | merge | start")
 with tempfile.TemporaryDirectory() as room:
     write(room, "schema", SCHEMA)
-    DEEDS[WHAT](room)
+    MEASURES[WHAT](room)

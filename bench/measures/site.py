@@ -1,23 +1,22 @@
-"""Measures a site that is served over loopback: instructions (by valgrind), seconds of processor time and the greatest
-resident memory. With TIMES=1 it counts no instructions, which takes minutes for 100,000 entities.
+"""Measures a site served over loopback: instructions (by valgrind), seconds of processor time and the greatest resident
+memory. With TIMES=1 it counts no instructions, which takes minutes for 100,000 entities.
 
-  bench/measure.py site authorize ["POLICIES ENTITIES" ..]    one request more, over so many policies and entities, of which
-                                                      the same ten policies can apply, and one is satisfied (default:
-                                                      10, 1,000 and 10,000 policies; 100 to 100,000 entities). One
-                                                      entity in ten is a group, so that more groups are above the
-                                                      principal where there are more; with REACH=10 there are ten,
-                                                      so that a request reaches as much whatever is stored
+  bench/measure.py site authorize ["POLICIES ENTITIES" ..]    one request more, over these policies and entities; always ten
+                                                      policies can apply, and one is satisfied (default: 10, 1,000 and
+                                                      10,000 policies; 100 to 100,000 entities). One entity in ten is a
+                                                      group, so the principal has more ancestors if there are more; with
+                                                      REACH=10 there are ten groups, so a request reaches as many
+                                                      entities whatever is stored
   bench/measure.py site put [COUNT ..]                        one put more of a policy, of an entity, and of a group below a
-                                                      chain of all others, where so many are stored (default: 1,000
-                                                      and 10,000)
-  bench/measure.py site take [COUNT ..]                       one update of a state of so many that the site begins with
+                                                      chain of all others, with COUNT stored (default: 1,000 and 10,000)
+  bench/measure.py site take [COUNT ..]                       one update of a state of COUNT with which the site starts
                                                       (default: 1,000, 10,000 and 100,000)
-  bench/measure.py site write [COUNT ..]                      a name of a summary and of a state that it replies with, asked
-                                                      for once more (default: 1,000 and 10,000)
+  bench/measure.py site write [COUNT ..]                      a name of a summary and of a state in a second reply (default:
+                                                      1,000 and 10,000)
 
-Half of a message's updates are policies with a condition, half entities with two attributes and a parent. What HTTP
-takes is taken off by a run with requests as long of a path that is none. PROGRAM names another binary. Needs python3,
-valgrind and GNU time.
+Half of a message's updates are policies with a condition, half entities with two attributes and a parent. The cost of
+HTTP is subtracted: that of a run with requests of the same length to an unknown path. PROGRAM names another binary. Needs
+python3, valgrind and GNU time.
 """
 import hashlib
 import json
@@ -123,13 +122,13 @@ class Room:
         words = ["--state", "state", "--connections", "1"]
         with Served([*before, PROGRAM], self.folder, *words) as site:
             if not site.listens:
-                sys.exit(f"the site does not listen: {site.told()}")
+                sys.exit(f"expected a listening site, got {site.told()}")
             link = Link(site.port)
             replies, kib = [link.ask(request(*one))[0] for one in asked], site.peak()
             link.close()
             status, seconds = site.ended()
             if status != 0:
-                sys.exit(f"the site ended with status {status}: {site.told()}")
+                sys.exit(f"expected status 0, got {status}: {site.told()}")
             return site.told(), seconds, kib, replies
 
     def instructions(self, asked):
@@ -143,7 +142,7 @@ class Room:
         _, _, kib, replies = self.run(asked)
         wrong = [it for it in replies if it[0] != 200]
         if wrong:
-            sys.exit(f"another reply: {wrong[0]}")
+            sys.exit(f"expected status 200, got {wrong[0]}")
         return kib
 
     def begun(self, *before):
@@ -151,7 +150,7 @@ class Room:
         words = ["serve", "--schema", "schema", "--site", "1", "--state", "state", "--connections", "0"]
         ran = Ended([*before, PROGRAM, *words, "--listen", "127.0.0.1:0"], self.folder)
         if ran.status != 0:
-            sys.exit(f"the state is not taken: {ran.err}")
+            sys.exit(f"expected status 0, got {ran.status}: {ran.err}")
         return ran
 
     def beginning(self):
@@ -213,8 +212,8 @@ def write(room):
             print(f"{count:>9} {what:>9} {(more - less) / count:>20.1f}", flush=True)
 
 
-DEEDS = {"authorize": authorize, "put": put, "take": take, "write": write}
-if WHAT not in DEEDS:
-    sys.exit("bench/measure.py site authorize, put, take or write, and perhaps sizes")
+MEASURES = {"authorize": authorize, "put": put, "take": take, "write": write}
+if WHAT not in MEASURES:
+    sys.exit("usage: bench/measure.py site authorize | put | take | write [SIZE ..]")
 with tempfile.TemporaryDirectory() as folder:
-    DEEDS[WHAT](Room(folder))
+    MEASURES[WHAT](Room(folder))

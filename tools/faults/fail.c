@@ -1,7 +1,6 @@
-/* Has one read or one write on a connection fail, of a program that this library is loaded before (LD_PRELOAD), or the
-   next connections before they stand, and lets no read or write of a connection move more than so many bytes. What is
-   to fail, and what came of it, stands in the file that the variable FAILING names, which whoever started the program
-   changes while it runs. */
+/* Loaded before a program (LD_PRELOAD): makes one read or one write on a connection fail, or the next connections before
+   they are established, and limits the bytes of each read and write. The file that the variable FAILING names has the plan
+   and its report; the program's parent changes it while the program runs. */
 #define _GNU_SOURCE
 #include <errno.h>
 #include <fcntl.h>
@@ -13,14 +12,14 @@
 #include <unistd.h>
 
 static volatile struct plan {
-    /* what is asked: the numbers of the calls that fail, from 1 on, and the most bytes of a call; 0 is none */
+    /* the plan: the numbers of the failing calls, from 1, and the most bytes of a call; 0 is none */
     int64_t failing_read, failing_write, most_read, most_written;
     /* how many calls of accept are still to fail */
     int64_t failing_accepts;
-    /* what came of it since a connection was accepted: calls; bytes that were given, by the last read too, and taken;
-       whether a call failed, and how many came behind it */
+    /* the report since a connection was accepted: calls; bytes given, by the last read alone too, and taken; whether a
+       call failed, and the number of later calls */
     int64_t reads, writes, given, given_last, taken, failed, later;
-    /* the first bytes that were taken: a peer may get fewer, where the connection is reset */
+    /* the first bytes that were taken: a peer may get fewer if the connection is reset */
     unsigned char out[8192];
 } *plan;
 

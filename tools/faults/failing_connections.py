@@ -83,8 +83,8 @@ STATED = {
 GET_A = b"GET /a HTTP/1.1\r\n\r\n"
 ENDING = b"GET /e HTTP/1.0\r\n\r\n"
 CUT_OFF = b"PUT /b HTTP/1.1\r\nContent-Length: 30\r\n\r\nabcdefghij"
-# what of a stream is answered, each request or refused beginning by itself; what stands behind it; and in how many reads
-# of 7 bytes it is read
+# the parts of a stream that are answered, each a request or a rejected beginning; the rest of the stream; and the number
+# of reads of 7 bytes
 SHORT = (
     ((b"GET /a HTTP/1.1\r\nHost: h\r\n\r\n", request("PUT", "/b", b"xyz")), b"", 11),
     ((ENDING,), b"GET /f HTTP/1.1\r\n\r\n", 3),
@@ -125,12 +125,12 @@ NO_NEWS = b'{"entries":[],"kind":"delta","schema":"%s","version":2}' % LABEL
 # how many connections fail in a row before each one that a site serves
 UNACCEPTED = ((1,), (4,), (2, 0, 1))
 WARNING = "warning: accept failed, trying again: "
-# standard input, output and error, and where connections come to
+# room for standard input, output and error, and the listening socket
 NO_FILE_MORE = ("sh", "-c", 'ulimit -S -n 4 && exec "$@"', "sh")
-# a stream that meets more calls than this is told as a fault
+# a stream with more calls than this is reported as a fault
 MOST = 10_000
 
-# what tools/faults/fail.c shares, of which the first five are asked, and the others tell what came of it
+# the memory that tools/faults/fail.c shares: the first five fields are the plan, the others its report
 Plan = collections.namedtuple(
     "Plan",
     "failing_read failing_write most_read most_written failing_accepts"
@@ -148,7 +148,7 @@ class Shared:
     """A plan in the file that tools/faults/fail.c reads and writes."""
 
     FORM = struct.Struct(f"{len(Plan._fields)}q")
-    # how many of the bytes that go out stand behind it
+    # the number of output bytes after it
     ROOM = 8192
 
     def __init__(self, path):
@@ -158,7 +158,7 @@ class Shared:
             self.memory = mmap.mmap(file.fileno(), 0)
 
     def ask(self, plan):
-        """Has the calls of the next connections fail by a plan."""
+        """Makes calls of the next connections fail by a plan."""
         self.FORM.pack_into(self.memory, 0, *plan)
 
     def told(self):
@@ -171,7 +171,7 @@ class Shared:
 
 
 def whole(requests, size):
-    """Returns how many of the requests are complete in so many bytes of their stream."""
+    """Returns how many of the requests are complete in this many bytes of their stream."""
     count = end = 0
     for one in requests:
         end += len(one)
@@ -180,7 +180,7 @@ def whole(requests, size):
 
 
 class Twins:
-    """Two sites of one name: at the first calls fail, the second is sent what the first has done."""
+    """Two sites of one name: at the first calls fail, the second gets the requests that the first has executed."""
 
     def __init__(self, program, folder):
         library, plan, self.schema = (f"{folder}/{name}" for name in ("fail.so", "plan", "schema"))
@@ -196,14 +196,14 @@ class Twins:
         self.begin()
 
     def begin(self):
-        """Begins both with nothing stored."""
+        """Starts both with empty stores."""
         self.shared.ask(PLAIN)
         self.site = Site(self.failing, self.program, self.schema, "1")
         self.twin = Site(self.plain, self.program, self.schema, "1")
         self.files = self.files_now()
 
     def begin_anew(self):
-        """Begins both once more, so that what went wrong is of no other kind's concern."""
+        """Restarts both, so that a fault does not affect other kinds."""
         self.site.end()
         self.twin.end()
         self.begin()
@@ -416,7 +416,7 @@ def all_kinds():
     for name, kind in STATED.items():
         yield name, lambda twins, kind=kind: stated(twins, *kind)
     for kind in UNACCEPTED:
-        name = f"{', '.join(map(str, kind))} that fail before they stand, before each connection of {len(kind)}"
+        name = f"{', '.join(map(str, kind))} that fail before they are established, before each connection of {len(kind)}"
         yield name, lambda twins, kind=kind: unaccepted(twins, kind)
     yield "two seconds without a file to open, and a client that waits", without_files
 

@@ -19,7 +19,7 @@ makes those fail that this script chooses: the counts show whether an answer use
 - Ancestors: nor does a longer path from an entity to the group that a policy names, except for the list of the groups.
 - Leaves: a put of a new user into a group takes no more allocations with 500 other users than with 50, except those of
   larger maps and lists, and an answer takes equally many.
-- New: a site without changes answers as one after a change, over as many actions in one another.
+- New: a site without changes answers as one after a change, over as many nested actions.
 - Upkeep: after each change of a script an answer takes as many allocations as at a new site that merged the whole state
   as one message, also if the caches were dropped before the change.
 
@@ -56,7 +56,7 @@ SCHEMA = {
         "actions": {"read": {}, "view": {"memberOf": [{"id": "read"}], "appliesTo": USES}},
     }
 }
-# entities that may all be in one another
+# entities that may all be ancestors of each other
 MEMBERS = [*(("Group", it) for it in "abcdef"), *(("User", it) for it in "uv")]
 KINDS_OF_MEMBERS = ["Group", "User"]
 MEMBERS_SCHEMA = {
@@ -104,12 +104,12 @@ def drawn_requests():
 
 
 def is_change(asked):
-    """Returns whether a request may change what is stored."""
+    """Returns whether a request may change the store."""
     return asked[1] != "/v1/authorize"
 
 
 class Counted:
-    """A site with nothing stored, whose allocations are counted, and are refused where that is asked."""
+    """A site that starts with an empty store, whose allocations are counted and can be made to fail."""
 
     def __init__(self, program, folder, number, schema):
         path = f"{folder}/asked{number}"
@@ -125,18 +125,18 @@ class Counted:
         return struct.unpack_from("q", self.memory)[0]
 
     def refuse(self, number):
-        """Has the allocation of this number, from those asked for so far, be refused; 0 is none."""
+        """Makes the allocation of this number fail, counted from now; 0 is none."""
         struct.pack_into("q", self.memory, 8, self.asked() + number if number else 0)
 
     def ask(self, asked):
-        """Status and body of the reply, and how often the site asked for memory."""
+        """Returns status and body of the reply, and the number of allocations."""
         before = self.asked()
         reply = self.site.ask(*asked)
         return (reply.status, reply.body), self.asked() - before
 
     def ask_refused(self, asked, number):
-        """Status and body of the reply where one allocation is refused; where it tells of that, or none comes, the
-        reply to the same once more. Tells, too, whether it was asked once."""
+        """Returns status and body of the reply while one allocation fails; if the reply reports that, or none comes, those of a
+        second attempt. Also returns whether one attempt sufficed."""
         self.refuse(number)
         try:
             came, _ = self.ask(asked)
@@ -149,7 +149,7 @@ class Counted:
         return came, True
 
     def reconnect(self):
-        """Lets a connection go that has ended."""
+        """Drops a connection that has ended."""
         self.site.incoming.close()
         self.site.link.close()
         self.site.link = None
@@ -178,20 +178,20 @@ class Counted:
 
 
 class Sites:
-    """Sites that begin with nothing stored, and end together."""
+    """Sites that start with empty stores, and end together."""
 
     def __init__(self, program, folder):
         self.program, self.folder, self.number, self.going = program, folder, 0, []
 
     def begin(self, schema="schema"):
-        """Begins a site under the schema of this file."""
+        """Starts a site under the schema of this file."""
         self.number += 1
         site = Counted(self.program, self.folder, self.number, schema)
         self.going.append(site)
         return site
 
     def end(self):
-        """Ends those that go on."""
+        """Ends those that still run."""
         while self.going:
             self.going.pop().close()
 
@@ -200,7 +200,7 @@ class Sites:
 
 
 class Twins:
-    """Two sites that are sent the same, of which the second lacks memory now and then."""
+    """Two sites that get the same requests; at the second some allocations fail."""
 
     def __init__(self, sites, chance, schema="schema"):
         self.keeping, self.dropping = sites.begin(schema), sites.begin(schema)
@@ -213,13 +213,13 @@ class Twins:
         self.seen |= {kind for kind in KINDS if kind in wanted[1]}
 
     def change(self, asked):
-        """Has both be changed, the second while one allocation is refused."""
+        """Changes both, the second while one allocation fails."""
         wanted, count = self.keeping.ask(asked)
         came, _ = self.dropping.ask_refused(asked, self.chance.randint(1, max(count, 1)))
         self.alike(asked, came, wanted)
 
     def answer(self, asked):
-        """Has both answer a request, and counts whether the second does so without what is kept."""
+        """Lets both answer a request, and counts whether the second does so without its caches."""
         (wanted, count), (came, other) = self.keeping.ask(asked), self.dropping.ask(asked)
         self.alike(asked, came, wanted)
         self.answers += 1
@@ -233,7 +233,7 @@ class Twins:
 
 
 def drawn(sites, chance, requests):
-    """Has two sites be sent requests that are drawn."""
+    """Sends drawn requests to two sites."""
     twins = Twins(sites, chance)
     for _ in range(DRAWN):
         asked = chance.choice(requests)
@@ -250,11 +250,11 @@ def told(answers, without):
     """Returns a line about answers. Raises `Fault` if few of them are found without caches."""
     if without < answers // 50:
         raise Fault(f"expected at least {answers // 50} of {answers} answers without caches, got {without}")
-    return f"{answers} answers alike, {without} of them without what is kept"
+    return f"{answers} answers alike, {without} of them without caches"
 
 
 def draws_alike(sites, seed, count):
-    """Has twins begin so often."""
+    """Starts twins this many times."""
     chance, requests = random.Random(seed), drawn_requests()
     all_twins = [drawn(sites, chance, requests) for _ in range(count)]
     missing = set(KINDS).difference(*(twins.seen for twins in all_twins))
@@ -269,7 +269,7 @@ def member_json(member):
 
 
 def random_change(chance, label, step):
-    """Puts one of eight entities below some others, or takes it away, by a command or by a message, which wins."""
+    """Puts one of eight entities below some others, or deletes it, by a command or by a message with a greater stamp."""
     kind, name = chance.choice(MEMBERS)
     uid, word = {"id": name, "type": kind}, chance.choice(("put", "put", "put", "put", "gone", "message"))
     if word == "gone":
@@ -283,7 +283,7 @@ def random_change(chance, label, step):
 
 
 def hierarchies_alike(sites, seed):
-    """Has twins follow changes of a hierarchy."""
+    """Sends changes of a hierarchy to twins."""
     twins = Twins(sites, random.Random(seed), "members")
     for kind, name in MEMBERS:
         twins.change(put(f"in_{name}", f'permit(principal in {kind}::"{name}", action, resource);'))
@@ -309,7 +309,7 @@ def put(policy, text):
 
 
 def delete(policy):
-    """Takes a policy away."""
+    """Deletes a policy."""
     return "DELETE", policy_path(policy)
 
 
@@ -321,7 +321,7 @@ def entity(kind, name, *groups):
 
 
 def entity_gone(kind, name):
-    """Takes an entity away."""
+    """Deletes an entity."""
     return "POST", "/v1/entities/delete", compact({"type": kind, "id": name})
 
 
@@ -332,7 +332,7 @@ def question(user):
 
 
 def message(site, count, *entries):
-    """Hands in a message with these names and bodies, all of one count."""
+    """Posts a message with these names and bodies, all of one count."""
     made = [{"body": body, "count": count, "name": name, "site": "2"} for name, body in entries]
     return "POST", "/v1/merge", compact({"entries": made, "kind": "state", "schema": label_of(site.site), "version": 2})
 
@@ -352,8 +352,8 @@ BASE = (
 
 
 def others():
-    """Ids and texts of policies for others than are asked of: an answer without the index lists them too, and asks for
-    more."""
+    """Returns ids and texts of policies for other entities than the queries have: without the index an answer lists them too,
+    and allocates more."""
     return [(f"o{at}", f'permit(principal == User::"o{at}", action, resource);') for at in range(OTHERS)]
 
 
@@ -363,23 +363,23 @@ def index_is_used(sites):
     few.given(*BASE)
     many.given(*BASE)
     more = others()
-    for stand in ("stand beside", "were put again", "name a group"):
-        if stand == "name a group":
+    for which in ("were put", "were put again", "name a group"):
+        if which == "name a group":
             more = [(name, f'forbid(principal in Group::"{name}", action, resource);') for name, _ in more]
         many.given(*(put(*it) for it in more))
         for user in ("alice", "bob"):
-            same(f"{OTHERS} policies {stand}, {user}", many.cost(question(user)), few.cost(question(user)))
+            same(f"{OTHERS} policies that {which}, {user}", many.cost(question(user)), few.cost(question(user)))
     every = many.cost(question("alice"))
     dropped = drop(many, BASE[0], question("alice"))
     many.given(*(delete(name) for name, _ in more))
     for user in ("alice", "bob"):
         same(f"{OTHERS} policies taken away, {user}", many.cost(question(user)), few.cost(question(user)))
-    return f"{every} allocations beside {OTHERS} policies more, and {dropped} without what is kept"
+    return f"{every} allocations with {OTHERS} more policies, and {dropped} without caches"
 
 
 def drop(site, change, asked):
-    """Has a site drop its index, by a policy that is put while an allocation is refused, or its ancestors, by an
-    entity: one of the last is that for what is kept. Returns what an answer asks for then."""
+    """Makes a site drop its index, by the put of a policy while an allocation fails, or its ancestors, by that of an entity:
+    one of the last allocations is for the caches. Returns the number of allocations of an answer then."""
     site.given(change)
     kept, (_, count) = site.cost(asked), site.ask(change)
     for number in range(count, 0, -1):
@@ -401,7 +401,7 @@ def ancestors_are_used(sites):
     dropped = drop(far, way(GROUPS)[-1], question("z"))
     if dropped <= other + GROWTH:
         raise Fault(f"an answer over {GROUPS} groups without caches: expected over {other + GROWTH} allocations, got {dropped}")
-    return f"{one} allocations over one group, {other} over {GROUPS}, and {dropped} without what is kept"
+    return f"{one} allocations over one group, {other} over {GROUPS}, and {dropped} without caches"
 
 
 def puts_at_leaf(site, groups):
@@ -435,8 +435,8 @@ def new_site_keeps(sites):
     site = sites.begin("chain")
     new = site.cost(question("z"))
     site.given(put("z", 'permit(principal == User::"y", action, resource);'))
-    same(f"nothing put, {len(ACTIONS)} actions in one another", new, site.cost(question("z")))
-    return f"{new} allocations under {len(ACTIONS)} actions in one another"
+    same(f"nothing put, {len(ACTIONS)} nested actions", new, site.cost(question("z")))
+    return f"{new} allocations under {len(ACTIONS)} nested actions"
 
 
 def way(groups):
@@ -447,8 +447,8 @@ def way(groups):
 
 
 def script(site):
-    """Changes of every kind, each with a question that it bears on: policies and groups that come, change and go, a
-    cycle that a message brings, and a deletion that ends it."""
+    """Yields changes of every kind, each with a query that it affects: policies and groups that are put, changed and deleted,
+    a cycle that a message closes, and a deletion that breaks it."""
     group = {"id": "b", "type": "Group"}
     below = compact({"attrs": {}, "parents": [{"id": "a", "type": "Group"}], "uid": group}).decode()
     bound = 'permit(principal == User::"bob", action, resource);'
@@ -487,7 +487,7 @@ def upkeep(sites, drops):
         site.given(change)
         anew = sites.begin()
         anew.given(("POST", "/v1/merge", site.state()))
-        same(f"behind {change}", site.cost(asked), anew.cost(asked))
+        same(f"after {change}", site.cost(asked), anew.cost(asked))
         sites.going.remove(anew)
         anew.close()
         count += 1
@@ -502,7 +502,7 @@ TRIES = (
     ("leaves", leaves_are_cheap),
     ("new", new_site_keeps),
     ("upkeep", lambda sites: upkeep(sites, drops=False)),
-    ("upkeep of what was dropped", lambda sites: upkeep(sites, drops=True)),
+    ("upkeep of dropped caches", lambda sites: upkeep(sites, drops=True)),
 )
 
 

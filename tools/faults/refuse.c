@@ -1,7 +1,7 @@
-/* Refuses one allocation of a program that this library is loaded before (LD_PRELOAD): the one whose number, from 1 on,
-   the variable REFUSED has. Where it did, a line `refused` stands on standard error. Where the variable ASKED names a
-   file of 8 bytes, these are how many the program has asked for so far. Where it has 16, the second 8 are the number of
-   one more that is refused, without a line: whoever started the program changes them while it runs. */
+/* Loaded before a program (LD_PRELOAD): makes the allocation fail whose number, from 1, is in the variable REFUSED, and
+   then writes a line `refused` on standard error. If the variable ASKED names a file of 8 bytes, these count the
+   allocations so far. If it has 16 bytes, the second 8 are the number of one more that fails, without a line; the program's
+   parent changes them while the program runs. */
 #include <fcntl.h>
 #include <stdint.h>
 #include <stdlib.h>

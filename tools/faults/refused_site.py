@@ -1,15 +1,15 @@
 #!/usr/bin/env python3
-"""Gives inputs to a served site with each allocation refused in turn, one in each run.
+"""Gives inputs to a served site while one allocation fails: in the first run the first, in the next the second, and so on.
 
     tools/faults/refused_site.py PROGRAM [FIRST LAST]   (default: from the first allocation to the last one)
 
-The inputs are the last rows of crates/site_rows/stdout, whose wanted replies stand there. An input whose reply tells of
-refused memory has changed nothing, or has applied exactly as many updates as it says; one whose connection ended without
-a reply has changed nothing. Each is then given once more: that reply, and all behind it, are those of a run with ample
-memory. If the program lacks memory before it listens, it ends with an error. Behind the rows comes one more put: once it
-is answered, an answer allocates as often as in a run with ample memory, so that the caches are there again. If all
-allocations are tried, some run must have a refused reply, some a message that is cut short, and some must drop the
-caches; else the script fails. Needs `cc`.
+The inputs and their replies are rows of one part of crates/site_rows/stdout. An input whose reply has code 1 has changed
+nothing, or has applied exactly as many updates as the reply says; one whose connection ended without a reply has changed
+nothing. Each is then given once more: that reply, and all later ones, are those of a run with ample memory. If an
+allocation fails before the program listens, it ends with an error. After the rows comes one more put. Then an answer
+allocates as often as in a run with ample memory, so the caches are present again. If all allocations are tried, some run
+must have a reply of code 1, some a message that is cut short, and some must drop the caches; else the script fails.
+Needs `cc`.
 """
 import json
 import mmap
@@ -30,21 +30,22 @@ from runs import Link, Served  # noqa: E402
 
 TABLE = f"{TOP}/crates/site_rows/stdout"
 HEADING = "\n# each allocation refused"
-KINDS = ("replies refused", "messages cut short", "connections ended", "ends with an error", "not noticed")
-DROPPED = "what is kept beside the store dropped"
+KINDS = ("replies of code 1", "messages cut short", "connections ended", "ends with an error", "not noticed")
+DROPPED = "caches dropped"
 # each of these must occur in some run if all allocations are tried
-WANTED = ("replies refused", "messages cut short", DROPPED)
-# how often a run is begun again whose port another program has taken
+WANTED = ("replies of code 1", "messages cut short", DROPPED)
+# how often a run is restarted whose port another program has taken
 PORTS = 20
-# what is put behind the rows
+# the put after the rows
 ONE_MORE = 'put_policy z permit(principal in Group::"g", action, resource);'
 
 
 def inputs():
-    """The inputs behind the heading, with what each comes to. Above them stand the schema and the site's start."""
+    """Returns the inputs of the part with the heading, with their outcomes. Its first two rows are the schema and the site's start."""
     with open(TABLE, encoding="utf-8", newline="\n") as file:
-        under, start, *rows = rows_of(file.read().split(HEADING)[1].partition("\n")[2])
-    assert (under.word, start.word, start.text) == ("under", "start", "1"), "another beginning"
+        part = file.read().split(HEADING)[1].partition("\n# ---- ")[0]
+        under, start, *rows = rows_of(part.partition("\n")[2])
+    assert (under.word, start.word, start.text) == ("under", "start", "1"), f"expected the rows under and start 1, got {under.word} and {start.word} {start.text}"
     with open(f"{FOLDER}/schema", "w", encoding="utf-8") as file:
         file.write(under.text)
     return rows
@@ -62,11 +63,11 @@ def rank(entry):
 
 
 def state_with(state, message, count):
-    """The state once the first so many updates of a message are taken."""
+    """Returns the state after the first `count` updates of a message are applied."""
     whole = json.loads(state.split(" ", 2)[2])
     held = {order(entry): entry for entry in whole["entries"]}
     sent = json.loads(message)["entries"]
-    assert count < len(sent), f"{count} were taken of {len(sent)}"
+    assert count < len(sent), f"expected under {len(sent)} applied updates, got {count}"
     for entry in sent[:count]:
         if order(entry) not in held or rank(held[order(entry)]) < rank(entry):
             held[order(entry)] = entry
@@ -76,7 +77,7 @@ def state_with(state, message, count):
 
 
 class Asked:
-    """How often the program asked for memory, as tools/faults/refuse.c counts."""
+    """The number of allocations of the program, as tools/faults/refuse.c counts."""
 
     def __init__(self):
         with open(f"{FOLDER}/asked", "w+b") as file:
@@ -85,11 +86,11 @@ class Asked:
             self.memory = mmap.mmap(file.fileno(), 8)
 
     def begin(self):
-        """Counts from nought."""
+        """Starts at zero."""
         self.memory[:] = bytes(8)
 
     def by(self, client, text):
-        """What an input comes to, and how often it asks; once more, since a connection keeps what it asked for."""
+        """Returns the outcome of an input and its number of allocations, the second time: a connection keeps its memory."""
         client.told(text)
         before, came = self.now(), client.told(text)
         return came, self.now() - before
@@ -99,13 +100,13 @@ class Asked:
 
 
 class Client:
-    """Hands inputs to a site, over one connection while it is kept."""
+    """Gives inputs to a site, over one connection while it is open."""
 
     def __init__(self, port):
         self.port, self.link = port, None
 
     def told(self, text):
-        """What an input comes to; None where the connection ends without a reply."""
+        """Returns the outcome of an input; None if the connection ends without a reply."""
         sent, telling = input_of(text)
         try:
             if self.link is None:
@@ -122,21 +123,21 @@ class Client:
 
 
 def short_of(came, text, state):
-    """What was short of memory where an input came to this, and the state that is to be left."""
+    """Returns the kind of an outcome with a failed allocation, and the state that must be left."""
     if came is None:
         return "connections ended", state
     if came == "refused 1 - -":
-        return "replies refused", state
+        return "replies of code 1", state
     cut = re.fullmatch(r"refused 1 (\d+) -", came)
-    assert cut and text.startswith("take "), f"{text[:200]} came to {came[:200]}"
+    assert cut and text.startswith("take "), f"{text[:200]}: expected an error of code 1, got {came[:200]}"
     return "messages cut short", state_with(state, text.removeprefix("take "), int(cut[1]))
 
 
 def served(client, rows, number):
-    """What came of the refused allocation at a site that listens, and how often each answer asked for memory, None for
-    an answer in which it was refused.
+    """Returns the effect of the failed allocation at a site that listens, and the number of allocations of each answer, None
+    for an answer in which it failed.
 
-    Fails where something was lost.
+    Fails if an update was lost.
     """
     state, kind, asked = None, "not noticed", []
     for row in rows:
@@ -146,25 +147,25 @@ def served(client, rows, number):
         if row.text.startswith("authorize "):
             asked.append(None if before < number <= ASKED.now() else ASKED.now() - before)
         if came != row.expected:
-            assert kind == "not noticed", f"{row.text[:200]} came to {came}, too"
+            assert kind == "not noticed", f"{row.text[:200]}: expected {row.expected} after an earlier failed allocation, got {came}"
             kind, left = short_of(came, row.text, state)
             now, again = client.told("state"), client.told(row.text)
-            assert now == left, f"{row.text[:200]} left {now}"
-            assert again == row.expected, f"{row.text[:200]} came to {again} once more"
+            assert now == left, f"{row.text[:200]}: expected the state {left}, got {now}"
+            assert again == row.expected, f"{row.text[:200]}: expected {row.expected} the second time, got {again}"
     return kind, asked
 
 
 def behind(client, rows):
-    """What one more put comes to, and an answer behind it, and how often that asks for memory."""
+    """Returns the outcomes of one more put and of an answer after it, with the number of allocations of that answer."""
     question = [row.text for row in rows if row.text.startswith("authorize ")][-1]
     return client.told(ONE_MORE), ASKED.by(client, question)
 
 
 def kind_of(site, rows, number):
-    """What came of the refused allocation, and what came behind the rows; no kind where it is none of the rows'."""
+    """Returns the effect of the failed allocation, and the outcomes after the rows; no kind if it is not an allocation of the rows."""
     if not site.listens:
         status, _ = site.ended()
-        assert status > 0, f"the program ended with status {status}"
+        assert status > 0, f"expected a status above 0, got {status}"
         return "ends with an error", None
     client = Client(site.port)
     try:
@@ -175,7 +176,7 @@ def kind_of(site, rows, number):
 
 
 def tried(number, rows):
-    """The kind of the run with this allocation refused, and what came behind the rows; no kind where none was."""
+    """Returns the kind of the run in which this allocation fails, and the outcomes after the rows; no kind if none failed."""
     variables = {"LD_PRELOAD": f"{FOLDER}/refuse.so", "REFUSED": str(number), "ASKED": f"{FOLDER}/asked"}
     for _ in range(PORTS):
         ASKED.begin()
@@ -184,18 +185,18 @@ def tried(number, rows):
             told = site.told()
         if kind != "ends with an error" or "refused\n" in told:
             return kind, left
-    raise AssertionError(f"the program does not listen: {told}")
+    raise AssertionError(f"expected a listening site, got {told!r}")
 
 
 def all_tried(rows, kinds):
-    """Has each allocation refused in turn. Returns in how many runs, whose replies do not report it, an answer without
-    a refused allocation took another number of allocations than with ample memory, so that what is kept beside the
-    store was dropped; and whether the last allocation was reached."""
+    """Lets each allocation fail in turn. Returns the number of runs that dropped the caches, and whether the last allocation
+    was reached. A run dropped the caches if no reply reports the failed allocation, and an answer in which none failed
+    takes another number of allocations than with ample memory."""
     dropped, (_, ample) = 0, tried(0, rows)
     for number in range(FIRST, LAST + 1):
         try:
             kind, left = tried(number, rows)
-            assert left is None or left[1] == ample[1], f"behind the rows came {left[1]}, where {ample[1]} is right"
+            assert left is None or left[1] == ample[1], f"after the rows: expected {ample[1]}, got {left[1]}"
         except (AssertionError, ValueError, KeyError) as fault:
             sys.exit(f"allocation {number}: {fault}")
         if kind is None:
@@ -205,8 +206,11 @@ def all_tried(rows, kinds):
     return dropped, False
 
 
+if sys.argv[1:] in (["-h"], ["--help"]):
+    print(__doc__)
+    sys.exit(0)
 if len(sys.argv) not in (2, 4):
-    sys.exit("tools/faults/refused_site.py PROGRAM [FIRST LAST]")
+    sys.exit("usage: tools/faults/refused_site.py PROGRAM [FIRST LAST]")
 PROGRAM = os.path.abspath(sys.argv[1])
 FIRST, LAST = map(int, sys.argv[2:] or (1, 1_000_000))
 with tempfile.TemporaryDirectory() as FOLDER:
@@ -214,8 +218,8 @@ with tempfile.TemporaryDirectory() as FOLDER:
     ASKED, kinds = Asked(), dict.fromkeys(KINDS, 0)
     dropped, reached_last = all_tried(inputs(), kinds)
     told = ", ".join(f"{it} {kind}" for kind, it in kinds.items())
-    print(f"{sum(kinds.values())} allocations refused in turn, nothing lost: {told}")
-    print(f"{dropped} of those not noticed had what is kept beside the store dropped, till a later change")
+    print(f"{sum(kinds.values())} allocations failing in turn, no update lost: {told}")
+    print(f"{dropped} of those not noticed dropped the caches until a later change")
     missing = [kind for kind in WANTED if not {**kinds, DROPPED: dropped}[kind]]
     if missing and reached_last and FIRST == 1:
         sys.exit(f"expected in at least one run, got in none: {', '.join(missing)}")

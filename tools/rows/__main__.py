@@ -3,8 +3,8 @@
     python3 tools/rows PROGRAM [TABLE ..]        all tables of rows/, or the named ones
 
 A table rows/NAME.txt (for `sites` crates/site_rows/stdout) is plain text. An empty line, or one that begins with `#`,
-is a heading; every other line is `WORD TEXT  ->  EXPECTED`, split at its last arrow. (The tables `merge` and `pull`
-have blocks of lines instead.) KINDS has the class that answers the rows of each table, and explains each word. Tables
+is a heading; every other line is `WORD TEXT  ->  EXPECTED`, split at its last arrow. (The tables `merge`, `pull`
+and `exchange` have blocks of lines instead.) KINDS has the class that answers the rows of each table, and explains each word. Tables
 run in parallel, as many as there are processors; the rows of a table run in order. The last line is `N passed, M
 failed`; the status is 1 if a row failed. Standard library alone.
 """
@@ -31,11 +31,11 @@ KINDS = {
     **sites.KINDS,
     **sound.KINDS,
 }
-# tables that stand elsewhere: they have what a program of the gate prints, too
+# tables of other folders: a program of the gate prints these rows too
 ELSEWHERE = {"sites": "crates/site_rows/stdout"}
 # how many characters of a text are shown
 SHOWN = 200
-# a row that takes so many seconds hangs, and those below it would, too
+# the time limit of a row, in seconds: the rows after one that hangs would hang too
 HANGS = 25
 
 
@@ -76,9 +76,9 @@ class Tables:
                 wrong += 1
                 at = first_difference(row.expected, came)
                 wanted, came = cut(row.expected, at), cut(came, at)
-                self.tell(f"{name}:{row.line}: {cut(row.shown())}", f"  wanted: {wanted}", f"  came:   {came}")
+                self.tell(f"{name}:{row.line}: {cut(row.shown())}", f"  expected: {wanted}", f"  got:      {came}")
             if time.monotonic() - began > HANGS:
-                self.tell(f"{name}:{row.line}: took too long: the {len(rows) - tried} rows below it are not tried")
+                self.tell(f"{name}:{row.line}: expected an outcome within {HANGS} seconds, got none; skipping the {len(rows) - tried} rows after it")
                 return wrong + len(rows) - tried
         return wrong
 
@@ -152,6 +152,9 @@ def table_names(words):
 
 def main(words):
     """Tries the tables, and gives the status."""
+    if words in (["-h"], ["--help"]):
+        print(__doc__)
+        return 0
     if not words or words[0].startswith("-"):
         print(__doc__, file=sys.stderr)
         return 2

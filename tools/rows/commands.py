@@ -1,4 +1,4 @@
-"""Kinds of rows for the commands `check`, `decide`, `merge` and `pull`, and for command lines.
+"""Kinds of rows for the commands `check`, `decide`, `merge`, `pull` and `exchange`, and for command lines.
 
 The outcome of a row is the program's output, with a matching status. An unknown word, or a text of another form than
 its word takes, gives `bad row`. Used by tools/rows.
@@ -516,6 +516,97 @@ class Pulls(Blocks):
         return ran.line()
 
 
+class Exchanges(Blocks):
+    """A round of exchange with two peers, whose addresses are written 127.0.0.1:7000 and 127.0.0.1:7001.
+
+    A peer gives one reply a connection: a status and a body, or `raw` and bytes; at `-` nobody listens. What is asked has to be
+    the stated requests in their order, each the exact bytes; then come the status and what was printed on both streams.
+    """
+
+    ADDRESSES = {"first": "127.0.0.1:7000", "second": "127.0.0.1:7001"}
+
+    def gives(self, values):
+        self.cedar.lay(schema=values["schema"].encode())
+        heard = []
+        peers = {key: Peers(number, replies_of(values[key]), heard) for number, key in enumerate(self.ADDRESSES, 1)}
+        words = ("--schema", "schema", "--between", peers["first"].address, "--and", peers["second"].address)
+        try:
+            ran = self.cedar.run("exchange", *words)
+        finally:
+            for peer in peers.values():
+                peer.close()
+        asked = " | ".join(heard)
+        if asked.encode() != expanded(values["asks"]):
+            return f"asked {asked[:1000]}"
+        told = " ".join([f"{ran.status}:", *(printed(stream) for stream in (ran.answers, ran.faults) if stream)])
+        for key, address in self.ADDRESSES.items():
+            told = told.replace(peers[key].address, address)
+        return told.replace("\n", " ")
+
+
+def replies_of(text):
+    """The replies of a peer, or None where nobody listens."""
+    if text == "-":
+        return None
+    replies = []
+    for part in text.split(" | ") if text else []:
+        status, _, body = part.partition(" ")
+        if status == "raw":
+            replies.append(bytes_of(body))
+        else:
+            body = expanded(body)
+            replies.append(b"HTTP/1.1 %s Reply\r\nContent-Length: %d\r\n\r\n%s" % (status.encode(), len(body), body))
+    return replies
+
+
+class Peers:
+    """A peer that is called more than once: it notes what each call asks, and gives the next of its replies."""
+
+    def __init__(self, number, replies, heard):
+        self.number, self.replies, self.heard = number, replies, heard
+        self.listener = socket.create_server(("127.0.0.1", 0))
+        self.listener.settimeout(SECONDS)
+        self.address = f"127.0.0.1:{self.listener.getsockname()[1]}"
+        if replies is None:
+            self.listener.close()
+            return
+        self.thread = threading.Thread(target=self.give, daemon=True)
+        self.thread.start()
+
+    def give(self):
+        """Hears and gives, until it is closed."""
+        replies = list(self.replies)
+        try:
+            while True:
+                link, _ = self.listener.accept()
+                with link:
+                    link.settimeout(SECONDS)
+                    asked = b""
+                    while not is_whole(asked) and (more := link.recv(1 << 16)):
+                        asked += more
+                    # what is too large is judged once there is a connection, and not sent
+                    if asked:
+                        self.heard.append(self.shown(asked))
+                        link.sendall(replies.pop(0) if replies else b"")
+        except OSError:
+            pass  # it is closed
+
+    def shown(self, asked):
+        """Who was asked, and method, path and body where the request is as it should be; else all of it."""
+        head, _, body = asked.partition(b"\r\n\r\n")
+        method, path = head.split(b" ")[:2]
+        length = b"" if method == b"GET" else b"Content-Length: %d\r\n" % len(body)
+        host = self.address.encode()
+        whole = b"%s %s HTTP/1.1\r\nHost: %s\r\n%sConnection: close\r\n\r\n%s" % (method, path, host, length, body)
+        if asked != whole:
+            return f"{self.number} {asked!r}"
+        return " ".join([str(self.number), method.decode(), path.decode(), *([body.decode()] if body else [])])
+
+    def close(self):
+        """Ends it."""
+        self.listener.close()
+
+
 class Peer:
     """Who is pulled from: on a free port, it hears one request out, gives the reply that it has, and ends."""
 
@@ -572,4 +663,5 @@ KINDS = {
     "loads": Runs,
     "merge": Merges,
     "pull": Pulls,
+    "exchange": Exchanges,
 }

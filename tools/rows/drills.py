@@ -35,10 +35,10 @@ class Drill(Row):
 class Drills(Commands):
     """Scripts: what `drill` prints, or `refused` and the error line.
 
-    A block begins with `- TITLE`. Below it stand `  sites: N`, perhaps `  schema: TEXT` (else it is `{}`), and in their
-    order the lines of the script behind `  > `, each with a line end, and the lines that are printed behind `  = `. A
-    script whose lines do not all end so stands at `  script: TEXT`. What is refused stands at `  refused: LINE`. A block
-    with `  random: SEED` plays a script made from that number, and comes to what the model says.
+    A block begins with `- TITLE`. It has `  sites: N`, optionally `  schema: TEXT` (default `{}`), the lines of the script
+    after `  > `, each with a line end, and the expected lines after `  = `, in their order. A script with other line ends
+    is at `  script: TEXT`, an expected error line at `  refused: LINE`. A block with `  random: SEED` plays a script made
+    from that number, and expects the output of the model.
     """
 
     @staticmethod
@@ -102,13 +102,13 @@ def block_of(lines):
 
 
 def order(entry):
-    """Entries are ordered by count, then site, then body; nothing is the least body, texts go by their bytes."""
+    """Orders entries by count, then site, then body: no body is least, texts are ordered by bytes."""
     count, site, body = entry
     return count, site.encode(), body is not None, (body or "").encode()
 
 
 def name_order(name):
-    """Policies come before entities; the former by the bytes of the id, the latter by type and id."""
+    """Orders names: policies by the bytes of the id, then entities by type and id."""
     return len(name), [part.encode() for part in name]
 
 
@@ -180,7 +180,7 @@ class Model:
         return compact({"message": len(self.messages) - 1})
 
     def deliver(self, site, message):
-        """Of each name the greater entry stays."""
+        """Keeps the greater entry at each name."""
         store, news = self.stores[site], self.messages[message]
         for name, entry in news.items():
             store[name] = max(store.get(name, entry), entry, key=order)
@@ -215,7 +215,7 @@ def reaches(edges, begins, end):
 
 
 def random_event(chance, model):
-    """Returns a line without its site, and what the model does with it."""
+    """Returns an event without its site, and its effect in the model."""
     kinds = ["put_policy"] * 4 + ["delete_policy"] * 3 + ["put_entity"] * 4 + ["delete_entity"] * 3 + ["authorize"]
     kinds += ["summary"] * 2 + ["offer"] * 3 + ["offer_delta"] * (3 if model.summaries else 0)
     kind = chance.choice(kinds + ["deliver"] * (7 if model.messages else 0))
@@ -254,8 +254,8 @@ def random_entity(chance, model):
 
 
 def random_script(chance, model, events=1000):
-    """Returns so many random events; then each site offers all that it holds, and each takes each of these. Also what the model
-    says of each: None where that is an answer to a request."""
+    """Returns a script of random events, after which each site offers its state and merges all of these; and the model's
+    output for each line, None for an answer to a request."""
     lines, told = [], []
 
     def add(at, line, does):

@@ -72,9 +72,9 @@ PARTS = (
     b"Transfer-Encoding: chunked\r\n", b"HTTP/1.1", b"\x00", b"\x7f", b"\x80", b"\xc3", b"\xe2\x82", b"\xf0\x9f\x98\x80", b"\xff",
     b"\xed\xa0\x80", b'"uid"', b'"version":3', b'"count":0', b'"site":""', b"__entity", b"__extn",
 )  # fmt: skip
-# so many inputs go out together, and the site's state is compared behind them
+# the number of inputs that are sent together, after which the site's state is compared
 TOGETHER = 64
-# so many deletions stand in a message
+# the number of deletions in a message
 DELETED = 1000
 # what a route may refuse for
 POLICY_CODES = {*range(10, 20), *range(40, 47), 62}
@@ -156,14 +156,13 @@ def entity_pair(name):
 class Hostile(Served):
     """Rows of hostile use.
 
-    - `policies SEED COUNT`, `entities ..`, `requests ..`, `states ..`, `summaries ..`: bodies, each of them answered.
-    - `cut_states`: a state that ends at each byte before its last; whether each is refused as no JSON, and nothing
-      of it is taken.
+    - `policies SEED COUNT`, `entities ..`, `requests ..`, `states ..`, `summaries ..`: bodies; each must be answered.
+    - `cut_states`: a state cut at each byte before its last; each must be rejected as not JSON, without an applied update.
     - `streams SEED COUNT`: the bytes of connections, from their first byte on.
-    - `renamed COUNT`, `repeated COUNT`, `entities_renamed COUNT`: so many policies, or entities, are put and taken away,
-      each of another name, or all of one; it comes to whether the site then holds no more than one that took these
-      deletions alone, and 768 kB, whatever the count.
-    - `connections COUNT`: so many connections with one request each; whether the site holds 256 kB more behind them.
+    - `renamed COUNT`, `repeated COUNT`, `entities_renamed COUNT`: COUNT policies, or entities, are put and deleted, each
+      under another name, or all under one; the site must then hold at most 768 kB more than one that merged these
+      deletions alone, whatever the count.
+    - `connections COUNT`: COUNT connections with one request each; whether the site holds 256 kB more afterwards.
     """
 
     def __init__(self, program, room):
@@ -197,7 +196,7 @@ class Hostile(Served):
     # ---- bodies
 
     def bodies(self, word, chance, count):
-        """Hands in bodies, so many together, and compares the state behind them."""
+        """Sends bodies, several together, and compares the state after them."""
         made = {
             "policies": (POLICIES, POLICY_CODES, self.policy),
             "entities": (ENTITIES, ENTITY_CODES, lambda _, body: request("PUT", "/v1/entities", body)),
@@ -240,7 +239,7 @@ class Hostile(Served):
         elif word == "states":
             allowed = set().union(*(stamps_sent(body) for body, _ in taken))
         others = stamps_changed(before, after) - allowed
-        return f"what was not answered 200 stands in the state: {others}" if others else None
+        return f"expected only stamps that were answered by 200 in the state, got also {others}" if others else None
 
     def filled(self):
         """Stores some policies and entities."""
@@ -258,7 +257,7 @@ class Hostile(Served):
         return (self.site.ask("GET", "/v1/summary").body,)
 
     def cut_states(self):
-        """Hands in the beginnings of a state to a site with nothing stored."""
+        """Sends the beginnings of a state to a site with an empty store."""
         self.filled()
         state = self.site.state().body
         self.site.end()
@@ -273,7 +272,7 @@ class Hostile(Served):
     # ---- connections
 
     def streams(self, chance, count):
-        """Opens connections, each with bytes of its own; none may end the site, or leave it waiting."""
+        """Opens connections, each with other bytes; none may end the site, or leave it waiting."""
         for number in range(count):
             data = mutated(chance, HEADS)
             came = self.stream(data)
@@ -297,7 +296,7 @@ class Hostile(Served):
     # ---- memory
 
     def held(self, pair, names, others):
-        """Puts and takes away: what the site holds more, and what deletions of the others alone take, in kB."""
+        """Puts and deletes. Returns the additional memory of the site, and that of deletions alone, in kB."""
         self.put_and_take(pair, ["warm"] * 200)
         before = resident(self.site)
         self.put_and_take(pair, names)
@@ -320,7 +319,7 @@ class Hostile(Served):
 
     @staticmethod
     def take_away(site, label, names):
-        """Has a site take deletions of these names from a message."""
+        """Lets a site merge deletions of these names."""
         entries = [{"body": None, "count": 1, "name": name, "site": "2"} for name in names]
         if not site.ask("POST", "/v1/merge", message("delta", label, entries=entries)).is_given:
             raise ValueError("expected a message of deletions to be merged, got an error")
@@ -349,9 +348,9 @@ class Hostile(Served):
 
 
 class HostileFiles(Commands):
-    """`schemas SEED COUNT`, `files SEED COUNT`: mutated schemas, and mutated files of policies, that `check` is given.
+    """`schemas SEED COUNT`, `files SEED COUNT`: mutated schemas, and mutated files of policies, for `check`.
 
-    Each is read, or refused by one line with a code of its kind and status 1.
+    Each is accepted, or rejected by one line with a code of its kind and status 1.
     """
 
     CODES = {"schemas": set(range(20, 26)), "files": set(range(10, 20))}

@@ -26,7 +26,7 @@ def policy(action, types=None):
 
 
 class Stated:
-    """What the text of a schema states: its actions, and the types of entities that may be asked about with each."""
+    """What the text of a schema states: its actions, each with the entity types of its requests."""
 
     def __init__(self, schema):
         spaces = [(name, space) for name, space in json.loads(schema).items() if isinstance(space, dict)]
@@ -54,10 +54,10 @@ class Stated:
 class Schemas(UnderSchema):
     """Schemas, by `check` and by `merge`.
 
-    - `schema`: the code for which one is refused.
-    - `declared`: of one that is taken the label, how many actions there are, and how many environments. The label is
-      that of the messages which `merge` takes. An action is there where a policy of it is not refused; an environment,
-      where a policy of its action and of its types of principal and resource passes and may apply.
+    - `schema`: the code of a rejected schema.
+    - `declared`: of an accepted schema the label, the number of actions, and that of environments. The label is that of
+      messages which `merge` accepts. An action is counted if a policy that names it is accepted; an environment, if a
+      policy with its action and its types of principal and resource passes and is not impossible.
     """
 
     def of_schema(self, text):

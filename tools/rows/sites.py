@@ -38,7 +38,7 @@ class NotBegun(Exception):
 
 
 class Processes:
-    """The processes that a table has started, with these variables. Once they are ended none is started any more."""
+    """The processes that a table has started, with these variables. After they are ended no other is started."""
 
     def __init__(self, **variables):
         self.lock, self.running, self.is_over = threading.Lock(), set(), False
@@ -147,7 +147,7 @@ class Reply:
 
 
 def refusal_of(line):
-    """Code, place and number within of an error line, as they are told, and the code."""
+    """Returns code, place and inner code of an error line, as a text, and the code."""
     error = json.loads(line)["error"]
     told = ("-" if error[key] is None else str(error[key]) for key in ("code", "place", "within"))
     return " ".join(told), error["code"]
@@ -177,7 +177,7 @@ def connected(port):
 
 
 class Site:
-    """A site that is served, which had nothing stored when it began, and a connection that is kept."""
+    """A served site that started with an empty store, and a kept connection."""
 
     def __init__(self, processes, program, schema, name):
         self.processes = processes
@@ -196,7 +196,7 @@ class Site:
         """Returns the next reply."""
         first = self.incoming.readline().split(b" ")
         if len(first) < 2:
-            raise ConnectionError("the site has ended the connection")
+            raise ConnectionError("expected a reply, got the end of the connection")
         length = 0
         while (line := self.incoming.readline()) not in (b"\r\n", b""):
             name, _, value = line.partition(b":")
@@ -207,7 +207,7 @@ class Site:
     def given(self, requests):
         """Returns how many of these requests, sent together, are answered by 200.
 
-        It is told by the bytes that come, in less time than replies are read one by one.
+        It counts them in the received bytes, which is faster than parsing each reply.
         """
         self.asked([])
         self.link.sendall(b"".join([*requests, NOWHERE]))
@@ -215,7 +215,7 @@ class Site:
         while not came.endswith(NOT_FOUND):
             part = self.incoming.read1(65536)
             if not part:
-                raise ConnectionError("the site has ended the connection")
+                raise ConnectionError("expected a reply, got the end of the connection")
             came += part
         return came.count(b"HTTP/1.1 200 OK\r\n")
 
@@ -244,7 +244,7 @@ class Served(Kind):
         self.schema = f"{room}/schema"
 
     def begin(self, schema, name="1"):
-        """Begins a site of this name under a schema, with nothing stored."""
+        """Starts a site of this name under a schema, with an empty store."""
         with open(self.schema, "wb") as file:
             file.write(schema)
         return Site(self.processes, self.program, self.schema, name)
@@ -258,10 +258,10 @@ class Served(Kind):
 
 
 class Entities(Served):
-    """Entities that are put at a site, one after another; what was put is taken away before the next one.
+    """Entities that are put at a site, one after another; each is deleted before the next one.
 
-    `under` gives the rows below their schema. `entity` comes to the one text of the entity, as it stands in the site's
-    state, or to the number of the refusal. That text is put, too: it stands in the state again.
+    `under` sets the schema of later rows. The outcome of `entity` is the canonical text of the entity, as the site's state
+    has it, or the code of the error. That text is put too, and must be in the state again.
     """
 
     def __init__(self, program, room):
@@ -277,14 +277,14 @@ class Entities(Served):
         return BAD_ROW
 
     def under(self, schema):
-        """Begins a site under this schema."""
+        """Starts a site under this schema."""
         if self.site is not None:
             self.site.end()
         self.site = self.begin(schema)
         return "given"
 
     def put(self, entity):
-        """Puts an entity, and its text behind it."""
+        """Puts an entity, and then its canonical text."""
         reply = self.site.ask("PUT", "/v1/entities", entity)
         if not reply.is_given:
             return reply.refusal().removesuffix(" - -")
@@ -306,7 +306,7 @@ class Entities(Served):
 
 
 class Extensions(Entities):
-    """Decimals and addresses, each put as the attribute of an entity. A row comes to the one text of its value."""
+    """Decimals and addresses, each put as the attribute of an entity. The outcome is the canonical text of its value."""
 
     TYPES = {"decimal": "decimal", "address": "ipaddr"}
     FUNCTIONS = {"decimal": "decimal", "address": "ip"}
@@ -382,12 +382,12 @@ def raised(stamp):
 
 
 class Summaries(Served):
-    """Summaries, as a site under the schema `{}` is asked with them for a delta.
+    """Summaries for which a site under the schema `{}` makes a delta.
 
-    An accepted one comes to the number of its stamps. A site with nothing stored has no news for it. One with a
-    deletion at each of its names, of the very stamp, and at one name more leaves as many out as it has stamps. Once
-    each of these deletions has the next greater stamp none is left out. In a summary of version 1 the number of a site
-    stands for five digits.
+    The outcome of an accepted one is the number of its stamps, if three deltas are right. A site with an empty store has
+    no entry for it. One with deletions of exactly its names and stamps, and of one name more, has one entry. If each of
+    these deletions has the next greater stamp, the delta has them all. In a summary of version 1 the number of a site is
+    read as five digits.
     """
 
     SCHEMA = b"{}"
@@ -410,7 +410,7 @@ class Summaries(Served):
             return reply.refusal()
         nothing = {"entries": [], "kind": "delta", "schema": self.label, "version": 2}
         if reply.text != json.dumps(nothing, separators=(",", ":")):
-            return f"news of nothing: {reply.text}"
+            return f"expected an empty delta of an empty store, got {reply.text}"
         return self.stamps_of(summary)
 
     def stamps_of(self, summary):
@@ -419,17 +419,17 @@ class Summaries(Served):
         stamps = [raised(it) for it in whole["stamps"]] if whole["version"] == 1 else whole["stamps"]
         site = self.begin(self.SCHEMA)
         try:
-            left = self.news(site, stamps, summary)
-            all_of_them = self.news(site, [next_stamp(it) for it in stamps], summary)
+            left = self.delta_of(site, stamps, summary)
+            all_of_them = self.delta_of(site, [next_stamp(it) for it in stamps], summary)
         finally:
             site.end()
         if tombstone(self.OTHER) not in left:
-            return f"no news of a name that the summary does not have: {left}"
+            return f"expected the entry of a name that the summary lacks, got {left}"
         if len(all_of_them) != len(stamps) + 1:
-            return f"not all that is greater is news: {all_of_them}"
+            return f"expected {len(stamps) + 1} entries with greater stamps, got {all_of_them}"
         return f"{len(stamps) + 1 - len(left)} stamps"
 
-    def news(self, site, stamps, summary):
+    def delta_of(self, site, stamps, summary):
         """Returns the delta of a site that merged deletions of these stamps, and of one name more."""
         entries = [tombstone(it) for it in [*stamps, self.OTHER]]
         taken = site.ask("POST", "/v1/merge", message("delta", self.label, entries=entries))
@@ -445,14 +445,14 @@ EFFECT = re.compile(r'(?:\s|//[^\n]*|@\s*\w+\s*(?:\(\s*"(?:[^"\\]|\\.)*"\s*\))?)
 class Messages(Served):
     """Messages between sites.
 
-    - `under`: gives the rows below their schema, and a site with nothing stored; the schema's label is told.
+    - `under`: sets the schema of later rows and starts a site with an empty store; prints the schema's label.
     - `read`: the updates of a state or a delta, in the order of their names, each with its name, its stamp, and the
-      effect of a policy, or the text of an entity. They are what `merge` of the message and an empty state prints; this
-      is the state, too, of another site with nothing stored that takes it.
-    - `take`: how many updates of a state or a delta the site took.
-    - `empty`: a site with nothing stored.
+      effect of a policy, or the text of an entity. `merge` of the message and an empty state prints them, and another
+      site with an empty store that merges the message has the same state.
+    - `take`: how many updates of a state or a delta the site applied.
+    - `empty`: starts a site with an empty store.
     - `state`, `summary`: the site's message, with its length in bytes.
-    - `delta`: what is news to whoever has the summary that the text is.
+    - `delta`: the site's delta for the summary in the text.
     """
 
     def __init__(self, program, room):
@@ -486,14 +486,14 @@ class Messages(Served):
         return self.begin(self.declared)
 
     def under(self, schema):
-        """Gives the rows below their schema."""
+        """Sets the schema of later rows."""
         self.declared = schema
         self.site, self.other = self.another(self.site), self.another(self.other)
         self.label = label_of(self.site)
         return self.label
 
     def take(self, text):
-        """Hands a message to the site."""
+        """Posts a message to the site."""
         reply = self.site.ask("POST", "/v1/merge", text)
         return f"{reply.json['taken']} taken" if reply.is_given else reply.refusal()
 
@@ -625,20 +625,19 @@ def input_of(text):
 class Sites(Served):
     """Sites, each by its name, and inputs to them.
 
-    - `under SCHEMA`: gives the sites that are started below it their schema.
-    - `start NAME`: starts a site of this name with nothing stored, in place of the one that had it; the schema's
-      label is told. Where the command does not begin one, by its words or the schema, it is a bad row.
-    - `NAME INPUT`: what the site of this name answers to the input. Where several inputs stand in a line, ` ¶ `
-      between each two, they are sent together. An input is a word and what it is about: `put_policy ID TEXT`,
+    - `under SCHEMA`: sets the schema of the sites that later rows start.
+    - `start NAME`: starts a site of this name with an empty store, in place of an earlier one; prints the schema's
+      label. If the command starts none, for its arguments or the schema, it is a bad row.
+    - `NAME INPUT`: the reply of the site of this name. Several inputs, separated by ` ¶ `, are sent together. An input is a word and its text: `put_policy ID TEXT`,
       `delete_policy ID`, `put_entity JSON`, `delete_entity TYPE ID`, `take MESSAGE`, `authorize JSON`, `get_policy ID`,
       `state`, `summary`, `delta SUMMARY`.
 
-    The same table is what the program `site_rows` prints. Its other rows, of contexts, worlds, streams, inputs that end
-    early and measures, are left out here.
+    The program `site_rows` prints the same table. Its other rows, of contexts, worlds, streams, inputs that end early and
+    measures, are skipped here.
     """
 
     BETWEEN = " ¶ "
-    OTHERS = ("context", "cuts", "network", "prefixes", "reads", "says", "serve", "standing", "tried", "world", "writes")
+    OTHERS = ("context", "cuts", "logs", "network", "prefixes", "reads", "says", "serve", "standing", "tried", "world", "writes")
 
     @staticmethod
     def rows_of(table):
@@ -683,14 +682,14 @@ ESCAPES = {"r": b"\r", "n": b"\n", "t": b"\t", "f": b"\xff", "k": b"abcdefghijkl
 
 
 def unescaped(text):
-    """Returns the bytes that a text of a stream stands for."""
+    """Returns the bytes of a stream's text."""
     return b"".join(
         ESCAPES.get(it[1], it[1].encode()) if it[0] == "\\" else it.encode() for it in re.findall(r"\\.|[^\\]", text)
     )
 
 
 def shown(came):
-    """Bytes as a line of text."""
+    """Returns bytes as a line of text."""
     return came.decode("latin-1").replace("\r", "\\r").replace("\n", "\\n")
 
 
@@ -726,15 +725,15 @@ def sent(port, *parts):
 
 
 class Streams(Served):
-    """Bytes that a site is sent over one connection, and what goes out.
+    """Bytes that are sent to a site over one connection, and its output.
 
-    - `under TEXT`: gives the rows below their schema.
-    - `site NAME`: gives them a site of this name, with nothing stored.
-    - `serve TEXT`: the bytes that go out for this stream, which the site keeps what is left of.
-    - `cut TEXT`: the same at a site with nothing stored, which is left alone. The same has to go out, and the same
-      state be left, however the text is cut in two, and where it comes byte by byte; else `differs`.
-    - `ended TEXT`: the places at which more goes out where the text ends there, each time at a site with nothing
-      stored; and the places at which the state that is left changes.
+    - `under TEXT`: sets the schema of later rows.
+    - `site NAME`: starts a site of this name for later rows, with an empty store.
+    - `serve TEXT`: the output for this stream; the site keeps the resulting store.
+    - `cut TEXT`: the same at another site with an empty store. Output and resulting state must be the same however the
+      text is cut in two, and if it comes byte by byte; else the outcome is `differs`.
+    - `ended TEXT`: the positions at which a text that ends there has more output than one that ends a byte before, each
+      time at a site with an empty store; and those at which the resulting state changes.
     """
 
     STATE = request("GET", "/v1/state")
@@ -762,14 +761,14 @@ class Streams(Served):
         return BAD_ROW
 
     def leave(self):
-        """Ends the rows' site, and the one that is tried at."""
+        """Ends the rows' site, and the other one."""
         for site in (self.site, self.tried_at):
             if site is not None:
                 site.end()
         self.site = self.tried_at = None
 
     def give(self, name):
-        """Gives the rows below a site."""
+        """Starts a site for later rows."""
         self.leave()
         self.name = name
         try:

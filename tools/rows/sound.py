@@ -42,7 +42,7 @@ def first_block():
 
 
 class Sound(Served):
-    """`stored NAME ..`: a request over all these policies, where these entities are stored and no others.
+    """`stored NAME ..`: a request over all these policies, with exactly these entities stored.
 
     The outcome is the number of policies and `are sound`, or the errors.
     """
@@ -69,7 +69,7 @@ class Sound(Served):
         return " ".join(wrong) if wrong else f"{len(self.policies)} policies are sound"
 
     def place(self, name, stands):
-        """Stores an entity, or takes it away."""
+        """Stores an entity, or deletes it."""
         entity = ENTITIES[name]
         if stands and name not in self.standing:
             self.given(self.site.ask("PUT", "/v1/entities", json.dumps(entity).encode()))
@@ -80,7 +80,7 @@ class Sound(Served):
 
     @staticmethod
     def given(reply):
-        """Raises an error unless a change was made, since otherwise the row is of another store."""
+        """Raises an error unless a change was made: otherwise the row would be about another store."""
         if not reply.is_given:
             raise ValueError(f"expected a stored or deleted entity, got {reply.refusal()}")
 

@@ -2,12 +2,12 @@
 import os
 
 ARROW = "  ->  "
-# where the tables stand, and the files that their texts name
+# the folder of the tables, and of the files that their texts name
 TABLES = os.path.join(os.path.dirname(os.path.dirname(os.path.dirname(os.path.abspath(__file__)))), "rows")
 
 
 class Row:
-    """A row of a table: where it begins, a word, the text behind it, and what it has to come to."""
+    """A row of a table: its line, its word, its text and its expected outcome."""
 
     def __init__(self, line, word, text, expected):
         self.line, self.word, self.text, self.expected = line, word, text, expected
@@ -18,10 +18,9 @@ class Row:
 
 
 class Kind:
-    """What answers the rows of a table, in their order. What a row gives to those below it is kept here.
+    """Answers the rows of a table, in their order, and keeps what a row sets for later ones.
 
-    A kind has `came_to`, and may have an `__init__` and a `close` of its own that call these, or a `rows_of` of its own
-    where its tables are of another form.
+    A kind has `came_to`, and may override `__init__` and `close`, calling these, or `rows_of` for tables of another form.
     """
 
     def __init__(self, program, room):
@@ -33,7 +32,7 @@ class Kind:
         raise NotImplementedError
 
     def close(self):
-        """Ends what was begun for this table."""
+        """Ends what was started for this table."""
 
     @staticmethod
     def rows_of(table):
@@ -55,7 +54,7 @@ def rows_of(table):
 
 
 def numbered(count, part):
-    """Returns a part so many times; in each `#` is its index, and `+` one more."""
+    """Returns a part repeated; in each copy `#` is its index, and `+` its index plus one."""
     return "".join(part.replace("#", str(number)).replace("+", str(number + 1)) for number in range(count))
 
 
@@ -74,7 +73,7 @@ def inside_of(text):
 
 
 def expanded(text):
-    """Returns the bytes that a text stands for.
+    """Returns the bytes of a text.
 
     `⟦3×ab⟧` is `ababab`, `⟦2№a#+⟧` is `a01a12`, `⟦0a ff⟧` two bytes, and `⟦@NAME⟧` what the file rows/NAME holds.
     """

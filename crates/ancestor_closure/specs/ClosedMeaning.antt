@@ -1,4 +1,4 @@
--- A closed hierarchy as the list of its entities, each with its parents.
+-- Defines the abstract view of a hierarchy with a cache: the list of its entities, each with its parents.
 use Rattle.std.specs.Prelude.{◌≡◌, Bool, true, false, cond, List, [], ◌∷◌, map, Vec, Contains, Some, unwrap_or, refl}
 use Rattle.std.proofs.Common.{sym, subst}
 use Rattle.std.specs.declared.alloc.Global.{Global}
@@ -10,18 +10,19 @@ use Rattle.values.specs.Names.{uid_cmp}
 use Rattle.ancestor_search.specs.Decided.{Decides, reaches}
 use Rattle.ancestor_search.specs.Deciding.{decided, same_uid, Contains-here, Contains-there, Contains-none}
 
--- the entries of a map from entities to their parents
+-- `closed_entries es` are the entries of a map from entities to their parents.
 abbrev pub closed_entries : List (EntityUid × Vec EntityUid Global) → List (EntityUid × List EntityUid)
 closed_entries es = map (λ e. (e.0, e.1.items)) es
 
--- the parents of an entity; none where it is not stored
+-- `closed_parents xs uid` are the parents of `uid`; none if it is not stored.
 abbrev pub closed_parents : List (EntityUid × List EntityUid) → EntityUid → List EntityUid
 closed_parents xs uid = unwrap_or (lookup (is_at (uid_cmp uid)) xs) []
 
+-- `closed_stored xs` are the stored entities.
 abbrev pub closed_stored : List (EntityUid × List EntityUid) → List EntityUid
 closed_stored xs = map (λ x. x.0) xs
 
--- whether a path leads from one entity to another
+-- `closed_above xs a b` tests whether a path leads from `b` to `a`.
 abbrev pub closed_above : List (EntityUid × List EntityUid) → EntityUid → EntityUid → Bool
 closed_above xs = reaches (closed_parents xs) (closed_stored xs)
 
@@ -38,6 +39,6 @@ all_stored (x ∷ xs) b a h =
       | false ↦ λ apart m. Contains-there x.0 (closed_stored xs) b (all_stored xs b a m)
     ] refl h
 
--- the test decides
+-- The test decides the ancestor relation.
 pub closed_is_decided : (xs : List (EntityUid × List EntityUid)) → Decides (closed_parents xs) (closed_above xs)
 closed_is_decided xs = decided (closed_parents xs) (closed_stored xs) (λ b a h. all_stored xs b a h)

@@ -2,5 +2,5 @@ pub mod Lists
 pub mod inner
 pub mod ClosedMeaning
 pub mod Kept
--- crates below, passed on to those above
+-- Specifications of lower crates, re-exported.
 pub use Rattle.ancestor_search.specs as ancestor_search

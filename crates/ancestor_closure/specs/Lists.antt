@@ -1,5 +1,5 @@
--- Lists of ancestors: all that is above each entity, the children of each, and who is on a cycle.
--- The transitive closure of a directed graph, kept as lists, and its edges turned round, are the field's terms.
+-- Defines lists of ancestors: the transitive closure of a directed graph as lists, its reversed edges, and its cyclic
+-- entities.
 use Rattle.std.specs.Prelude.{◌≡◌, ◌↔◌, ◌⊎◌, List, [], Contains, Option, Some, None, IsSome, false}
 use Rattle.std.specs.BTreeMap.{BTreeMap, get}
 use Rattle.std.specs.Ordering.{is_eq}
@@ -8,10 +8,11 @@ use Rattle.values.specs.Names.{uid_cmp}
 use Rattle.ancestor_search.specs.Hierarchy.{Parents, IsAllAbove, IsAscending, AreOnCycles}
 use Rattle.ancestor_closure.specs.declared.relatives.Relatives.{Relatives}
 
--- xs are all that is above b, ascending
+-- `IsListOf parents b xs` holds if `xs` are all ancestors of `b`, ascending.
 abbrev pub IsListOf : Parents → EntityUid → List EntityUid → Type 0
 IsListOf parents b xs = IsAllAbove parents b xs × IsAscending xs
 
+-- `ancestors_or_none o` and `children_or_none o` are those of an entry, none if it is missing.
 abbrev pub ancestors_or_none : Option Relatives → List EntityUid
 ancestors_or_none None = []
 ancestors_or_none (Some r) = r.ancestors.items
@@ -20,47 +21,48 @@ abbrev pub children_or_none : Option Relatives → List EntityUid
 children_or_none None = []
 children_or_none (Some r) = r.children.keys
 
--- the ancestors of an entity, and its children, by a map; none where nothing is kept of it
+-- `ancestors_in` and `children_in` are the ancestors and the children of an entity by a map; none if it has no entry.
 abbrev pub ancestors_in : BTreeMap EntityUid Relatives → EntityUid → List EntityUid
 ancestors_in relatives x = ancestors_or_none (get uid_cmp relatives x)
 
 abbrev pub children_in : BTreeMap EntityUid Relatives → EntityUid → List EntityUid
 children_in relatives x = children_or_none (get uid_cmp relatives x)
 
--- each list is what is above its entity; the children are the edges turned round; those on cycles are known
+-- `IsKeptOf parents ancestors children cyclic` holds if these are the ancestors of each entity, its children, and the
+-- cyclic entities.
 pub record IsKeptOf (parents : Parents) (ancestors children : EntityUid → List EntityUid)
     (cyclic : List EntityUid) : Type 0 where
   pub above : (b : EntityUid) → IsListOf parents b (ancestors b)
   pub below : (a b : EntityUid) → Contains (children a) b ↔ Contains (parents b) a
   pub on_cycles : AreOnCycles parents cyclic
 
--- two hierarchies differ in the parents of one entity alone, if at all
+-- `AgreeBut uid before after` holds if two hierarchies differ at most in the parents of `uid`.
 abbrev pub AgreeBut : EntityUid → Parents → Parents → Type 0
 AgreeBut uid before after = (q : EntityUid) → is_eq (uid_cmp uid q) ≡ false → before q ≡ after q
 
--- what is kept was right before the parents of one entity changed
+-- `IsKeptBut uid after ancestors children cyclic` holds if these were right before the parents of `uid` changed.
 pub record IsKeptBut (uid : EntityUid) (after : Parents) (ancestors children : EntityUid → List EntityUid)
     (cyclic : List EntityUid) : Type 0 where
   pub before : Parents
   pub kept : IsKeptOf before ancestors children cyclic
   pub others : AgreeBut uid before after
 
--- the lists of two maps are the same, and so are the children
+-- `SameLists` and `SameChildren` hold if two maps have the same lists, or the same children.
 abbrev pub SameLists : BTreeMap EntityUid Relatives → BTreeMap EntityUid Relatives → Type 0
 SameLists before after = (q : EntityUid) → ancestors_in after q ≡ ancestors_in before q
 
 abbrev pub SameChildren : BTreeMap EntityUid Relatives → BTreeMap EntityUid Relatives → Type 0
 SameChildren before after = (q : EntityUid) → children_in after q ≡ children_in before q
 
--- something is kept of the entity
+-- `IsThere relatives q` holds if `q` has an entry.
 abbrev pub IsThere : BTreeMap EntityUid Relatives → EntityUid → Type 0
 IsThere relatives q = IsSome (get uid_cmp relatives q)
 
--- of each entity something is kept still
+-- `StayThere before after` holds if each entity with an entry still has one.
 abbrev pub StayThere : BTreeMap EntityUid Relatives → BTreeMap EntityUid Relatives → Type 0
 StayThere before after = (q : EntityUid) → IsThere before q → IsThere after q
 
--- a child was added to some of these parents, and nothing else
+-- `AddsChild ps child before after` holds if `child` was added to some of the parents `ps`, and nothing else.
 pub record AddsChild (ps : List EntityUid) (child : EntityUid)
     (before after : EntityUid → List EntityUid) : Type 0 where
   pub kept : (x y : EntityUid) → Contains (before x) y → Contains (after x) y

@@ -1,4 +1,4 @@
-//! All that is kept of a graph, made anew.
+//! The ancestor cache of a whole graph, built from scratch.
 ghost use Rattle.std.specs.Prelude.{◌≡◌, ◌↔◌, ◌⊎◌, [], Contains, IfOk, OnOk};
 ghost use Rattle.values.specs.declared.entity_uid.EntityUid.{EntityUid as PlainUid};
 ghost use Rattle.ancestor_search.specs.Hierarchy.{names};
@@ -55,7 +55,7 @@ fn add_edges<G: ParentsOf>(
     add_to_parents(alloc, relatives, uid, &parents)
 }
 
-// The children by the edges of these entities.
+// Returns the children by the edges of these entities.
 fn children_among<G: ParentsOf>(
     alloc: Global,
     graph: &G,
@@ -92,7 +92,7 @@ fn write_lists<G: ParentsOf>(
     Ok(())
 }
 
-/// Returns the ancestors and children by the edges of these entities, where there is room for them.
+/// Returns the ancestors and children by the edges of these entities, within the budget.
 pub(crate) fn relatives_among<G: ParentsOf>(
     alloc: Global,
     graph: &G,

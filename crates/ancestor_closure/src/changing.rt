@@ -1,10 +1,10 @@
-//! How what is kept follows a change of one entity's parents.
+//! Incremental updates of the ancestor cache when the parents of one entity change.
 //!
-//! The lists that change are those of the entity and of all below it, and no other entity is looked at. First comes all
-//! that memory may be refused for: new lists, the entity among the children of its new parents, those that are on
-//! cycles now. Where it is refused, what was entered is taken out again. Then the lists are written, the entity is
-//! taken from the children of those that are its parents no more, and those that are on no cycle any more are taken
-//! out; this takes no memory.
+//! The lists that change are those of the entity and of its descendants; no other entity is visited. First comes
+//! everything that allocates: the new lists, the entity as a child of its new parents, the entities that become
+//! cyclic. If an allocation fails, these additions are removed again. Then, without allocating, the lists are
+//! written, the entity is removed from the children of its former parents, and the entities that are no longer cyclic
+//! are removed.
 ghost use Rattle.std.specs.Prelude.{◌≡◌, ◌↔◌, ◌⊎◌, [], ◌∷◌, ◌++◌, Contains, IsTrue, IfOk, OnOk, OnErr};
 ghost use Rattle.values.specs.declared.entity_uid.EntityUid.{EntityUid as PlainUid};
 ghost use Rattle.ancestor_search.specs.Hierarchy.{Parents, IsAscending, names};
@@ -32,13 +32,13 @@ pub(crate) struct Change {
     before: Vec<Shared<EntityUid>>,
     /// Its parents after the change, ascending.
     after: Vec<Shared<EntityUid>>,
-    /// The entity and all below it.
+    /// The entity and its descendants.
     entities: Vec<Shared<EntityUid>>,
     /// The new lists of these.
     lists: Vec<(Shared<EntityUid>, Vec<Shared<EntityUid>>)>,
 }
 
-// References to these, ascending, each once.
+// Returns references to these, ascending and without duplicates.
 fn ascending<'a>(alloc: Global, uids: &'a [EntityUid]) -> Result<Vec<&'a EntityUid>, NoMemory>
     ensures all { IfOk result (λ found. (x : PlainUid) → Contains (names found.items) x ↔ Contains uids.now x) }
     ensures ascending { IfOk result (λ found. IsAscending (names found.items)) }
@@ -50,7 +50,7 @@ fn ascending<'a>(alloc: Global, uids: &'a [EntityUid]) -> Result<Vec<&'a EntityU
     listed(alloc, found)
 }
 
-/// Returns the parents of an entity, ascending, each once.
+/// Returns the parents of an entity, ascending and without duplicates. The only error is `NoMemory`.
 pub fn parents_by<'a, G: ParentsOf>(
     alloc: Global,
     graph: &'a G,
@@ -63,7 +63,7 @@ pub fn parents_by<'a, G: ParentsOf>(
     ascending(alloc, graph.parents_of(uid))
 }
 
-// Makes room for what is kept of these entities.
+// Adds empty relatives of these entities where they have none.
 fn reserve_all(
     alloc: Global,
     relatives: &mut BTreeMap<EntityUid, Relatives>,
@@ -80,7 +80,7 @@ fn reserve_all(
     Ok(())
 }
 
-/// Makes room for what is kept of an entity, and of these.
+/// Adds empty relatives of an entity, and of these, where they have none.
 pub fn make_room(
     alloc: Global,
     relatives: &mut BTreeMap<EntityUid, Relatives>,
@@ -115,7 +115,7 @@ fn add_if_parent(
     Ok(())
 }
 
-// Those of the entities that have this child.
+// Returns those of the entities that have this child.
 fn those_with_child(
     alloc: Global,
     relatives: &BTreeMap<EntityUid, Relatives>,
@@ -133,7 +133,7 @@ fn those_with_child(
     Ok(found)
 }
 
-// The parents of an entity as its lists and children have them: those of its ancestors that it is a child of.
+// Returns the parents of an entity by its list and the children: those of its ancestors that have it as a child.
 fn parents_before(
     alloc: Global,
     relatives: &BTreeMap<EntityUid, Relatives>,
@@ -147,7 +147,7 @@ fn parents_before(
     those_with_child(alloc, relatives, ancestors_at(relatives, uid.get()), uid)
 }
 
-// The change to the parents that the graph has.
+// Returns the change to the parents that the graph has.
 fn planned<G: ParentsOf>(
     alloc: Global,
     graph: &G,
@@ -175,7 +175,7 @@ fn planned<G: ParentsOf>(
     })
 }
 
-// Enters the entity among the children of its new parents, and those that are on cycles now.
+// Adds the entity to the children of its new parents, and the entities that become cyclic.
 fn begin(
     relatives: &mut BTreeMap<EntityUid, Relatives>,
     cyclic: &mut BTreeSet<Shared<EntityUid>>,
@@ -196,7 +196,7 @@ fn begin(
     add_to_all(relatives, &change.after, &change.uid)
 }
 
-// Takes out again what was entered.
+// Removes these additions again.
 fn undo(
     relatives: &mut BTreeMap<EntityUid, Relatives>,
     cyclic: &mut BTreeSet<Shared<EntityUid>>,
@@ -213,7 +213,7 @@ fn undo(
     leave_all(cyclic, relatives, &change.entities);
 }
 
-// Writes the new lists, and takes out what no longer holds.
+// Writes the new lists, and removes what no longer holds.
 fn finish(
     relatives: &mut BTreeMap<EntityUid, Relatives>,
     cyclic: &mut BTreeSet<Shared<EntityUid>>,
@@ -240,7 +240,7 @@ fn finish(
     leave_all(cyclic, relatives, &entities);
 }
 
-// Makes the change, where there is room; answers how many lists were written.
+// Makes the change, within the budget; returns how many lists were written.
 fn make<G: ParentsOf>(
     alloc: Global,
     graph: &G,
@@ -276,7 +276,7 @@ fn make<G: ParentsOf>(
     }
 }
 
-// Makes room, and then the change.
+// Adds missing relatives, and then makes the change.
 fn make_with_room<G: ParentsOf>(
     alloc: Global,
     graph: &G,
@@ -300,7 +300,7 @@ fn make_with_room<G: ParentsOf>(
     make(alloc, graph, relatives, cyclic, uid, parents, room)
 }
 
-// Whether an entity with these parents has none, and has no ancestors.
+// Returns whether an entity has no ancestors, and gets no parents.
 fn has_none(
     relatives: &BTreeMap<EntityUid, Relatives>,
     uid: &EntityUid,
@@ -314,7 +314,7 @@ fn has_none(
     false
 }
 
-// Whether an entity has these parents already.
+// Returns whether an entity already has these parents.
 fn has_already(
     alloc: Global,
     relatives: &BTreeMap<EntityUid, Relatives>,
@@ -334,9 +334,13 @@ fn has_already(
     Ok(are_among(&before, parents))
 }
 
-/// Has what is kept follow a change of one entity's parents, by the graph after it, and answers how many lists were
-/// written anew. Where memory is refused, or there is no room for the lists, it is right for each graph that it was
-/// right for.
+/// Updates the cache after a change of one entity's parents, given the changed graph; returns how many lists were
+/// rewritten.
+///
+/// # Errors
+///
+/// - `NoMemory`: an allocation failed, or the budget is exceeded. The cache is then still right for each graph that
+///   it was right for.
 pub fn follow<G: ParentsOf>(
     alloc: Global,
     graph: &G,

@@ -1,4 +1,4 @@
-//! Who is a child of whom: the edges turned round, which lead from an entity down to all that have it above them.
+//! Children: the reversed edges, which lead from an entity to its descendants.
 ghost use Rattle.std.specs.Prelude.{◌≡◌, ◌↔◌, ◌⊎◌, ◌^◌, ◌<◌, [], ◌∷◌, Contains, IfOk, OnOk};
 ghost use Rattle.std.specs.BTreeSet.{btree_set_len};
 ghost use Rattle.values.specs.declared.entity_uid.EntityUid.{EntityUid as PlainUid};
@@ -15,7 +15,7 @@ use std::alloc::Global;
 use std::collections::{BTreeMap, BTreeSet};
 use values::EntityUid;
 
-// Adds those that were not seen before to what is seen, and to the work.
+// Adds those that are not yet seen to the seen entities, and to the work list.
 fn add_members<'a>(
     found: &'a BTreeSet<Shared<EntityUid>>,
     seen: &mut BTreeSet<&'a EntityUid>,
@@ -36,7 +36,7 @@ fn add_members<'a>(
     Ok(())
 }
 
-// The same of the children of an entity.
+// The same for the children of an entity.
 fn add_children<'a>(
     relatives: &'a BTreeMap<EntityUid, Relatives>,
     uid: &EntityUid,
@@ -56,7 +56,7 @@ fn add_children<'a>(
     }
 }
 
-// All that the children lead to.
+// Returns everything that is reachable through children.
 fn below<'a>(
     alloc: Global,
     relatives: &'a BTreeMap<EntityUid, Relatives>,
@@ -73,7 +73,7 @@ fn below<'a>(
     Ok(seen)
 }
 
-/// Returns an entity and all below it.
+/// Returns an entity and its descendants.
 pub(crate) fn entity_and_below<'a>(
     alloc: Global,
     relatives: &'a BTreeMap<EntityUid, Relatives>,
@@ -88,7 +88,7 @@ pub(crate) fn entity_and_below<'a>(
     shared_all(alloc, relatives, &found)
 }
 
-// Adds a child to those of a parent.
+// Adds a child to a parent.
 fn add_child(
     relatives: &mut BTreeMap<EntityUid, Relatives>,
     parent: &EntityUid,
@@ -109,7 +109,7 @@ fn add_child(
     }
 }
 
-/// Adds a child to those of each of its parents.
+/// Adds a child to each of its parents.
 pub fn add_to_all(
     relatives: &mut BTreeMap<EntityUid, Relatives>,
     parents: &[Shared<EntityUid>],
@@ -128,7 +128,7 @@ pub fn add_to_all(
     Ok(())
 }
 
-// Takes a child from those of an entity.
+// Removes a child from a parent.
 fn take_child(
     relatives: &mut BTreeMap<EntityUid, Relatives>,
     parent: &EntityUid,
@@ -145,7 +145,7 @@ fn take_child(
     }
 }
 
-// The same, unless the entity is one of these; what is then left without relatives is let go.
+// The same, unless the parent is one of these; relatives that are then empty are dropped.
 fn take_child_unless(
     relatives: &mut BTreeMap<EntityUid, Relatives>,
     parents: &[Shared<EntityUid>],
@@ -164,7 +164,7 @@ fn take_child_unless(
     release(relatives, parent);
 }
 
-/// Takes a child from those of each of the entities `before` that is none of `parents`.
+/// Removes a child from each entity of `before` that is not one of `parents`.
 pub(crate) fn take_from_all(
     relatives: &mut BTreeMap<EntityUid, Relatives>,
     before: &[Shared<EntityUid>],

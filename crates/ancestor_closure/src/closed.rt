@@ -1,4 +1,4 @@
-//! A hierarchy that keeps the ancestors of each entity at hand.
+//! A hierarchy with an ancestor cache.
 ghost use Rattle.std.specs.Prelude.{◌≡◌, ◌↔◌, [], IsTrue, IsOk, IfOk, OnOk, OnErr, IsSome, MatchOption};
 ghost use Rattle.std.specs.BTreeMap.{get};
 ghost use Rattle.values.specs.Names.{uid_cmp};
@@ -18,11 +18,11 @@ use std::collections::BTreeMap;
 use std::marker::Model;
 use values::EntityUid;
 
-/// The parents of each stored entity, and what is kept of these edges. Contracts see the parents.
+/// A hierarchy: the parents of each stored entity, and an ancestor cache. Contracts see the parents.
 ///
-/// It is meant for changes one by one: each change writes anew the lists of all below its entity, so that to fill it
+/// It is meant for single changes: each change rewrites the lists of all descendants of its entity, so filling it
 /// from the top downwards costs one search for each entity, and from the bottom upwards one for each descendant of
-/// each. A whole graph is closed at once by [`AncestorCache::of_graph`].
+/// each. [`AncestorCache::of_graph`] builds the cache of a whole graph at once.
 #[derive(Drop)]
 pub struct Closed {
     alloc: Global,
@@ -44,7 +44,7 @@ impl Model for Closed {
     ghost invariant = { λ c. IsCacheOf (parents_of c.edges) c.kept };
 }
 
-// Makes room for the parents of an entity.
+// Adds an empty entry for the parents of an entity, if it has none.
 fn reserve_edges(
     alloc: Global,
     edges: &mut BTreeMap<EntityUid, Vec<EntityUid>>,
@@ -59,14 +59,14 @@ fn reserve_edges(
     Ok(())
 }
 
-// Whether an entity has no parents.
+// Returns whether an entity has no parents.
 fn has_no_parents(edges: &BTreeMap<EntityUid, Vec<EntityUid>>, uid: &EntityUid) -> bool
     ensures { IsTrue result → parents_of edges.now uid.now ≡ [] }
 {
     edges.parents_of(uid).is_empty()
 }
 
-// Lets go of the entry of an entity that has no parents.
+// Removes the entry of an entity without parents.
 fn release_edges(edges: &mut BTreeMap<EntityUid, Vec<EntityUid>>, uid: &EntityUid)
     ensures { parents_of edges.new ≡ parents_of edges.old }
 {
@@ -76,7 +76,7 @@ fn release_edges(edges: &mut BTreeMap<EntityUid, Vec<EntityUid>>, uid: &EntityUi
     edges.remove(uid);
 }
 
-// Writes the parents of an entity. This takes no memory.
+// Writes the parents of an entity. Does not allocate.
 fn write_edges(
     edges: &mut BTreeMap<EntityUid, Vec<EntityUid>>,
     uid: &EntityUid,
@@ -93,7 +93,7 @@ fn write_edges(
     }
 }
 
-// Has what is kept follow a change that the edges do not have yet.
+// Updates the cache for a change that the edges do not have yet.
 fn follow_change(
     edges: &BTreeMap<EntityUid, Vec<EntityUid>>,
     kept: &mut AncestorCache,
@@ -113,7 +113,7 @@ fn follow_change(
     kept.follow(&changed, uid, &mut room)
 }
 
-// Gives an entity these parents.
+// Replaces the parents of an entity.
 fn set(
     alloc: Global,
     edges: &mut BTreeMap<EntityUid, Vec<EntityUid>>,
@@ -140,7 +140,7 @@ fn set(
     }
 }
 
-// Takes an entity away.
+// Removes an entity.
 fn unset(
     edges: &mut BTreeMap<EntityUid, Vec<EntityUid>>,
     kept: &mut AncestorCache,
@@ -157,7 +157,7 @@ fn unset(
 }
 
 impl Closed {
-    /// Returns a hierarchy with no entity.
+    /// Creates an empty hierarchy.
     pub fn new(alloc: Global) -> Self
         ensures { ⟦<Closed as Ancestry>⟧.parents result ≡ no_parents }
     {
@@ -168,9 +168,8 @@ impl Closed {
         }
     }
 
-    /// Returns how many lists of ancestors the last change wrote anew: that of the entity itself, also where it was
-    /// taken away, and those of all below it; none where it has the parents that it had. A change that was refused
-    /// leaves the number as it was.
+    /// Returns how many lists of ancestors the last change rewrote: that of the entity itself, removed or not, and
+    /// those of its descendants; 0 if its parents stayed the same. A failed change leaves the number unchanged.
     pub fn touched(&self) -> usize {
         self.kept.touched()
     }

@@ -1,4 +1,4 @@
-//! Who is on a cycle: those that are in their own lists.
+//! The cyclic entities: those in their own lists of ancestors.
 ghost use Rattle.std.specs.Prelude.{◌≡◌, ◌↔◌, [], ◌∷◌, Contains, IsTrue, IfOk, OnOk};
 ghost use Rattle.values.specs.declared.entity_uid.EntityUid.{EntityUid as PlainUid};
 ghost use Rattle.ancestor_search.specs.Hierarchy.{IsAscending, names};
@@ -12,7 +12,7 @@ use std::alloc::Global;
 use std::collections::{BTreeMap, BTreeSet};
 use values::EntityUid;
 
-// Enters an entity that is in its own list.
+// Adds an entity that is in its own list.
 fn enter(
     cyclic: &mut BTreeSet<Shared<EntityUid>>,
     entity: &(Shared<EntityUid>, Vec<Shared<EntityUid>>),
@@ -27,7 +27,7 @@ fn enter(
     Ok(())
 }
 
-/// Enters those that are in their own ones of these lists.
+/// Adds those that are in their own lists.
 pub(crate) fn enter_all(
     cyclic: &mut BTreeSet<Shared<EntityUid>>,
     lists: &[(Shared<EntityUid>, Vec<Shared<EntityUid>>)],
@@ -42,7 +42,7 @@ pub(crate) fn enter_all(
     Ok(())
 }
 
-// Takes an entity out that is not in its own list.
+// Removes an entity that is not in its own list.
 fn leave(
     cyclic: &mut BTreeSet<Shared<EntityUid>>,
     relatives: &BTreeMap<EntityUid, Relatives>,
@@ -57,7 +57,7 @@ fn leave(
     cyclic.remove(entity);
 }
 
-/// Takes those of the entities out that are not in their own lists.
+/// Removes those of the entities that are not in their own lists.
 pub(crate) fn leave_all(
     cyclic: &mut BTreeSet<Shared<EntityUid>>,
     relatives: &BTreeMap<EntityUid, Relatives>,
@@ -71,14 +71,14 @@ pub(crate) fn leave_all(
     }
 }
 
-/// Returns whether none is in the set; takes no memory.
+/// Returns whether the set is empty. Does not allocate.
 pub fn are_none(uids: &BTreeSet<Shared<EntityUid>>) -> bool
     ensures { IsTrue result ↔ (uids.now.keys ≡ []) }
 {
     uids.is_empty()
 }
 
-/// References to the members of a set, ascending.
+/// Returns references to the members of a set, ascending.
 pub fn members<'a>(
     alloc: Global,
     uids: &'a BTreeSet<Shared<EntityUid>>,

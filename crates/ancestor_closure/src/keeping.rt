@@ -1,4 +1,4 @@
-//! Ancestors kept at hand for whoever keeps the edges.
+//! The ancestor cache of a hierarchy whose edges are elsewhere.
 ghost use Rattle.std.specs.Prelude.{◌≡◌, ◌↔◌, ◌⊎◌, IsTrue, IsOk, IfOk, OnOk, OnErr, MatchOption};
 ghost use Rattle.ancestor_search.specs.Hierarchy.{Parents, IsAncestor, IsAllAbove, IsAscending, AreOnCycles, names};
 ghost use Rattle.ancestor_search.specs.Hierarchy.{no_parents, with_parents};
@@ -19,11 +19,12 @@ use std::alloc::Global;
 use std::collections::{BTreeMap, BTreeSet};
 use values::EntityUid;
 
-/// The ancestors of each entity of a hierarchy, its children, and who is on a cycle.
+/// An ancestor cache: the ancestors of each entity of a hierarchy (its transitive closure), its children, and the
+/// cyclic entities.
 ///
-/// The edges are the owner's: they are lent where a change is followed. What is kept is right for a hierarchy where
-/// `IsCacheOf` says so, and each answer is then of that hierarchy. A kept ancestor takes 8 bytes, or up to 16 while its
-/// list has room to grow; its uid stands twice, however many lists it is in.
+/// The caller has the edges, and passes them when the cache is updated. The cache is right for a hierarchy if
+/// `IsCacheOf` says so, and its answers are then those of that hierarchy. A cached ancestor takes 8 bytes, or up to
+/// 16 while its list has spare capacity; its uid is stored twice, however many lists contain it.
 #[derive(Drop)]
 pub struct AncestorCache {
     alloc: Global,
@@ -32,7 +33,7 @@ pub struct AncestorCache {
     touched: usize,
 }
 
-// Whether a parent is the entity, or has it as an ancestor.
+// Returns whether a parent is the entity, or a descendant of it.
 fn leads_to(relatives: &BTreeMap<EntityUid, Relatives>, uid: &EntityUid, parent: &EntityUid) -> bool
     ensures { (before : Parents) → ((b : PlainUid) → IsListOf before b (ancestors_in relatives.now b)) →
         (IsTrue result ↔ ((parent.now ≡ uid.now) ⊎ IsAncestor before uid.now parent.now)) }
@@ -43,7 +44,7 @@ fn leads_to(relatives: &BTreeMap<EntityUid, Relatives>, uid: &EntityUid, parent:
     is_in(ancestors_at(relatives, parent), uid)
 }
 
-// Whether one of the parents is the entity, or has it as an ancestor.
+// Returns whether one of the parents is the entity, or a descendant of it.
 fn leads_back(
     relatives: &BTreeMap<EntityUid, Relatives>,
     uid: &EntityUid,
@@ -61,7 +62,7 @@ fn leads_back(
 }
 
 impl AncestorCache {
-    /// Of a hierarchy with no entity.
+    /// Creates the cache of an empty hierarchy.
     pub fn new(alloc: Global) -> Self
         ensures { IsCacheOf no_parents result }
     {
@@ -73,7 +74,11 @@ impl AncestorCache {
         }
     }
 
-    /// Of a whole graph, made anew: one search for each stored entity. Errors: `NoMemory`, also where there is no room.
+    /// Creates the cache of a whole graph, by one search for each stored entity.
+    ///
+    /// # Errors
+    ///
+    /// - `NoMemory`: an allocation failed, or the budget is exceeded.
     pub fn of_graph<G: Graph>(
         alloc: Global,
         graph: &G,
@@ -93,9 +98,13 @@ impl AncestorCache {
         })
     }
 
-    /// Follows a change of one entity's parents, by the graph after it. Only that entity and those below it are looked
-    /// at. Where memory is refused, or there is no room, what is kept is right for the graph before the change, as it
-    /// was.
+    /// Updates the cache incrementally after a change of one entity's parents, given the changed graph. Visits only
+    /// that entity and its descendants.
+    ///
+    /// # Errors
+    ///
+    /// - `NoMemory`: an allocation failed, or the budget is exceeded. The cache is then still right for the graph
+    ///   before the change.
     pub fn follow<G: ParentsOf>(
         &mut self,
         graph: &G,
@@ -117,14 +126,14 @@ impl AncestorCache {
         Ok(())
     }
 
-    /// Returns whether `a` is above `b`; two look-ups, and no memory.
+    /// Returns whether `a` is an ancestor of `b`. Two look-ups. Does not allocate.
     pub fn has_ancestor(&self, a: &EntityUid, b: &EntityUid) -> bool
         ensures { (parents : Parents) → IsCacheOf parents self.now → (IsTrue result ↔ IsAncestor parents a.now b.now) }
     {
         is_in(ancestors_at(&self.relatives, b), a)
     }
 
-    /// All entities above one, stored or not, ascending.
+    /// Returns the ancestors of `uid`, stored or not, in ascending order. The only error is `NoMemory`.
     pub fn ancestors(&self, uid: &EntityUid) -> Result<Vec<&EntityUid>, NoMemory>
         ensures all { IfOk result (λ found.
             (parents : Parents) → IsCacheOf parents self.now → IsAllAbove parents uid.now (names found.items)) }
@@ -134,7 +143,8 @@ impl AncestorCache {
         lent(self.alloc, ancestors_at(&self.relatives, uid))
     }
 
-    /// All entities on cycles, ascending: known, and not looked for. Where there are none, it takes no memory.
+    /// Returns all cyclic entities, in ascending order, without a search. If there are none, it does not allocate and
+    /// cannot fail.
     pub fn cyclic(&self) -> Result<Vec<&EntityUid>, NoMemory>
         ensures all { IfOk result (λ found.
             (parents : Parents) → IsCacheOf parents self.now → AreOnCycles parents (names found.items)) }
@@ -147,8 +157,8 @@ impl AncestorCache {
         members(self.alloc, &self.cyclic)
     }
 
-    /// Returns the least, compared item by item, of the shortest cycles through the least entity that is on a cycle, as
-    /// [`ancestor_search::least_cycle`] gives it. Where there is none, there is no search, and it takes no memory.
+    /// Returns the least cycle, as [`ancestor_search::least_cycle`] does, or `None` if there is no cycle. Without a
+    /// cycle it does not search or allocate, and cannot fail.
     pub fn least_cycle<'a, G: Graph>(
         &'a self,
         graph: &'a G,
@@ -165,7 +175,8 @@ impl AncestorCache {
         least_cycle_among(self.alloc, graph, &cyclic)
     }
 
-    /// Returns whether the entity would be above itself if it had these parents: two look-ups for each, and no memory.
+    /// Returns whether the entity would be its own ancestor with these parents. Two look-ups for each parent. Does
+    /// not allocate.
     pub fn would_cycle(&self, uid: &EntityUid, parents: &[EntityUid]) -> bool
         ensures { (before : Parents) → IsCacheOf before self.now →
             (IsTrue result ↔ IsAncestor (with_parents before uid.now parents.now) uid.now uid.now) }
@@ -173,8 +184,8 @@ impl AncestorCache {
         leads_back(&self.relatives, uid, parents)
     }
 
-    /// Returns how many lists the last change that was followed wrote anew: that of the entity itself, and those of all
-    /// below it; none where it has the parents that it had. A change that was refused leaves the number as it was.
+    /// Returns how many lists the last update rewrote: that of the entity itself, and those of its descendants; 0 if
+    /// its parents stayed the same. A failed update leaves the number unchanged.
     pub fn touched(&self) -> usize {
         self.touched
     }

@@ -1,5 +1,5 @@
-//! Ancestors kept at hand: of each entity of a hierarchy the list of all above it, its children, and who is on a cycle;
-//! and how these follow a change of one entity's parents.
+//! An ancestor cache of a hierarchy: for each entity the list of its ancestors and its children, and the cyclic
+//! entities; updated incrementally when the parents of one entity change.
 #![tactic(auto)]
 
 mod anew;

@@ -1,4 +1,4 @@
-//! Lists of ancestors, made anew by a graph.
+//! Lists of ancestors, computed from a graph.
 ghost use Rattle.std.specs.Prelude.{◌≡◌, ◌↔◌, Contains, IsTrue, IfOk, Vec as PlainVec};
 ghost use Rattle.std.specs.declared.alloc.Global.{Global as PlainGlobal};
 ghost use Rattle.values.specs.declared.entity_uid.EntityUid.{EntityUid as PlainUid};
@@ -16,21 +16,21 @@ use std::cmp::Ordering;
 use std::collections::BTreeMap;
 use values::EntityUid;
 
-// How an entity of a list compares with another.
+// Compares an entity of a list with another.
 fn compare(known: &Shared<EntityUid>, uid: &EntityUid) -> Ordering
     ensures { result ≡ uid_cmp known.now uid.now }
 {
     known.get().cmp(uid)
 }
 
-/// Returns whether an ascending list has the entity; takes logarithmic time.
+/// Returns whether an ascending list contains the entity. O(log n).
 pub fn is_in(list: &[Shared<EntityUid>], uid: &EntityUid) -> bool
     ensures { IsAscending list.now → IsTrue result ↔ Contains list.now uid.now }
 {
     list.binary_search_by(|known| compare(known, uid)).is_ok()
 }
 
-/// Returns whether the entities are all in an ascending list.
+/// Returns whether an ascending list contains all of these entities.
 pub(crate) fn are_in(uids: &[&EntityUid], list: &[Shared<EntityUid>]) -> bool
     requires { IsAscending list.now }
     ensures { IsTrue result ↔ ((x : PlainUid) → Contains (names uids.now) x → Contains list.now x) }
@@ -43,7 +43,7 @@ pub(crate) fn are_in(uids: &[&EntityUid], list: &[Shared<EntityUid>]) -> bool
     true
 }
 
-/// Returns whether all of a list are among these, which ascend.
+/// Returns whether all entities of a list are among these, which ascend.
 pub(crate) fn are_among(list: &[Shared<EntityUid>], uids: &[&EntityUid]) -> bool
     requires { IsAscending (names uids.now) }
     ensures { IsTrue result ↔ ((x : PlainUid) → Contains list.now x → Contains (names uids.now) x) }
@@ -56,7 +56,7 @@ pub(crate) fn are_among(list: &[Shared<EntityUid>], uids: &[&EntityUid]) -> bool
     true
 }
 
-/// References to what is shared.
+/// Returns references to shared uids.
 pub fn lent<'a>(
     alloc: Global,
     uids: &'a [Shared<EntityUid>],
@@ -70,7 +70,7 @@ pub fn lent<'a>(
     Ok(all)
 }
 
-/// These uids, each shared with what is kept of the entity.
+/// Returns these uids, each shared with the cache's entry of the entity.
 pub fn shared_all(
     alloc: Global,
     relatives: &BTreeMap<EntityUid, Relatives>,
@@ -85,7 +85,7 @@ pub fn shared_all(
     Ok(all)
 }
 
-// The ancestors of an entity, by a search.
+// Returns the ancestors of an entity, by a search.
 fn list_of<G: ParentsOf>(
     alloc: Global,
     graph: &G,
@@ -98,8 +98,7 @@ fn list_of<G: ParentsOf>(
     shared_all(alloc, relatives, &found)
 }
 
-/// Returns the ancestors of an entity, by a search, where there is room for them in the place of those that are kept of
-/// it.
+/// Returns the ancestors of an entity, by a search, if the budget allows them in place of the entity's cached list.
 pub fn list_within<G: ParentsOf>(
     alloc: Global,
     graph: &G,
@@ -148,7 +147,7 @@ pub(crate) fn lists_of<G: ParentsOf>(
     Ok(lists)
 }
 
-/// Puts new lists in the place of the old ones. This takes no memory.
+/// Replaces the old lists by new ones. Does not allocate.
 pub(crate) fn write_all(
     relatives: &mut BTreeMap<EntityUid, Relatives>,
     mut lists: Vec<(Shared<EntityUid>, Vec<Shared<EntityUid>>)>,

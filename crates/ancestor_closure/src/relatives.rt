@@ -1,7 +1,7 @@
-//! What is kept of each entity: the list of its ancestors, and its children.
+//! The cache's entry of each entity: the list of its ancestors, and its children.
 //!
-//! Something is kept of each entity that has a parent, and of each that is one. Its uid stands twice: as the key, and
-//! shared among all lists and sets that it is in.
+//! There is an entry for each entity that has a parent, and for each that is one. Its uid is stored twice: as the
+//! key, and shared among all lists and sets that contain it.
 ghost use Rattle.std.specs.Prelude.{◌≡◌, ◌↔◌, [], false, Contains, IsTrue, IfOk, OnOk, cond};
 ghost use Rattle.values.specs.declared.entity_uid.EntityUid.{EntityUid as PlainUid};
 ghost use Rattle.ancestor_search.specs.Decided.{is_same};
@@ -12,16 +12,16 @@ use std::alloc::Global;
 use std::collections::{BTreeMap, BTreeSet};
 use values::EntityUid;
 
-/// What is kept of an entity.
+/// The cache's entry of an entity.
 #[derive(Drop)]
 pub struct Relatives {
     pub(crate) uid: Shared<EntityUid>,
-    /// All above it, ascending.
+    /// All its ancestors, ascending.
     pub(crate) ancestors: Vec<Shared<EntityUid>>,
     pub(crate) children: BTreeSet<Shared<EntityUid>>,
 }
 
-/// Returns the ancestors of an entity.
+/// Returns the cached ancestors of an entity.
 pub fn ancestors_at<'a>(
     relatives: &'a BTreeMap<EntityUid, Relatives>,
     uid: &EntityUid,
@@ -34,7 +34,7 @@ pub fn ancestors_at<'a>(
     }
 }
 
-/// Returns whether the one is a child of the other.
+/// Returns whether `child` is a child of `parent`.
 pub(crate) fn is_child(
     relatives: &BTreeMap<EntityUid, Relatives>,
     parent: &EntityUid,
@@ -48,7 +48,7 @@ pub(crate) fn is_child(
     }
 }
 
-/// Returns the uid, shared with what is kept of the entity, if anything is.
+/// Returns the uid, shared with the cache's entry of the entity, if there is one.
 pub fn shared(
     alloc: Global,
     relatives: &BTreeMap<EntityUid, Relatives>,
@@ -64,7 +64,7 @@ pub fn shared(
     Shared::new(alloc, uid.copy()?)
 }
 
-// What is kept of an entity with no ancestors and no children.
+// An entry without ancestors and children.
 fn without_relatives(alloc: Global, uid: &EntityUid) -> Result<Relatives, NoMemory>
     ensures ancestors { IfOk result (λ r. r.ancestors.items ≡ []) }
     ensures children { IfOk result (λ r. r.children.keys ≡ []) }
@@ -77,7 +77,7 @@ fn without_relatives(alloc: Global, uid: &EntityUid) -> Result<Relatives, NoMemo
     })
 }
 
-/// Makes room for what is kept of an entity.
+/// Adds an empty entry of an entity, if it has none.
 pub(crate) fn reserve(
     alloc: Global,
     relatives: &mut BTreeMap<EntityUid, Relatives>,
@@ -95,7 +95,7 @@ pub(crate) fn reserve(
     Ok(())
 }
 
-// Whether an entity has ancestors or children.
+// Returns whether an entity has ancestors or children.
 fn has_relatives(relatives: &BTreeMap<EntityUid, Relatives>, uid: &EntityUid) -> bool
     ensures ancestors { result ≡ false → ancestors_in relatives.now uid.now ≡ [] }
     ensures children { result ≡ false → children_in relatives.now uid.now ≡ [] }
@@ -106,7 +106,7 @@ fn has_relatives(relatives: &BTreeMap<EntityUid, Relatives>, uid: &EntityUid) ->
     }
 }
 
-/// Lets go of what is kept of an entity that has neither ancestors nor children.
+/// Removes the entry of an entity that has neither ancestors nor children.
 pub(crate) fn release(relatives: &mut BTreeMap<EntityUid, Relatives>, uid: &EntityUid)
     ensures lists { SameLists relatives.old relatives.new }
     ensures children { SameChildren relatives.old relatives.new }
@@ -117,7 +117,7 @@ pub(crate) fn release(relatives: &mut BTreeMap<EntityUid, Relatives>, uid: &Enti
     relatives.remove(uid);
 }
 
-/// Lets go of what is kept of those of the entities that have neither ancestors nor children.
+/// Removes the entries of those of the entities that have neither ancestors nor children.
 pub(crate) fn release_all(relatives: &mut BTreeMap<EntityUid, Relatives>, uids: &[&EntityUid])
     ensures lists { SameLists relatives.old relatives.new }
     ensures children { SameChildren relatives.old relatives.new }

@@ -1,11 +1,12 @@
-//! How many ancestors may be kept.
+//! A budget for the ancestor cache.
 
 use plain::NoMemory;
 
-/// How many ancestors are kept in all lists together, how many may be, and how many were written.
+/// A budget: how many ancestors all lists together have, how many they may have, and how many were written.
 ///
-/// It is a measure: no contract speaks of it, and no answer depends on it. What it refuses is as a refusal of memory.
-/// Whoever keeps lists and is refused a change of them has to let them go, since what was counted up to then stays.
+/// It is a measure: no contract speaks of it, and no answer depends on it. An exceeded budget is reported as a failed
+/// allocation. A caller whose change of lists is rejected must drop the lists, since what was counted up to then
+/// stays.
 #[derive(Clone, Copy)]
 pub struct CacheBudget {
     most: usize,
@@ -15,7 +16,7 @@ pub struct CacheBudget {
 }
 
 impl CacheBudget {
-    /// Returns the room for so many, where none is kept yet.
+    /// Creates a budget of `most` ancestors, with none counted.
     pub fn new(most: usize) -> CacheBudget {
         CacheBudget {
             most,
@@ -25,13 +26,17 @@ impl CacheBudget {
         }
     }
 
-    /// From here on there may be so many, and what is written is counted from nothing.
+    /// Sets the budget to `most`, and restarts the count of what is written.
     pub fn begin(&mut self, most: usize) {
         self.most = most;
         self.written = 0;
     }
 
-    /// A list of `after` comes in the place of one of `before`. Errors: `NoMemory` where there would be too many.
+    /// Counts a list of `after` that replaces one of `before`.
+    ///
+    /// # Errors
+    ///
+    /// - `NoMemory`: the budget would be exceeded.
     pub fn write(&mut self, before: usize, after: usize) -> Result<(), NoMemory> {
         let kept = self.kept.saturating_sub(before).saturating_add(after);
         if kept > self.most {
@@ -43,22 +48,22 @@ impl CacheBudget {
         Ok(())
     }
 
-    /// A list of so many was looked at, which counts as if it was written.
+    /// Counts a visited list of so many, as if it were written.
     pub fn look(&mut self, list: usize) {
         self.written = self.written.saturating_add(list);
     }
 
-    /// Returns how many are kept.
+    /// Returns how many ancestors the lists have.
     pub fn kept(&self) -> usize {
         self.kept
     }
 
-    /// Returns how many were written or looked at since the beginning, and one more for each list that was written.
+    /// Returns how many were written or visited since the beginning, plus one for each list that was written.
     pub fn written(&self) -> usize {
         self.written
     }
 
-    /// Returns whether a list was refused, because there would have been too many.
+    /// Returns whether a list was rejected because the budget would have been exceeded.
     pub fn is_short(&self) -> bool {
         self.is_short
     }

@@ -1,4 +1,4 @@
--- Whether a path leads from one entity to another, as a test that computes.
+-- Defines whether a path leads from one entity to another, as a test that computes.
 use Rattle.std.specs.Prelude.{Bool, false, ◌&&◌, ◌||◌, List, [], ◌∷◌, Contains, IsTrue, ◌↔◌}
 use Rattle.std.specs.List.{list_any}
 use Rattle.std.specs.Ordering.{is_eq}
@@ -6,27 +6,28 @@ use Rattle.values.specs.declared.entity_uid.EntityUid.{EntityUid}
 use Rattle.values.specs.Names.{uid_cmp}
 use Rattle.ancestor_search.specs.Hierarchy.{Parents, IsAncestor}
 
--- a test decides who is above whom
+-- `Decides parents above` holds if the test `above` decides the ancestor relation.
 abbrev pub Decides : Parents → (EntityUid → EntityUid → Bool) → Type 0
 Decides parents above = (a b : EntityUid) → IsTrue (above a b) ↔ IsAncestor parents a b
 
--- all entities that have a parent are among these
+-- `HaveAllParents parents stored` holds if all entities with a parent are among `stored`.
 abbrev pub HaveAllParents : Parents → List EntityUid → Type 0
 HaveAllParents parents stored = (b a : EntityUid) → Contains (parents b) a → Contains stored b
 
+-- `is_same a b` tests whether two uids are equal.
 abbrev pub is_same : EntityUid → EntityUid → Bool
 is_same a b = is_eq (uid_cmp a b)
 
--- whether a path leads from b to a whose edges all begin at one of these entities: where they are u and us, it needs no
--- edge of u, or it comes to u, takes an edge of u, and goes on to a. This is Warshall's method: S. Warshall, "A theorem
--- on Boolean matrices", Journal of the ACM 9 (1962).
+-- `reaches parents us a b` tests whether a path leads from `b` to `a` whose edges all begin at entities of the list.
+-- For `u` and `us`, either it needs no edge of `u`, or it reaches `u`, takes an edge of `u`, and goes on to `a`. This
+-- is Warshall's method: S. Warshall, "A theorem on Boolean matrices", Journal of the ACM 9 (1962).
 unfoldable pub reaches : Parents → List EntityUid → EntityUid → EntityUid → Bool
 reaches parents [] a b = false
 reaches parents (u ∷ us) a b =
     reaches parents us a b
     || ((is_same u b || reaches parents us u b) && list_any (λ p. is_same p a || reaches parents us a p) (parents u))
 
--- where finitely many entities have parents, that test decides who is above whom
+-- `PathsAreDecided`: if finitely many entities have parents, that test decides the ancestor relation.
 abbrev pub PathsAreDecided : Type 0
 PathsAreDecided = (parents : Parents) (stored : List EntityUid) →
     HaveAllParents parents stored → Decides parents (reaches parents stored)

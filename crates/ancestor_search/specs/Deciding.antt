@@ -1,4 +1,4 @@
--- The test for a path decides: a law of Decided.
+-- Defines the proof that the test for a path decides: a theorem of Decided.
 use Rattle.std.proofs.Common.{◌≡◌, Bool, true, false, List, [], ◌∷◌, refl, ap, sym, subst, inl, inr}
 use Rattle.std.proofs.Common.{◌||◌, Option, Some, None}
 use Rattle.std.specs.Prelude.{Contains, IsTrue, ◌&&◌, ◌⊎◌, Vec, IsSome}
@@ -18,7 +18,7 @@ use Rattle.ancestor_search.specs.Decided.{Decides, HaveAllParents, is_same, reac
 pub same_uid : (x y : EntityUid) → is_eq (uid_cmp x y) ≡ true → x ≡ y
 same_uid x y h = tells_apart uid_cmp-IsAntisymmetric x y h
 
--- an entity with a parent is stored
+-- An entity with a parent is stored.
 pub parent_is_stored : (edges : BTreeMap EntityUid (Vec EntityUid Global)) (b a : EntityUid) →
     Contains (parents_of edges b) a → Contains (keys edges) b
 parent_is_stored edges b a h =
@@ -71,7 +71,7 @@ any_at test (y ∷ ys) h = elim (or_cases (test y) _ h) [
 ]
 
 module _ (parents : Parents) where
-  -- paths follow one another
+  -- paths compose
   joined : (b : EntityUid) (cs : List EntityUid) (u a : EntityUid) →
       Path parents b cs u → IsAncestor parents a u → IsAncestor parents a b
   joined b [] u a h above = (u ∷ above.0, (h, above.1))
@@ -99,7 +99,7 @@ module _ (parents : Parents) where
         ]
   ]
 
-  -- an edge that begins at one of the entities is found, and one more edge before what is found
+  -- an edge that begins at one of the entities is found, and one more edge before a found path
   more : (us : List EntityUid) (b c : EntityUid) → Contains us b → Contains (parents b) c → (a : EntityUid) →
       (c ≡ a) ⊎ IsTrue (reaches parents us a c) → IsTrue (reaches parents us a b)
   unfolding reaches
@@ -142,11 +142,11 @@ module _ (parents : Parents) where
 pub paths_are_decided : PathsAreDecided
 paths_are_decided parents stored all = decided parents stored all
 
--- the keys of a map are all entities with parents
+-- The keys of a map include all entities with parents.
 pub map_has_all : (edges : BTreeMap EntityUid (Vec EntityUid Global)) → HaveAllParents (parents_of edges) (keys edges)
 map_has_all edges = λ b a h. parent_is_stored edges b a h
 
--- the edges of a map
+-- The edges of a map are decided.
 pub edges_are_decided : (edges : BTreeMap EntityUid (Vec EntityUid Global)) →
     Decides (parents_of edges) (reaches (parents_of edges) (keys edges))
 edges_are_decided edges = decided (parents_of edges) (keys edges) (map_has_all edges)

@@ -1,4 +1,5 @@
--- How the edges are kept, and one step of a search. A rule of this product.
+-- Defines the representation of the edges, and one step of a search.
+-- Rules of this product: both.
 use Rattle.std.specs.Prelude.{◌≡◌, ◌+◌, List, [], length, Option, Some, None, Vec, Contains, ◌⊎◌}
 use Rattle.std.specs.declared.alloc.Global.{Global}
 use Rattle.std.specs.BTreeMap.{BTreeMap, get}
@@ -6,15 +7,17 @@ use Rattle.values.specs.declared.entity_uid.EntityUid.{EntityUid}
 use Rattle.values.specs.Names.{uid_cmp}
 use Rattle.ancestor_search.specs.Hierarchy.{Parents}
 
+-- `items_or_none o` are the items of a list, none if it is missing.
 abbrev pub items_or_none : Option (Vec EntityUid Global) → List EntityUid
 items_or_none None = []
 items_or_none (Some v) = v.items
 
--- the edges that a map from entities to their parents stands for
+-- `parents_of edges` are the edges that a map from entities to their parents represents.
 abbrev pub parents_of : BTreeMap EntityUid (Vec EntityUid Global) → Parents
 parents_of edges uid = items_or_none (get uid_cmp edges uid)
 
--- the parents ps were added to what is seen, and to the work where they were not seen before
+-- `Adds ps seen work seen' work'` holds if the parents `ps` were added to the seen entities, and those not seen
+-- before to the work list.
 pub record Adds (ps seen work seen' work' : List EntityUid) : Type 0 where
   pub kept : (x : EntityUid) → Contains seen x → Contains seen' x
   pub all : (x : EntityUid) → Contains ps x → Contains seen' x

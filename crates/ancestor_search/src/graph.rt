@@ -1,4 +1,4 @@
-//! Entities and their parents, as whoever keeps them lends them to a search.
+//! Graphs of entities and their parents, as a search reads them.
 ghost use Rattle.std.specs.Prelude.{◌≡◌, List, IfOk};
 ghost use Rattle.std.specs.BTreeMap.{keys};
 ghost use Rattle.values.specs.declared.entity_uid.EntityUid.{EntityUid};
@@ -12,27 +12,27 @@ use std::alloc::Global;
 use std::collections::BTreeMap;
 use values::EntityUid;
 
-/// The parents of each entity, all that a search upwards asks.
+/// The parents of each entity, which is all that a search upwards needs.
 pub trait ParentsOf {
     /// The parents of each entity; one that is not stored has none.
     ghost parents: { Self → Parents };
 
-    /// Lends the parents of an entity; an empty slice where it is not stored.
+    /// Returns the parents of an entity; an empty slice if it is not stored.
     fn parents_of(&self, uid: &EntityUid) -> &[EntityUid]
         ensures { result.now ≡ parents self.now uid.now };
 }
 
-/// A store of entities: each entity with parents is stored, and the stored ones can be listed.
+/// A graph whose entities can be listed: each entity with parents is stored.
 pub trait Graph: ParentsOf {
     /// The stored entities.
     ghost stored: { Self → List EntityUid };
 
-    /// Lists the stored entities, ascending.
+    /// Returns the stored entities, ascending.
     fn stored_uids(&self, alloc: Global) -> Result<Vec<&EntityUid>, NoMemory>
         ensures all { IfOk result (λ uids. names uids.items ≡ stored self.now) }
         ensures ascending { IfOk result (λ uids. IsAscending (names uids.items)) };
 
-    /// Each entity that has parents is stored.
+    /// Each entity with parents is stored.
     ghost has_all: { (s : Self) → HaveAllParents (Self.parents s) (stored s) };
 }
 
@@ -61,7 +61,7 @@ impl Graph for BTreeMap<EntityUid, Vec<EntityUid>> {
     }
 }
 
-/// A graph in which one entity has other parents: what a change would make of it, with nothing changed.
+/// A graph in which one entity has other parents: the effect of a change, without making it.
 #[derive(Clone, Copy)]
 pub struct Changed<'a, G> {
     /// The graph before the change.

@@ -1,4 +1,4 @@
-//! What can be asked of a hierarchy of entities, and how it is changed.
+//! Queries of a hierarchy of entities, and its changes.
 ghost use Rattle.std.specs.Prelude.{◌≡◌, ◌↔◌, [], Bool, IsTrue, IfOk, OnOk, OnErr, MatchOption};
 ghost use Rattle.values.specs.declared.entity_uid.EntityUid.{EntityUid};
 ghost use Rattle.ancestor_search.specs.Hierarchy.{Parents, IsAncestor, IsAllAbove, IsAscending, AreOnCycles, names};
@@ -9,53 +9,54 @@ ghost use Rattle.ancestor_search.specs.LeastCycle.{HasNoCycle, IsLeastCycle};
 use plain::NoMemory;
 use values::EntityUid;
 
-/// Who is above whom. An edge leads from an entity to each of its parents, stored or not; an entity is above another
-/// where a path of one or more edges leads to it from there.
+/// The ancestor relation of a hierarchy. An edge leads from an entity to each of its parents, stored or not; an
+/// entity's ancestors are the entities to which a path of one or more edges leads from it.
 pub trait Ancestry {
     /// The parents of each entity; one that is not stored has none.
     ghost parents: { Self → Parents };
 
-    /// Whether one entity is above another, as a test that computes.
+    /// Whether one entity is an ancestor of another, as a test that computes.
     ghost above: { Self → EntityUid → EntityUid → Bool };
 
-    /// Returns whether `a` is above `b`. An entity is above itself exactly where it is on a cycle.
+    /// Returns whether `a` is an ancestor of `b`. An entity is its own ancestor if and only if it is cyclic.
     fn is_ancestor(&self, a: &EntityUid, b: &EntityUid) -> Result<bool, NoMemory>
         ensures { IfOk result (λ yes. IsTrue yes ↔ IsAncestor (parents self.now) a.now b.now) };
 
-    /// All entities above one, stored or not, ascending.
+    /// Returns the ancestors of `uid`, stored or not, in ascending order.
     fn ancestors(&self, uid: &EntityUid) -> Result<Vec<&EntityUid>, NoMemory>
         ensures all { IfOk result (λ found. IsAllAbove (parents self.now) uid.now (names found.items)) }
         ensures ascending { IfOk result (λ found. IsAscending (names found.items)) };
 
-    /// All entities on cycles, which are those above themselves, ascending.
+    /// Returns all cyclic entities, which are their own ancestors, in ascending order.
     fn cyclic(&self) -> Result<Vec<&EntityUid>, NoMemory>
         ensures all { IfOk result (λ found. AreOnCycles (parents self.now) (names found.items)) }
         ensures ascending { IfOk result (λ found. IsAscending (names found.items)) };
 
-    /// Returns the least, compared item by item, of the shortest cycles through the least entity that is on a cycle. It
-    /// begins with that entity; an edge leads from each entity to the next, and from the last to the first. None where
-    /// there is no cycle.
+    /// Returns the least cycle, or `None` if there is no cycle.
+    ///
+    /// It begins with the least cyclic entity, is a shortest cycle through that entity, and the least of these,
+    /// compared item by item. An edge leads from each entity to the next, and from the last to the first.
     fn least_cycle(&self) -> Result<Option<Vec<&EntityUid>>, NoMemory>
         ensures { IfOk result (λ o. MatchOption o (HasNoCycle (parents self.now))
             (λ found. IsLeastCycle (parents self.now) (names found.items))) };
 
-    /// The test decides whether a path leads from the one to the other.
+    /// The test decides the ancestor relation.
     ghost above_is: { (s : Self) → Decides (parents s) (above s) };
 }
 
 /// A hierarchy that can be changed.
 pub trait Hierarchy: Ancestry {
-    /// Gives an entity these parents in place of those that it had. Where memory is refused nothing changes.
+    /// Replaces the parents of an entity. If an allocation fails, nothing changes.
     fn set_parents(&mut self, uid: EntityUid, parents: Vec<EntityUid>) -> Result<(), NoMemory>
         ensures ok { OnOk result (Self.parents self.new ≡ with_parents (Self.parents self.old) uid parents.items) }
         ensures err { OnErr result (Self.parents self.new ≡ Self.parents self.old) };
 
-    /// Takes an entity away, with the edges from it; edges to it stay. Where memory is refused nothing changes.
+    /// Removes an entity and the edges from it; edges to it stay. If an allocation fails, nothing changes.
     fn remove(&mut self, uid: &EntityUid) -> Result<(), NoMemory>
         ensures ok { OnOk result (Self.parents self.new ≡ with_parents (Self.parents self.old) uid.now []) }
         ensures err { OnErr result (Self.parents self.new ≡ Self.parents self.old) };
 
-    /// Returns whether the entity would be above itself if it had these parents.
+    /// Returns whether the entity would be its own ancestor with these parents.
     fn would_cycle(&self, uid: &EntityUid, parents: &[EntityUid]) -> Result<bool, NoMemory>
         ensures { let changed = with_parents (Self.parents self.now) uid.now parents.now in
             IfOk result (λ yes. IsTrue yes ↔ IsAncestor changed uid.now uid.now) };

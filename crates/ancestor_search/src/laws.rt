@@ -1,19 +1,20 @@
-//! Laws about the definitions; the functions do nothing.
+//! Theorems about the definitions. The functions are no-ops.
 ghost use Rattle.ancestor_search.specs.Decided.{PathsAreDecided};
 ghost use Rattle.ancestor_search.specs.Hierarchy.{AscendingListsAreOne};
 ghost use Rattle.ancestor_search.specs.LeastCycle.{CyclesHaveALeast, LeastCyclesAreOne};
 
-/// Where finitely many entities have parents, a test decides who lies above whom.
+/// Proves that the ancestor relation is decidable if finitely many entities have parents. No-op.
 pub fn paths_are_decided()
     ensures { PathsAreDecided }
 {}
 
-/// Two ascending lists of the same entities are one list: so each answer of [`crate::Ancestry`] is the only one.
+/// Proves that two ascending lists of the same entities are equal: so each result of [`crate::Ancestry`] is the only
+/// one. No-op.
 pub fn ascending_lists_are_one()
     ensures { AscendingListsAreOne }
 {}
 
-/// A hierarchy has at most one least cycle, and has one where an entity is on a cycle.
+/// Proves that a hierarchy has at most one least cycle, and has one if some entity is cyclic. No-op.
 pub fn cycles_have_one_least()
     ensures one { LeastCyclesAreOne }
     ensures there { CyclesHaveALeast }

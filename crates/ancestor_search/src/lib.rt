@@ -1,4 +1,4 @@
-//! Who is above whom in a hierarchy of entities, by search, who is on a cycle, and which cycle is named.
+//! Ancestors in a hierarchy of entities, by search; its cyclic entities, and its least cycle.
 #![tactic(auto)]
 
 mod graph;

@@ -1,4 +1,4 @@
-//! Lists of entities that ascend.
+//! Ascending lists of entities.
 ghost use Rattle.std.specs.Prelude.{◌≡◌, ◌↔◌, IsTrue, IfOk, MatchOption, Contains};
 ghost use Rattle.ancestor_search.specs.Hierarchy.{IsAscending, names};
 ghost use Rattle.ancestor_search.specs.inner.Numbering.{IsNumber, IsNoNumber};
@@ -20,7 +20,7 @@ pub fn listed<'a>(
     found.into_iter().collect(alloc)
 }
 
-/// Returns the number of an entity, which is its place, where it is in the list.
+/// Returns the number of an entity, its index in the list, if it is there.
 pub(crate) fn number_of(uids: &[&EntityUid], uid: &EntityUid) -> Option<usize>
     requires { IsAscending (names uids.now) }
     ensures { MatchOption result (IsNoNumber (names uids.now) uid.now) (λ i. IsNumber (names uids.now) i uid.now) }
@@ -31,8 +31,8 @@ pub(crate) fn number_of(uids: &[&EntityUid], uid: &EntityUid) -> Option<usize>
     }
 }
 
-/// Returns whether an entity is in an ascending list, as [`crate::ancestors_of`] gives one; takes logarithmic time, and
-/// no memory.
+/// Returns whether an entity is in an ascending list, as [`crate::ancestors_of`] returns. O(log n). Does not
+/// allocate.
 pub fn is_among(uids: &[&EntityUid], uid: &EntityUid) -> bool
     requires { IsAscending (names uids.now) }
     ensures { IsTrue result ↔ Contains (names uids.now) uid.now }

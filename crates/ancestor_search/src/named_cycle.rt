@@ -1,8 +1,8 @@
-//! The least, compared item by item, of the shortest cycles through the least entity that is on a cycle.
+//! The least cycle: a shortest one through the least cyclic entity, and the least of these, compared item by item.
 //!
-//! A breadth-first search goes backwards, from that entity to its children, to theirs and so on, until it comes back:
-//! then of each entity on a shortest cycle it is known how many edges lead on to the end. From the beginning the walk
-//! goes each time to the least parent that is one edge nearer. Each edge is looked at three times at most.
+//! A breadth-first search goes backwards from that entity to its children, to theirs and so on, until it comes back:
+//! then the distance to the end is known for each entity on a shortest cycle. From the beginning the walk then goes
+//! each time to the least parent that is one edge nearer. Each edge is visited at most three times.
 ghost use Rattle.std.specs.Prelude.{◌≡◌, ◌+◌, ◌<◌, ◌^◌, ◌↔◌, ◌++◌, [], ◌∷◌, IsTrue, Some, MatchOption, IfOk, OnOk};
 ghost use Rattle.std.specs.Prelude.{Contains, cond};
 ghost use Rattle.std.specs.BTreeMap.{btree_map_len};
@@ -23,13 +23,13 @@ use std::alloc::Global;
 use std::collections::BTreeMap;
 use values::EntityUid;
 
-// Of each entity those that it is a parent of.
+// The children of each entity.
 type Children<'a> = BTreeMap<&'a EntityUid, Vec<&'a EntityUid>>;
 
-// How many edges lead from an entity to the end.
+// The distance from an entity to the end, in edges.
 type Distances<'a> = BTreeMap<&'a EntityUid, usize>;
 
-// Takes what is known of a parent.
+// Removes the children of a parent from the map.
 fn take<'a>(alloc: Global, children: &mut Children<'a>, parent: &'a EntityUid) -> Vec<&'a EntityUid>
     ensures was { names result.items ≡ children_of children.old parent.now }
     ensures out { (x : PlainUid) → children_of children.new x ≡
@@ -41,7 +41,7 @@ fn take<'a>(alloc: Global, children: &mut Children<'a>, parent: &'a EntityUid) -
     }
 }
 
-// Adds a child to what is known of a parent.
+// Adds a child to a parent.
 fn add_to<'a>(
     alloc: Global,
     children: &mut Children<'a>,
@@ -58,7 +58,7 @@ fn add_to<'a>(
     Ok(())
 }
 
-// Adds a child to what is known of each of these parents.
+// Adds a child to each of these parents.
 fn add_child<'a>(
     alloc: Global,
     children: &mut Children<'a>,
@@ -73,7 +73,7 @@ fn add_child<'a>(
     Ok(())
 }
 
-// The edges from these entities, turned round.
+// Returns the edges from these entities, reversed.
 fn children_among<'a, G: ParentsOf>(
     alloc: Global,
     graph: &'a G,
@@ -88,7 +88,7 @@ fn children_among<'a, G: ParentsOf>(
     Ok(children)
 }
 
-// All edges, turned round.
+// Returns all edges, reversed.
 fn children_in<'a, G: Graph>(alloc: Global, graph: &'a G) -> Result<Children<'a>, NoMemory>
     ensures { IfOk result (λ children. AreChildren (G.parents graph.now) (children_of children)) }
 {
@@ -97,7 +97,7 @@ fn children_in<'a, G: Graph>(alloc: Global, graph: &'a G) -> Result<Children<'a>
     Ok(children)
 }
 
-// Those of these that were not reached are `far` edges from the end, and belong to the level.
+// Those of these that were not reached are at distance `far`, and join the level.
 fn reach<'a>(
     uids: &[&'a EntityUid],
     far: usize,
@@ -116,7 +116,7 @@ fn reach<'a>(
     Ok(())
 }
 
-// The same of what is known of an entity's children.
+// The same for the children of an entity.
 fn reach_children<'a>(
     children: &Children<'a>,
     uid: &'a EntityUid,
@@ -134,7 +134,7 @@ fn reach_children<'a>(
     }
 }
 
-// The children of a level that were not reached, which are `far` edges from the end.
+// Returns the children of a level that were not reached, which are at distance `far`.
 fn next_level<'a>(
     alloc: Global,
     children: &Children<'a>,
@@ -155,7 +155,7 @@ fn next_level<'a>(
     Ok(next)
 }
 
-// The distances from each entity to the end, as far as they are needed to come back to it.
+// Returns the distance from each entity to the end, as far as needed to come back to it.
 fn distances<'a, G: Graph>(
     alloc: Global,
     graph: &'a G,
@@ -179,7 +179,7 @@ fn distances<'a, G: Graph>(
     Ok(Some(reached))
 }
 
-// Whether the entity is known to be `far` edges from the end.
+// Returns whether the entity is known to be at distance `far`.
 fn is_at<'a>(distances: &Distances<'a>, uid: &'a EntityUid, far: usize) -> bool
     ensures { IsTrue result ↔ (dist_of distances.now uid.now ≡ Some far) }
 {
@@ -189,7 +189,7 @@ fn is_at<'a>(distances: &Distances<'a>, uid: &'a EntityUid, far: usize) -> bool
     }
 }
 
-// Whether the entity is less than the other, if there is another.
+// Returns whether the entity is less than the other, if there is another.
 fn is_below(uid: &EntityUid, other: Option<&EntityUid>) -> bool
     ensures { MatchOption other.entry (IsTrue result) (λ y. result ≡ is_lt (uid_cmp uid.now y.now)) }
 {
@@ -199,7 +199,7 @@ fn is_below(uid: &EntityUid, other: Option<&EntityUid>) -> bool
     }
 }
 
-// The least of the parents that are `far` edges from the end.
+// Returns the least of the parents at distance `far`.
 fn least_at<'a>(
     parents: &'a [EntityUid],
     distances: &Distances<'a>,
@@ -216,7 +216,7 @@ fn least_at<'a>(
     least
 }
 
-// The least, compared item by item, of the shortest walks from an entity on a cycle back to it.
+// Returns the least, compared item by item, of the shortest walks from a cyclic entity back to it.
 fn walk<'a, G: ParentsOf>(
     alloc: Global,
     graph: &'a G,
@@ -241,8 +241,7 @@ fn walk<'a, G: ParentsOf>(
     Ok(found)
 }
 
-/// Returns what [`least_cycle`] gives, where `cyclic` are all entities on cycles, ascending: for those who know them.
-/// None, at once, where there are none.
+/// Like [`least_cycle`], given all cyclic entities in ascending order. Returns `None` at once if there are none.
 pub fn least_cycle_among<'a, G: Graph>(
     alloc: Global,
     graph: &'a G,
@@ -267,9 +266,11 @@ pub fn least_cycle_among<'a, G: Graph>(
     Ok(Some(found))
 }
 
-/// Returns the least, compared item by item, of the shortest cycles through the least entity that is on a cycle. It
-/// begins with that entity; an edge leads from each entity to the next, and from the last to the first. Entities count
-/// as less by type, and then by id. None where there is no cycle, and then at the cost of [`on_cycles`].
+/// Returns the least cycle, or `None` if there is no cycle.
+///
+/// It begins with the least cyclic entity, is a shortest cycle through that entity, and the least of these, compared
+/// item by item. An edge leads from each entity to the next, and from the last to the first. Entities are ordered by
+/// type, and then by id. Without a cycle it costs as much as [`on_cycles`]. The only error is `NoMemory`.
 pub fn least_cycle<'a, G: Graph>(
     alloc: Global,
     graph: &'a G,

@@ -1,4 +1,4 @@
-//! Entities by number: an entity's number is its place in an ascending list.
+//! Entities by number: an entity's number is its index in an ascending list.
 ghost use Rattle.std.specs.Prelude.{◌≡◌, IfOk, false, length, slice_index_or};
 ghost use Rattle.ancestor_search.specs.Hierarchy.{AreOnCycles, IsAscending, names};
 ghost use Rattle.ancestor_search.specs.inner.Numbering.{NumbersAmong, AreNumbered, MarkedBefore};
@@ -11,7 +11,7 @@ use std::alloc::Global;
 use std::collections::BTreeSet;
 use values::EntityUid;
 
-// The numbers of those parents that are in the list.
+// Returns the numbers of those parents that are in the list.
 fn numbers_of<'a>(
     alloc: Global,
     uids: &[&'a EntityUid],
@@ -29,7 +29,7 @@ fn numbers_of<'a>(
     Ok(numbers)
 }
 
-// Of each entity the numbers of its parents.
+// Returns the numbers of the parents of each entity.
 fn numbered<'a, G: ParentsOf>(
     alloc: Global,
     graph: &'a G,
@@ -47,7 +47,7 @@ fn numbered<'a, G: ParentsOf>(
     Ok(edges)
 }
 
-// Whether a number is marked; none is past the end.
+// Returns whether a number is marked; `false` past the end.
 fn is_marked(marks: &[bool], number: usize) -> bool
     ensures { result ≡ slice_index_or marks.now number false }
 {
@@ -58,7 +58,7 @@ fn is_marked(marks: &[bool], number: usize) -> bool
     }
 }
 
-// Those of the list that are marked.
+// Returns the marked entities of the list.
 fn marked<'a>(
     alloc: Global,
     uids: &[&'a EntityUid],
@@ -77,7 +77,7 @@ fn marked<'a>(
     Ok(found)
 }
 
-// All entities on cycles.
+// Returns all cyclic entities.
 fn found_by_number<'a, G: Graph>(
     alloc: Global,
     graph: &'a G,
@@ -91,8 +91,8 @@ fn found_by_number<'a, G: Graph>(
     Ok(found)
 }
 
-/// Returns all entities on cycles, ascending; `NoMemory` where an allocation was refused. Each entity is numbered once,
-/// and each edge is looked at twice, as a number.
+/// Returns all cyclic entities, in ascending order. Each entity is numbered once, and each edge is visited twice, as
+/// a number. The only error is `NoMemory`.
 pub fn on_cycles<'a, G: Graph>(alloc: Global, graph: &'a G) -> Result<Vec<&'a EntityUid>, NoMemory>
     ensures all { IfOk result (λ found. AreOnCycles (G.parents graph.now) (names found.items)) }
     ensures ascending { IfOk result (λ found. IsAscending (names found.items)) }

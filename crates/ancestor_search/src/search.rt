@@ -1,4 +1,4 @@
-//! The search for what lies above an entity, in any graph.
+//! The search for the ancestors of an entity, in any graph.
 ghost use Rattle.std.specs.Prelude.{◌^◌, ◌<◌, Contains, IsTrue, ◌↔◌, IfOk, OnOk};
 ghost use Rattle.std.specs.BTreeSet.{btree_set_len};
 ghost use Rattle.ancestor_search.specs.Hierarchy.{IsAncestor, IsAllAbove, IsAscending, names, with_parents};
@@ -11,14 +11,14 @@ use std::alloc::Global;
 use std::collections::BTreeSet;
 use values::EntityUid;
 
-// Whether the list has an entity.
+// Returns whether the list contains an entity.
 fn has(entities: &[EntityUid], uid: &EntityUid) -> bool
     ensures { IsTrue result ↔ Contains entities.now uid.now }
 {
     entities.contains(uid)
 }
 
-// Adds those that were not seen before to what is seen, and to the work.
+// Adds those that are not yet seen to the seen entities, and to the work list.
 fn add_parents<'a>(
     parents: &'a [EntityUid],
     seen: &mut BTreeSet<&'a EntityUid>,
@@ -37,7 +37,7 @@ fn add_parents<'a>(
     Ok(())
 }
 
-// All that lies above an entity.
+// Returns all ancestors of an entity.
 fn above<'a, G: ParentsOf>(
     alloc: Global,
     graph: &'a G,
@@ -54,8 +54,7 @@ fn above<'a, G: ParentsOf>(
     Ok(seen)
 }
 
-/// Returns whether `a` lies above `b`. The search ends at the first path found.
-/// `NoMemory` where an allocation was refused.
+/// Returns whether `a` is an ancestor of `b`. The search ends at the first path found. The only error is `NoMemory`.
 pub fn is_ancestor<'a, G: ParentsOf>(
     alloc: Global,
     graph: &'a G,
@@ -81,7 +80,7 @@ pub fn is_ancestor<'a, G: ParentsOf>(
     Ok(seen.contains(&a))
 }
 
-/// Returns all that lies above an entity, stored or not, ascending; `NoMemory` where an allocation was refused.
+/// Returns the ancestors of `uid`, stored or not, in ascending order. The only error is `NoMemory`.
 pub fn ancestors_of<'a, G: ParentsOf>(
     alloc: Global,
     graph: &'a G,
@@ -93,8 +92,7 @@ pub fn ancestors_of<'a, G: ParentsOf>(
     listed(alloc, above(alloc, graph, uid)?)
 }
 
-/// Returns whether the entity would be above itself if it had these parents; `NoMemory` where an allocation was
-/// refused.
+/// Returns whether the entity would be its own ancestor with these parents. The only error is `NoMemory`.
 pub fn would_cycle<G: ParentsOf>(
     alloc: Global,
     graph: &G,

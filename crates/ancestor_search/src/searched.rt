@@ -1,4 +1,4 @@
-//! A hierarchy that is searched at each question.
+//! A hierarchy that is searched at each query.
 ghost use Rattle.std.specs.Prelude.{◌≡◌};
 ghost use Rattle.std.specs.BTreeMap.{keys};
 ghost use Rattle.ancestor_search.specs.Hierarchy.{no_parents};
@@ -16,7 +16,7 @@ use std::alloc::Global;
 use std::collections::BTreeMap;
 use values::EntityUid;
 
-/// The parents of each stored entity, and nothing else.
+/// A hierarchy: the parents of each stored entity, without a cache.
 #[derive(Drop)]
 pub struct Searched {
     alloc: Global,
@@ -24,7 +24,7 @@ pub struct Searched {
 }
 
 impl Searched {
-    /// Returns a hierarchy with no entity.
+    /// Creates an empty hierarchy.
     pub fn new(alloc: Global) -> Self
         ensures { ⟦<Searched as Ancestry>⟧.parents result ≡ no_parents }
     {

@@ -1,11 +1,10 @@
-//! Which numbers are on cycles, where each number has edges to others (strongly connected components, without
-//! recursion).
+//! Which numbers are cyclic, in a graph of numbers (strongly connected components, without recursion).
 //!
-//! The search goes along one path of edges. Numbers that were found to lead to one another stand in one group; the
-//! groups of the path stand one behind the other in one list of members and one list of edges not looked at yet,
-//! and a row of bounds says where each group begins. An edge back to an earlier group makes one group of it and
-//! all later ones: their bounds are dropped, nothing is moved. A last group with no edge left to look at is done.
-//! (Gabow, "Path-based depth-first search for strong and biconnected components", 2000.)
+//! The search follows one path of edges. Numbers that were found to reach one another are in one group; the groups of
+//! the path are consecutive in one list of members and in one list of edges not yet visited, and a list of bounds
+//! says where each group begins. An edge back to an earlier group merges it and all later ones: their bounds are
+//! dropped, and nothing is moved. A last group without edges to visit is done. (Gabow, "Path-based depth-first search
+//! for strong and biconnected components", 2000.)
 ghost use Rattle.std.specs.Prelude.{◌≡◌, ◌+◌, ◌<◌, ◌≤◌, [], ◌∷◌, ◌++◌, true, length, IsTrue, ◌↔◌, ◌⊎◌, IfOk, OnOk};
 ghost use Rattle.std.specs.Prelude.{MatchOption, slice_set};
 ghost use Rattle.ancestor_search.specs.inner.Walking.{bound_at, edges_of, mark_of, MarksCycles, JoinsDownTo, IsSeen};
@@ -15,15 +14,15 @@ ghost use Rattle.ancestor_search.specs.inner.UnderWay.{IsUnderWay, IsWaiting, ef
 use plain::NoMemory;
 use std::alloc::Global;
 
-// Where a group begins among the members and among the edges not looked at.
+// Where a group begins among the members and among the edges not yet visited.
 #[derive(Clone, Copy, Drop)]
 struct Bound {
     members: usize,
     pending: usize,
 }
 
-// A search under way. Of each number: 0 where it was not seen, its place among the members, counted from 1, or
-// the greatest number where it is done.
+// A search in progress. The mark of a number is 0 if it was not seen, its index among the members, counted from 1, or
+// the greatest number if it is done.
 #[derive(Drop)]
 struct Walk {
     place: Vec<usize>,
@@ -33,7 +32,7 @@ struct Walk {
     bounds: Vec<Bound>,
 }
 
-// The edges from a number; none past the end.
+// Returns the edges from a number; none past the end.
 fn edges_at(edges: &[Vec<usize>], number: usize) -> &[usize]
     ensures { result.now ≡ edges_of edges.now number }
 {
@@ -44,7 +43,7 @@ fn edges_at(edges: &[Vec<usize>], number: usize) -> &[usize]
     }
 }
 
-// What is noted of a number; past the end it is done.
+// Returns the mark of a number; past the end it is done.
 fn noted(place: &[usize], number: usize) -> usize
     ensures { result ≡ mark_of place.now number }
 {
@@ -55,7 +54,7 @@ fn noted(place: &[usize], number: usize) -> usize
     }
 }
 
-// Notes this of a number; nothing past the end.
+// Sets the mark of a number; no-op past the end.
 fn note(place: &mut Vec<usize>, number: usize, mark: usize)
     ensures { place.new.items ≡ slice_set place.old.items number mark }
 {
@@ -64,7 +63,7 @@ fn note(place: &mut Vec<usize>, number: usize, mark: usize)
     }
 }
 
-// Marks a number as found; nothing past the end.
+// Marks a number as found; no-op past the end.
 fn tick(found: &mut Vec<bool>, number: usize)
     ensures { found.new.items ≡ slice_set found.old.items number true }
 {
@@ -106,7 +105,7 @@ fn enter(edges: &[Vec<usize>], walk: &mut Walk, number: usize) -> Result<(), NoM
     Ok(())
 }
 
-// Makes one group of the last and those before it, down to the one that has this place.
+// Merges the last group and those before it, down to the one that contains this index.
 fn joined(bounds: &mut Vec<Bound>, last: Bound, place: usize) -> Bound
     requires { 0 < place }
     ensures joins { JoinsDownTo place bounds.old.items last bounds.new.items result }
@@ -123,7 +122,7 @@ fn joined(bounds: &mut Vec<Bound>, last: Bound, place: usize) -> Bound
     last
 }
 
-// Looks at an edge of the last group, whose bound was taken.
+// Visits an edge of the last group, whose bound was taken.
 fn look_at(
     edges: &[Vec<usize>],
     walk: &mut Walk,
@@ -150,7 +149,7 @@ fn look_at(
     Ok(())
 }
 
-// Whether one of the numbers is not done.
+// Returns whether one of the numbers is not done.
 fn leads_in(numbers: &[usize], place: &[usize]) -> bool
     ensures { IsTrue result ↔ HasOpen numbers.now place.now }
 {
@@ -162,7 +161,7 @@ fn leads_in(numbers: &[usize], place: &[usize]) -> bool
     false
 }
 
-// Finds the members of a group from which an edge leads into it.
+// Marks the members of a group from which an edge leads into it.
 fn find(edges: &[Vec<usize>], members: &[usize], place: &[usize], found: &mut Vec<bool>)
     ensures { FindsOpen (edges_of edges.now) place.now members.now found.old.items found.new.items }
 {
@@ -173,7 +172,7 @@ fn find(edges: &[Vec<usize>], members: &[usize], place: &[usize], found: &mut Ve
     }
 }
 
-// Notes that these are done.
+// Marks these as done.
 fn end(members: &[usize], place: &mut Vec<usize>)
     ensures { Ends members.now place.old.items place.new.items }
 {
@@ -182,7 +181,7 @@ fn end(members: &[usize], place: &mut Vec<usize>)
     }
 }
 
-// A last group, with these members, is done.
+// Completes a last group with these members.
 fn leave(edges: &[Vec<usize>], members: &[usize], place: &mut Vec<usize>, found: &mut Vec<bool>)
     ensures finds { FindsOpen (edges_of edges.now) place.old.items members.now found.old.items found.new.items }
     ensures ends { Ends members.now place.old.items place.new.items }
@@ -191,7 +190,7 @@ fn leave(edges: &[Vec<usize>], members: &[usize], place: &mut Vec<usize>, found:
     end(members, place);
 }
 
-// Searches all that is met from a number.
+// Searches everything that is reachable from a number.
 fn explore(edges: &[Vec<usize>], walk: &mut Walk, root: usize) -> Result<(), NoMemory>
     requires walks { IsUnderWay (edges_of edges.now) walk.old }
     requires none { walk.old.bounds.items ≡ [] }
@@ -217,7 +216,7 @@ fn explore(edges: &[Vec<usize>], walk: &mut Walk, root: usize) -> Result<(), NoM
     Ok(())
 }
 
-/// Of each number whether it is on a cycle; each edge is looked at twice.
+/// Returns for each number whether it is cyclic. Each edge is visited twice.
 pub(crate) fn cyclic(alloc: Global, edges: &[Vec<usize>]) -> Result<Vec<bool>, NoMemory>
     ensures { IfOk result (λ found. MarksCycles (edges_of edges.now) found.items) }
 {

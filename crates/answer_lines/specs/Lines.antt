@@ -1,4 +1,5 @@
--- The line of an answer. A rule of this product: compact JSON, keys ascending, each of the four keys always there.
+-- Defines the line of an answer.
+-- Rules of this product: compact JSON, keys ascending, each of the four keys always present.
 use Rattle.std.specs.Prelude.{ℕ, List, map, codes}
 use Rattle.serde_json.specs.Data.{Data, string, object, array, no_members, member}
 use Rattle.serde_json.specs.View.{items_of}
@@ -12,6 +13,7 @@ use Rattle.authoriser.specs.declared.outcome.PolicyError.{PolicyError}
 use Rattle.authoriser.specs.declared.outcome.PolicyError.TheVariants.{EntityDoesNotExist, AttrDoesNotExist, TypeError}
 use Rattle.authoriser.specs.declared.outcome.PolicyError.TheVariants.{ArithBoundsError, ExtensionError}
 
+-- `decision_word` and `error_word` are the words of decisions and errors.
 abbrev pub decision_word : Decision → List ℕ
 decision_word Allow = codes "Allow"
 decision_word Deny = codes "Deny"
@@ -23,24 +25,27 @@ error_word TypeError = codes "typeError"
 error_word ArithBoundsError = codes "arithBoundsError"
 error_word ExtensionError = codes "extensionError"
 
+-- `erring_json e` is the JSON of an erroring policy with its error.
 abbrev pub erring_json : ErringPolicy → Data
 erring_json e = object (member (codes "error") (string (error_word e.error))
     (member (codes "policy") (string e.policy) no_members))
 
+-- `each_json f xs` is the array of the JSON of each of `xs`.
 abbrev pub each_json : {X : Type 0} → (X → Data) → List X → Data
 each_json f xs = array (items_of (map f xs))
 
--- the parts of an answer, each under its key
+-- `under_keys cycle decision errors reason` are the parts of an answer, each under its key.
 abbrev pub under_keys : Data → List ℕ → Data → Data → Data
 under_keys cycle decision errors reason = object (member (codes "cycle") cycle
     (member (codes "decision") (string decision)
     (member (codes "errors") errors
     (member (codes "reason") reason no_members))))
 
+-- `answer_json a` is the JSON of the answer `a`.
 abbrev pub answer_json : Answer → Data
 answer_json a = under_keys (each_json uid_json a.cycle) (decision_word a.decision) (each_json erring_json a.errors)
     (each_json (λ id. string id) a.reason)
 
--- {"cycle":[],"decision":"Allow","errors":[],"reason":["policy0"]}
+-- `answer_line a` is the line {"cycle":[],"decision":"Allow","errors":[],"reason":["policy0"]}
 unfoldable pub answer_line : Answer → List ℕ
 answer_line a = compact_text (answer_json a)

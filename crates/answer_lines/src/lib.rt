@@ -1,4 +1,4 @@
-//! The line that tells an answer, and the line that tells a refusal.
+//! The output lines of answers and of errors.
 #![tactic(auto)]
 
 mod lines;

@@ -13,7 +13,8 @@ use plain::{NoMemory, Text};
 use std::alloc::Global;
 use values::EntityUid;
 
-/// So much room is made at once for the line of an answer, in bytes: most lines take less, and none of these grows.
+/// The capacity that is reserved at once for the line of an answer, in bytes: most lines need less, and none of these
+/// grows.
 const USUAL_LINE: usize = 256;
 
 fn decision_word(decision: Decision) -> &'static str
@@ -37,7 +38,7 @@ fn error_word(error: PolicyError) -> &'static str
     }
 }
 
-/// `{"error":"typeError","policy":"policy0"}`
+/// Writes `{"error":"typeError","policy":"policy0"}`.
 fn write_erring(out: &mut Writer, erring: &ErringPolicy) -> Result<(), NoMemory>
     ensures { OnOk result (Adds out.old out.new (tokens_of (erring_json erring.now))) }
 {
@@ -100,7 +101,7 @@ fn write_answer(out: &mut Writer, answer: &Answer) -> Result<(), NoMemory>
 }
 
 /// Returns the line of an answer, without its line end:
-/// `{"cycle":[],"decision":"Allow","errors":[],"reason":["policy0"]}`.
+/// `{"cycle":[],"decision":"Allow","errors":[],"reason":["policy0"]}`. The only error is `NoMemory`.
 pub fn answer_line(alloc: Global, answer: &Answer) -> Result<Vec<u8>, NoMemory>
     ensures { IfOk result (λ b. b.items ≡ answer_line answer.now) }
 {

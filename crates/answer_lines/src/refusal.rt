@@ -1,4 +1,4 @@
-//! Refusals: their code, their place, and their line.
+//! Errors with their code and place, and their output line.
 ghost use Rattle.std.specs.Prelude.{◌≡◌, IfOk};
 ghost use Rattle.serde_json.specs.Data.{put as with_member};
 ghost use Rattle.serde_json.specs.View.{view, members_view};
@@ -10,16 +10,16 @@ use serde_json::{Map, Value, put};
 use std::alloc::{AllocFailed, Global};
 use thiserror::Error;
 
-/// Why texts are refused.
+/// An error of input texts.
 #[derive(Clone, Copy, PartialEq, Eq, Debug, Error)]
 #[error("refused with code {code}")]
 pub struct Refusal {
-    /// The number: 1 for want of memory, else that of the fault (docs/codes.md).
+    /// The code: 1 for `NoMemory`, else that of the error (docs/codes.md).
     pub code: u8,
-    /// Where: a byte of the policies' text, or an entity's place in its array; both from 0. None where there is no such
-    /// place.
+    /// The place: a byte offset in the policies, or an entity's index in its array; both from 0. `None` if there is
+    /// no such place.
     pub place: Option<usize>,
-    /// The number of the refusal inside, where one stands in another.
+    /// The code of the inner error, if there is one.
     pub within: Option<u8>,
 }
 
@@ -48,7 +48,7 @@ impl<T: Drop> From<AllocFailed<T>> for Refusal {
 }
 
 impl Refusal {
-    /// Returns the refusal of a growth (1), which has no place.
+    /// Returns the error of a failed allocation (1), which has no place.
     pub fn no_memory() -> Refusal
         ensures { result ≡ no_memory }
     {
@@ -59,7 +59,7 @@ impl Refusal {
         }
     }
 
-    /// Returns the refusal of JSON that is no entity or no request (30), at the entity's place in its array, if any.
+    /// Returns the error of JSON that is not an entity or a request (30), at the entity's index in its array, if any.
     pub fn bad_shape(place: Option<usize>) -> Refusal
         ensures { result ≡ bad_shape place }
     {
@@ -70,7 +70,7 @@ impl Refusal {
         }
     }
 
-    /// Returns this refusal, told at a place. Want of memory has none.
+    /// Returns this error at a place. `NoMemory` has none.
     pub fn told_at(self, place: usize) -> Refusal
         ensures { result ≡ told_at place self }
     {
@@ -110,7 +110,7 @@ fn with_value(
     Ok(members)
 }
 
-/// Returns the JSON of a refusal with these parts.
+/// Returns the JSON of an error with these parts.
 fn parts_value(
     alloc: Global,
     code: u64,
@@ -134,7 +134,8 @@ fn refusal_value(alloc: Global, refusal: Refusal) -> Result<Value, NoMemory>
     parts_value(alloc, u64::from(refusal.code), place, within)
 }
 
-/// Returns the line that tells a refusal, without its line end: `{"error":{"code":30,"place":0,"within":null}}`.
+/// Returns the line of an error, without its line end: `{"error":{"code":30,"place":0,"within":null}}`. The only
+/// error is `NoMemory`.
 pub fn error_line(alloc: Global, refusal: Refusal) -> Result<Vec<u8>, NoMemory>
     ensures { IfOk result (λ b. b.items ≡ error_line refusal) }
 {

@@ -1,7 +1,7 @@
--- The answer to a request, over the policies and the stored entities at hand.
+-- Defines the answer to a request, over policies and stored entities.
 -- Source: Cedar reference guide 4.0, "Authorization" (default deny, forbid overrides permit, errors skip a policy);
--- cedar-spec, Spec/Authorizer. That a hierarchy with a cycle is answered by a denial that names the cycle is a rule of
--- this product.
+-- cedar-spec, Spec/Authorizer.
+-- Rules of this product: over a hierarchy with a cycle the answer is a denial that names the cycle.
 use Rattle.std.specs.Prelude.{◌≡◌, ◌⊎◌, ℕ, List, [], ◌∷◌, true, false, Ok, Err}
 use Rattle.std.specs.List.{flat_map}
 use Rattle.values.specs.declared.entity_uid.EntityUid.{EntityUid}
@@ -26,12 +26,12 @@ use Rattle.authoriser.specs.declared.outcome.PolicyError.{PolicyError}
 use Rattle.authoriser.specs.declared.outcome.PolicyError.TheVariants.{EntityDoesNotExist, AttrDoesNotExist, TypeError}
 use Rattle.authoriser.specs.declared.outcome.PolicyError.TheVariants.{ArithBoundsError, ExtensionError}
 
--- a policy and its id
+-- A `NamedPolicy` is a policy with its id.
 pub record NamedPolicy : Type 0 where
   pub id : List ℕ
   pub policy : Policy
 
--- the error of a policy, as evaluating tells it
+-- `fault_of error` is the policy error `error` as an evaluation error.
 abbrev pub fault_of : PolicyError → EvalFault
 fault_of EntityDoesNotExist = fault.EntityDoesNotExist
 fault_of AttrDoesNotExist = fault.AttrDoesNotExist
@@ -39,24 +39,26 @@ fault_of TypeError = fault.TypeError
 fault_of ArithBoundsError = fault.ArithBoundsError
 fault_of ExtensionError = fault.ExtensionError
 
--- what a policy comes to: what its whole expression gives
+-- `PolicyEvaluatesTo W q policy outcome` holds if `outcome` is the result of evaluating the policy's whole
+-- expression.
 abbrev pub PolicyEvaluatesTo : World → Request → Policy → Outcome → Type 0
 PolicyEvaluatesTo W q policy Satisfied = EvaluatesTo W q (expression_of policy) (Ok (boolean true))
 PolicyEvaluatesTo W q policy NotSatisfied = EvaluatesTo W q (expression_of policy) (Ok (boolean false))
 PolicyEvaluatesTo W q policy (Errs error) = EvaluatesTo W q (expression_of policy) (Err (fault_of error))
 
--- a policy's id and effect, and what it comes to
+-- A `PolicyOutcome` is the id, the effect and the outcome of a policy.
 pub record PolicyOutcome : Type 0 where
   pub id : List ℕ
   pub effect : Effect
   pub outcome : Outcome
 
+-- `IsPolicyOutcome W q p j` holds if `j` is the outcome of the policy `p`.
 pub record IsPolicyOutcome (W : World) (q : Request) (p : NamedPolicy) (j : PolicyOutcome) : Type 0 where
   pub id : j.id ≡ p.id
   pub effect : j.effect ≡ p.policy.effect
   pub outcome : PolicyEvaluatesTo W q p.policy j.outcome
 
--- each policy in its order
+-- `ArePolicyOutcomes W q ps js` holds if `js` are the outcomes of the policies `ps`, in order.
 abbrev pub ArePolicyOutcomes : World → Request → List NamedPolicy → List PolicyOutcome → Type 0
 ArePolicyOutcomes W q [] [] = Unit {0}
 ArePolicyOutcomes W q [] (j ∷ js) = ⊥
@@ -73,43 +75,47 @@ error_of (Errs error) id = record { policy = id; error = error } ∷ []
 error_of Satisfied id = []
 error_of NotSatisfied id = []
 
+-- `if_satisfied wanted j` is the id of `j`, if it is satisfied and has the effect `wanted`.
 abbrev pub if_satisfied : Effect → PolicyOutcome → List (List ℕ)
 if_satisfied wanted j = id_if wanted j.effect j.outcome j.id
 
--- the ids of the satisfied policies of an effect, in order
+-- `satisfied wanted js` are the ids of the satisfied policies of the effect `wanted`, in order.
 abbrev pub satisfied : Effect → List PolicyOutcome → List (List ℕ)
 satisfied wanted js = flat_map (if_satisfied wanted) js
 
+-- `if_erring j` is the error of `j`, if it is erroring.
 abbrev pub if_erring : PolicyOutcome → List ErringPolicy
 if_erring j = error_of j.outcome j.id
 
--- the erring policies, each with its error, in order
+-- `erring js` are the erroring policies, each with its error, in order.
 abbrev pub erring : List PolicyOutcome → List ErringPolicy
 erring js = flat_map if_erring js
 
--- Allow where some permit is satisfied and no forbid is. The reason (Cedar's determining policies) is then the
--- satisfied permits, else the satisfied forbids.
+-- `decided permits forbids errors` is the answer by the satisfied permits and forbids: an allow if there is a permit
+-- and no forbid. Its `reason` (Cedar's determining policies) is then the permits, else the forbids.
 abbrev pub decided : List (List ℕ) → List (List ℕ) → List ErringPolicy → Answer
 decided permits (f ∷ forbids) errors = record { decision = Deny; reason = f ∷ forbids; errors = errors; cycle = [] }
 decided [] [] errors = record { decision = Deny; reason = []; errors = errors; cycle = [] }
 decided (p ∷ permits) [] errors = record { decision = Allow; reason = p ∷ permits; errors = errors; cycle = [] }
 
--- the answer by what the policies come to
+-- `answer_by js` is the answer by the outcomes of the policies.
 abbrev pub answer_by : List PolicyOutcome → Answer
 answer_by js = decided (satisfied Permit js) (satisfied Forbid js) (erring js)
 
--- some entity is on a cycle: a denial that names the least cycle, and no policy
+-- `IsCycleDenial parents a` holds if some entity is cyclic, and `a` is a denial that names the least cycle, and no
+-- policy.
 pub record IsCycleDenial (parents : Parents) (a : Answer) : Type 0 where
   pub least : IsLeastCycle parents a.cycle
   pub rest : a ≡ record { decision = Deny; reason = []; errors = []; cycle = a.cycle }
 
--- no entity is on a cycle: the answer by what the policies come to
+-- `IsPolicyAnswer W q ps a` holds if no entity is cyclic, and `a` is the answer by the outcomes of `ps`.
 pub record IsPolicyAnswer (W : World) (q : Request) (ps : List NamedPolicy) (a : Answer) : Type 0 where
   pub acyclic : (uid : EntityUid) → IsAncestor W.parents uid uid → ⊥
   pub judged : List PolicyOutcome
   pub outcomes : ArePolicyOutcomes W q ps judged
   pub answer : a ≡ answer_by judged
 
--- the answer to a request: a denial that names the least cycle, where there is one; else by what the policies come to
+-- `IsAnswer W q ps a` holds if `a` is the answer to the request `q`: a denial that names the least cycle, if there is
+-- one; else the answer by the outcomes of the policies `ps`.
 abbrev pub IsAnswer : World → Request → List NamedPolicy → Answer → Type 0
 IsAnswer W q ps a = IsCycleDenial W.parents a ⊎ IsPolicyAnswer W q ps a

@@ -1,5 +1,7 @@
--- What a reader of policies may rely on, as laws over the definition of answers: of a world, a request and policies.
--- Source: Cedar reference guide 4.0, "Authorization". A rule of this product: ids ascend by their bytes.
+-- Defines the theorems about answers that a reader of policies may rely on, for every world, request and policies. All
+-- but `DefaultDeny`, `ListsAscend` and those of finite hierarchies assume that a test decides the ancestor relation.
+-- Source: Cedar reference guide 4.0, "Authorization".
+-- Rules of this product: ids ascend by their bytes.
 use Rattle.std.specs.Prelude.{◌≡◌, ◌↔◌, ℕ, List, [], ◌∷◌, ◌++◌, map, Contains, Bool, false}
 use Rattle.std.specs.List.{filter}
 use Rattle.std.specs.List.Sorted.{IsStrictlySortedBy}
@@ -20,36 +22,37 @@ use Rattle.authoriser.specs.Answers.{NamedPolicy, PolicyEvaluatesTo, IsAnswer}
 
 -- ---- one answer
 
--- all answers to a request are one
+-- `HasOneAnswerAtMost W` holds if any two answers to a request are equal.
 abbrev pub HasOneAnswerAtMost : World → Type 0
 HasOneAnswerAtMost W = (q : Request) (ps : List NamedPolicy) (a b : Answer) → IsAnswer W q ps a → IsAnswer W q ps b
     → a ≡ b
 
--- a request has exactly one answer
+-- `HasOneAnswer W` holds if each request has exactly one answer.
 abbrev pub HasOneAnswer : World → Type 0
 HasOneAnswer W = (q : Request) (ps : List NamedPolicy)
     → (a : Answer) × IsAnswer W q ps a × ((b : Answer) → IsAnswer W q ps b → b ≡ a)
 
--- wherever a test decides who is above whom, it has one at most,
+-- `OneAnswerAtMost`: a request has at most one answer, if a test decides the ancestor relation.
 abbrev pub OneAnswerAtMost : Type 0
 OneAnswerAtMost = (W : World) (above : EntityUid → EntityUid → Bool) → Decides W.parents above → HasOneAnswerAtMost W
 
--- and wherever finitely many entities have parents, exactly one
+-- `OneAnswerInFiniteHierarchies`: a request has exactly one answer, if finitely many entities have parents.
 abbrev pub OneAnswerInFiniteHierarchies : Type 0
 OneAnswerInFiniteHierarchies = (W : World) (stored : List EntityUid) → HaveAllParents W.parents stored → HasOneAnswer W
 
--- ---- what decides
+-- ---- decisions
 
--- the policy has this effect and is satisfied
+-- `IsSatisfied W q effect p` holds if `p` has this effect and is satisfied.
 abbrev pub IsSatisfied : World → Request → Effect → NamedPolicy → Type 0
 IsSatisfied W q effect p = (p.policy.effect ≡ effect) × PolicyEvaluatesTo W q p.policy Satisfied
 
--- without a satisfied permit it is denied
+-- `DefaultDeny`: without a satisfied permit the request is denied.
 abbrev pub DefaultDeny : Type 0
 DefaultDeny = (W : World) (q : Request) (ps : List NamedPolicy) (a : Answer) → IsAnswer W q ps a →
     ((p : NamedPolicy) → Contains ps p → ¬ IsSatisfied W q Permit p) → a.decision ≡ Deny
 
--- the ids of those policies of which P holds, in the order of the policies, each as often as it stands there
+-- `AreIdsOf P ps ids` holds if `ids` are those of the policies of `ps` for which `P` holds, in order, one for each
+-- occurrence.
 pub data AreIdsOf (P : NamedPolicy → Type 0) : List NamedPolicy → List (List ℕ) → Type 0 where
   no_id : AreIdsOf P [] []
   its_id : {p : NamedPolicy} {ps : List NamedPolicy} {ids : List (List ℕ)} → P p → AreIdsOf P ps ids
@@ -57,7 +60,8 @@ pub data AreIdsOf (P : NamedPolicy → Type 0) : List NamedPolicy → List (List
   not_its_id : {p : NamedPolicy} {ps : List NamedPolicy} {ids : List (List ℕ)} → ¬ P p → AreIdsOf P ps ids
       → AreIdsOf P (p ∷ ps) ids
 
--- those of the policies that err, in that order, each with its error
+-- `AreErrorsOf W q ps errors` holds if `errors` are those of the erroring policies of `ps`, in order, each with its
+-- error.
 pub data AreErrorsOf (W : World) (q : Request) : List NamedPolicy → List ErringPolicy → Type 0 where
   no_error : AreErrorsOf W q [] []
   its_error : {p : NamedPolicy} {ps : List NamedPolicy} {errors : List ErringPolicy} {error : PolicyError}
@@ -67,19 +71,19 @@ pub data AreErrorsOf (W : World) (q : Request) : List NamedPolicy → List Errin
       → ((error : PolicyError) → ¬ PolicyEvaluatesTo W q p.policy (Errs error)) → AreErrorsOf W q ps errors
       → AreErrorsOf W q (p ∷ ps) errors
 
--- no entity is on a cycle
+-- `IsAcyclic W` holds if no entity is cyclic.
 abbrev pub IsAcyclic : World → Type 0
 IsAcyclic W = (uid : EntityUid) → ¬ IsAncestor W.parents uid uid
 
--- a satisfied forbid decides; and where no entity is on a cycle, the satisfied forbids are the reason
+-- `ForbidDecides`: a satisfied forbid denies; and if no entity is cyclic, the satisfied forbids determine the answer.
 abbrev pub ForbidDecides : Type 0
 ForbidDecides = (W : World) (above : EntityUid → EntityUid → Bool) → Decides W.parents above →
     (q : Request) (ps : List NamedPolicy) (a : Answer) (p : NamedPolicy) → IsAnswer W q ps a → Contains ps p
     → IsSatisfied W q Forbid p →
     (a.decision ≡ Deny) × (IsAcyclic W → AreIdsOf (IsSatisfied W q Forbid) ps a.reason)
 
--- where no forbid is satisfied and no entity is on a cycle, it is allowed exactly where some permit is satisfied, and
--- the satisfied permits are the reason
+-- `PermitsDecide`: if no forbid is satisfied and no entity is cyclic, the request is allowed if and only if some
+-- permit is satisfied, and the satisfied permits determine the answer.
 abbrev pub PermitsDecide : Type 0
 PermitsDecide = (W : World) (above : EntityUid → EntityUid → Bool) → Decides W.parents above →
     (q : Request) (ps : List NamedPolicy) (a : Answer) → IsAnswer W q ps a → IsAcyclic W
@@ -87,25 +91,25 @@ PermitsDecide = (W : World) (above : EntityUid → EntityUid → Bool) → Decid
     ((a.decision ≡ Allow) ↔ ((p : NamedPolicy) × Contains ps p × IsSatisfied W q Permit p))
     × AreIdsOf (IsSatisfied W q Permit) ps a.reason
 
--- where no entity is on a cycle, the errors are those of the policies
+-- `ErrorsAreReported`: if no entity is cyclic, the errors are those of exactly the erroring policies.
 abbrev pub ErrorsAreReported : Type 0
 ErrorsAreReported = (W : World) (above : EntityUid → EntityUid → Bool) → Decides W.parents above →
     (q : Request) (ps : List NamedPolicy) (a : Answer) → IsAnswer W q ps a → IsAcyclic W → AreErrorsOf W q ps a.errors
 
--- ---- policies that may be left out
+-- ---- policies that may be removed
 
--- the policy is neither satisfied nor erring
+-- `IsIdle W q p` holds if `p` is neither satisfied nor erroring.
 pub record IsIdle (W : World) (q : Request) (p : NamedPolicy) : Type 0 where
   pub satisfied : ¬ PolicyEvaluatesTo W q p.policy Satisfied
   pub erring : (error : PolicyError) → ¬ PolicyEvaluatesTo W q p.policy (Errs error)
 
--- leaving out a policy that is neither satisfied nor erring changes no answer, wherever it stands,
+-- `IdleChangesNothing`: removing an idle policy changes no answer, whatever its position.
 abbrev pub IdleChangesNothing : Type 0
 IdleChangesNothing = (W : World) (above : EntityUid → EntityUid → Bool) → Decides W.parents above →
     (q : Request) (front back : List NamedPolicy) (p : NamedPolicy) (a : Answer) → IsIdle W q p →
     IsAnswer W q (front ++ p ∷ back) a ↔ IsAnswer W q (front ++ back) a
 
--- and so does leaving out all that a test does not keep, where they are such policies
+-- `LeavingOutChangesNothing`: removing all policies that a test does not keep changes no answer, if these are idle.
 abbrev pub LeavingOutChangesNothing : Type 0
 LeavingOutChangesNothing = (W : World) (above : EntityUid → EntityUid → Bool) → Decides W.parents above →
     (q : Request) (ps : List NamedPolicy) (kept : NamedPolicy → Bool) (a : Answer)
@@ -114,27 +118,30 @@ LeavingOutChangesNothing = (W : World) (above : EntityUid → EntityUid → Bool
 
 -- ---- order
 
+-- `HaveSameMembers xs ys` holds if two lists have the same members.
 abbrev pub HaveSameMembers : {A : Type 0} → List A → List A → Type 0
 HaveSameMembers {A} xs ys = (x : A) → Contains xs x ↔ Contains ys x
 
--- the same decision and cycle, and the same policies in reason and errors
+-- `AreAlike a b` holds if two answers have the same decision and cycle, and the same determining and erroring
+-- policies.
 pub record AreAlike (a b : Answer) : Type 0 where
   pub decision : a.decision ≡ b.decision
   pub reason : HaveSameMembers a.reason b.reason
   pub errors : HaveSameMembers a.errors b.errors
   pub cycle : a.cycle ≡ b.cycle
 
--- in whatever order the policies stand, and however often each, the answers are alike
+-- `OrderDoesNotMatter`: whatever the order of the policies, and however often each occurs, the answers are alike.
 abbrev pub OrderDoesNotMatter : Type 0
 OrderDoesNotMatter = (W : World) (above : EntityUid → EntityUid → Bool) → Decides W.parents above →
     (q : Request) (ps others : List NamedPolicy) (a b : Answer) → HaveSameMembers ps others → IsAnswer W q ps a
     → IsAnswer W q others b → AreAlike a b
 
--- ids in ascending order of their bytes, each once
+-- `AreIdsAscending ids` holds if `ids` ascend strictly by their bytes.
 abbrev pub AreIdsAscending : List (List ℕ) → Type 0
 AreIdsAscending ids = IsStrictlySortedBy text_cmp ids
 
--- where the ids of the policies ascend, so do those of the answer: the reason, and the errors by their policy
+-- `ListsAscend`: if the ids of the policies ascend strictly, so do those of the determining and of the erroring
+-- policies.
 abbrev pub ListsAscend : Type 0
 ListsAscend = (W : World) (q : Request) (ps : List NamedPolicy) (a : Answer) → AreIdsAscending (map (λ p. p.id) ps)
     → IsAnswer W q ps a →

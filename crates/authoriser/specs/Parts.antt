@@ -1,6 +1,7 @@
--- What a policy's scope is worth in its whole expression: its parts are tests that never err, and where all are true
--- the condition decides. Source: Cedar reference guide 4.0, "Policy scope" and "Policy conditions"; cedar-spec,
--- Spec/Policy (`Policy.toExpr`).
+-- Defines the role of a policy's scope in its whole expression: its parts never error, and if all are true the
+-- condition decides.
+-- Source: Cedar reference guide 4.0, "Policy scope" and "Policy conditions"; cedar-spec, Spec/Policy
+-- (`Policy.toExpr`).
 use Rattle.std.specs.Prelude.{Bool, true, false, Ok, Err}
 use Rattle.values.specs.declared.entity_uid.EntityUid.{EntityUid}
 use Rattle.values.specs.declared.request.Request.{Request}
@@ -17,11 +18,11 @@ use Rattle.evaluator.specs.Evaluation.{EvaluatesTo, TestFails}
 use Rattle.evaluator.specs.ancestor_search.Hierarchy.{IsIn}
 use Rattle.scope_index.specs.Scopes.{IsEntityScopeTrue, IsActionScopeTrue, IsScopeTrue}
 
--- the expression gives whether P holds
+-- `GivesWhether W q x P` holds if `x` evaluates to the boolean that says whether `P` holds.
 abbrev pub GivesWhether : World → Request → Expr → Type 0 → Type 0
 GivesWhether W q x P = (P → EvaluatesTo W q x (Ok (boolean true))) × (¬ P → EvaluatesTo W q x (Ok (boolean false)))
 
--- each part of the scope gives whether it is true
+-- `PartsDecide W q scope` holds if each part of `scope` evaluates to whether it is true.
 pub record PartsDecide (W : World) (q : Request) (scope : Scope) : Type 0 where
   pub principal : GivesWhether W q (entity_part Principal scope.principal)
       (IsEntityScopeTrue (IsIn W.parents q.principal) scope.principal q.principal)
@@ -30,23 +31,24 @@ pub record PartsDecide (W : World) (q : Request) (scope : Scope) : Type 0 where
   pub resource : GivesWhether W q (entity_part Resource scope.resource)
       (IsEntityScopeTrue (IsIn W.parents q.resource) scope.resource q.resource)
 
--- where the scope is true, the policy gives what its condition gives as a test, its errors included
+-- `ConditionDecides W q policy` holds if the policy evaluates to what its condition does as a test, its errors
+-- included.
 pub record ConditionDecides (W : World) (q : Request) (policy : Policy) : Type 0 where
   pub gives : (t : Bool) → EvaluatesTo W q policy.condition (Ok (boolean t))
       → EvaluatesTo W q (expression_of policy) (Ok (boolean t))
   pub errs : (e : EvalFault) → TestFails W q policy.condition e → EvaluatesTo W q (expression_of policy) (Err e)
 
--- no part of a scope errs
+-- `ScopesDoNotErr`: no part of a scope errors.
 abbrev pub ScopesDoNotErr : Type 0
 ScopesDoNotErr = (W : World) (q : Request) (scope : Scope) → PartsDecide W q scope
 
--- a true scope leaves it to the condition,
+-- `TrueScopesLeaveToConditions`: if the scope is true, the condition decides.
 abbrev pub TrueScopesLeaveToConditions : Type 0
 TrueScopesLeaveToConditions = (W : World) (q : Request) (policy : Policy) → IsScopeTrue W.parents policy.scope q
     → ConditionDecides W q policy
 
--- and a policy whose scope is not true gives false, whatever its condition is, wherever a test decides who is above
--- whom
+-- `OtherScopesGiveFalse`: a policy whose scope is not true evaluates to false, whatever its condition, if a test
+-- decides the ancestor relation.
 abbrev pub OtherScopesGiveFalse : Type 0
 OtherScopesGiveFalse = (W : World) (above : EntityUid → EntityUid → Bool) → Decides W.parents above
     → (q : Request) (policy : Policy) →

@@ -1,16 +1,16 @@
-//! The answer to a request, with the policies that determined it and those that erred.
+//! The answer to a request, with the determining and the erroring policies.
 use crate::outcome::PolicyError;
 use plain::{Items, Text};
 use values::EntityUid;
 
-/// What is decided on a request.
+/// The decision on a request.
 #[derive(Clone, Copy)]
 pub enum Decision {
     Allow,
     Deny,
 }
 
-/// A policy that errs, and how.
+/// An erroring policy, with its error.
 #[derive(Drop)]
 pub struct ErringPolicy {
     /// The policy's id.
@@ -18,17 +18,18 @@ pub struct ErringPolicy {
     pub error: PolicyError,
 }
 
-/// The answer to a request; it owns its parts.
+/// The answer to a request. It owns its parts.
 #[derive(Drop)]
 pub struct Answer {
     pub decision: Decision,
-    /// The ids of the determining policies, ascending: the satisfied permits where it is allowed, else the satisfied
-    /// forbids.
+    /// The ids of the determining policies, ascending: the satisfied permits of an allow, else the satisfied forbids.
     pub reason: Items<Text>,
-    /// The erring policies, ascending by id.
+    /// The erroring policies, ascending by id.
     pub errors: Items<ErringPolicy>,
-    /// Where some entity is on a cycle, one cycle: an edge leads from each entity to the next, and from the last to the
-    /// first. It begins with the least entity on a cycle, by type and then id; no shorter one does, and of those as
-    /// long it is the least, compared item by item. Then no policy was tried. Empty where no entity is on a cycle.
+    /// One cycle, if some entity is cyclic; otherwise empty.
+    ///
+    /// An edge leads from each entity to the next, and from the last to the first. It begins with the least cyclic
+    /// entity, by type and then id; it is a shortest cycle of that entity, and the least of these, compared item by
+    /// item. No policy was then evaluated.
     pub cycle: Items<EntityUid>,
 }

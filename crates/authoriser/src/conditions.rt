@@ -1,4 +1,4 @@
-//! What a policy comes to on a request.
+//! The outcome of a policy on a request.
 ghost use Rattle.std.specs.Prelude.{◌≡◌, IfOk, MatchResult};
 ghost use Rattle.evaluator.specs.declared.fault.EvalFault.TheVariants as evaluating;
 ghost use Rattle.evaluator.specs.Operators.{world_of};
@@ -15,7 +15,7 @@ use plain::NoMemory;
 use scope_index::Policy;
 use std::alloc::Global;
 
-/// Returns the error that a fault of evaluating is, where it is not want of memory.
+/// Returns the policy error of an evaluation error, unless it is `NoMemory`.
 fn error_by(fault: EvalFault) -> Result<PolicyError, NoMemory>
     ensures { MatchResult result (λ error. fault ≡ fault_of error) (λ _. fault ≡ evaluating.NoMemory) }
 {
@@ -29,7 +29,7 @@ fn error_by(fault: EvalFault) -> Result<PolicyError, NoMemory>
     }
 }
 
-/// Returns what a condition comes to.
+/// Returns the outcome of a condition.
 fn outcome_of_condition<L: EvalEnv>(
     alloc: Global,
     condition: &Expr,
@@ -45,8 +45,8 @@ fn outcome_of_condition<L: EvalEnv>(
     }
 }
 
-/// Returns what a policy comes to. Its condition is evaluated only where its scope is true: a scope never errs, and
-/// where it is not true the policy is not satisfied, whatever its condition is (`scopes_do_not_err`).
+/// Returns the outcome of a policy. Its condition is evaluated only if its scope is true: a scope never errors, and a
+/// policy whose scope is not true is not satisfied, whatever its condition (`scopes_do_not_err`).
 pub(crate) fn outcome_of<L: Lookup>(
     alloc: Global,
     policy: &Policy,

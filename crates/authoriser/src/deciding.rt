@@ -17,7 +17,7 @@ use scope_index::Policy;
 use std::alloc::Global;
 use values::{EntityUid, Request};
 
-/// Of how many entities beside the request's three [`decide`] keeps at most who is above them.
+/// The most entities other than the request's whose ancestors [`decide`] memoizes.
 const OTHERS_MAX: usize = 64;
 
 fn copy_uids(alloc: Global, uids: &[&EntityUid]) -> Result<Items<EntityUid>, NoMemory>
@@ -30,7 +30,7 @@ fn copy_uids(alloc: Global, uids: &[&EntityUid]) -> Result<Items<EntityUid>, NoM
     Ok(Items::from_vec(copies))
 }
 
-/// Returns the answer where the hierarchy has no cycle: by what the policies come to.
+/// Returns the answer if the hierarchy has no cycle: by the outcomes of the policies.
 fn answer_by_policies<L: Lookup>(
     alloc: Global,
     policies: &[(&str, &Policy)],
@@ -63,7 +63,7 @@ fn denial_by_cycle(alloc: Global, cycle: &[&EntityUid]) -> Result<Answer, NoMemo
     })
 }
 
-/// Returns the denial that names the least cycle; None where no entity is on a cycle.
+/// Returns the denial that names the least cycle; `None` if no entity is cyclic.
 fn denial_if_cyclic<L: Lookup>(
     alloc: Global,
     known: &PreparedRequest<'_, L>,
@@ -77,10 +77,10 @@ fn denial_if_cyclic<L: Lookup>(
     }
 }
 
-/// Returns the answer to the request whose entities were looked up, over these policies, as [`decide`] does.
+/// Like [`decide`], with the request's entities already looked up.
 ///
-/// Whoever asks more of the request's entities, as an index does, has them looked up once for both. Errors: `NoMemory`
-/// alone.
+/// A caller that needs these entities for more, as an index does, looks them up once for both. The only error is
+/// `NoMemory`.
 pub fn decide_known<L: Lookup>(
     alloc: Global,
     policies: &[(&str, &Policy)],
@@ -97,14 +97,14 @@ pub fn decide_known<L: Lookup>(
 
 /// Returns the answer to a request over these policies and these stored entities.
 ///
-/// The caller's condition is that the ids ascend strictly; the lists of the answer then ascend by id, which is the law
-/// `ascending` of `answers_are_lawful`. One pass over the policies; the ancestors and the attributes of the request's
-/// three entities are asked for at most once each, and a condition is evaluated only where the scope before it is true.
-/// The ancestors of other entities, as in `User::"u" in Group::"g"`, are kept once a condition has asked for them, one
-/// more with each policy and 64 at most. Where some entity is on a cycle no policy is tried: it is denied, and the
-/// answer names the least cycle.
+/// If the caller's ids ascend strictly, the lists of the answer ascend by id (the theorem `ascending` of
+/// `answers_are_lawful`). One pass over the policies: the ancestors and the attributes of the request's three
+/// entities are looked up at most once each, and a condition is evaluated only if its policy's scope is true. The
+/// ancestors of other entities, as in `User::"u" in Group::"g"`, are memoized once a condition has used them: one
+/// more with each policy, and 64 at most. If some entity is cyclic, no policy is evaluated: the request is denied,
+/// and the answer names the least cycle.
 ///
-/// Source: Cedar reference guide, "Authorization". Errors: `NoMemory` alone.
+/// The only error is `NoMemory`. Source: Cedar reference guide, "Authorization".
 pub fn decide<L: Lookup>(
     alloc: Global,
     policies: &[(&str, &Policy)],

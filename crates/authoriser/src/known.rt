@@ -1,4 +1,4 @@
-//! The stored entities, with what was looked up already for a request.
+//! A request with its entities looked up.
 ghost use Rattle.std.specs.Prelude.{◌≡◌, IfOk};
 ghost use Rattle.authoriser.specs.inner.Views.{HasRequestAncestors};
 
@@ -11,9 +11,10 @@ use std::alloc::Global;
 use std::marker::Model;
 use values::{EntityUid, Record, Request};
 
-/// Stored entities, with the ancestors and the attributes of a request's three: what is asked of one of these is
-/// neither searched nor looked up again, and what is asked of a variable not even found by a name. Of some others it is
-/// kept from policy to policy who is above them. Contracts see the stored entities and the request.
+/// A request over stored entities, with the ancestors and the attributes of its three entities looked up.
+///
+/// Queries of these entities need no search, and queries of a variable no look-up. The ancestors of some other
+/// entities are memoized from policy to policy. Contracts see the stored entities and the request.
 #[derive(Drop)]
 pub struct PreparedRequest<'a, L: Lookup> {
     alloc: Global,
@@ -41,9 +42,10 @@ impl<'a, L: Lookup> Model for PreparedRequest<'a, L> {
 }
 
 impl<'a, L: Lookup> PreparedRequest<'a, L> {
-    /// Looks up the request's three entities: the ancestors and the attributes of each, once. Of so many others at most
-    /// it is kept who is above them, once a condition asked for it: worth while where that is searched. Errors:
-    /// `NoMemory` alone.
+    /// Looks up the ancestors and the attributes of the request's three entities, once each.
+    ///
+    /// Memoizes the ancestors of at most `most_others` other entities, once a condition has used them, which helps if
+    /// they have to be searched. The only error is `NoMemory`.
     pub fn of(
         alloc: Global,
         store: &'a L,
@@ -62,14 +64,14 @@ impl<'a, L: Lookup> PreparedRequest<'a, L> {
         })
     }
 
-    /// Returns the request's three entities, with what was looked up for them.
+    /// Returns the request's three entities, with their looked-up data.
     pub(crate) fn request_entities(&self) -> &RequestEntities<'a>
         ensures { HasRequestAncestors (L.parents self.now.0) self.now.1 result.now }
     {
         &self.entities
     }
 
-    /// Keeps who is above the other entity that was asked for last, if there is room for one more.
+    /// Memoizes the ancestors of the other entity that was last queried, if there is space for one more.
     pub(crate) fn keep_next(&mut self)
         ensures { self.new ≡ self.old }
     {
@@ -77,7 +79,7 @@ impl<'a, L: Lookup> PreparedRequest<'a, L> {
     }
 }
 
-/// Returns the same references once more.
+/// Returns a copy of the references.
 fn copied<'a>(alloc: Global, uids: &[&'a EntityUid]) -> Result<Vec<&'a EntityUid>, NoMemory>
     ensures { IfOk result (λ copies. copies.items ≡ uids.now) }
 {

@@ -1,4 +1,4 @@
-//! Laws of the definitions; the functions do nothing.
+//! Theorems about the definitions. The functions are no-ops.
 ghost use Rattle.authoriser.specs.Laws.{OneAnswerAtMost, OneAnswerInFiniteHierarchies, DefaultDeny, ForbidDecides};
 ghost use Rattle.authoriser.specs.Laws.{PermitsDecide, ErrorsAreReported};
 ghost use Rattle.authoriser.specs.Laws.{IdleChangesNothing, LeavingOutChangesNothing, OrderDoesNotMatter, ListsAscend};
@@ -7,7 +7,7 @@ ghost use Rattle.authoriser.specs.Parts.{ScopesDoNotErr, TrueScopesLeaveToCondit
 use evaluator::{cycles_have_one_least, expressions_have_one_outcome, paths_are_decided};
 use values::sets_hold_their_members;
 
-// Answers differ in nothing but want of memory.
+// Answers differ only in `NoMemory`.
 fn answers_are_one()
     ensures { OneAnswerAtMost }
 {
@@ -15,26 +15,31 @@ fn answers_are_one()
     expressions_have_one_outcome();
 }
 
-// Of one idle policy; of many it follows.
+// For one idle policy; for many it follows.
 fn idle_policies_change_nothing()
     ensures { IdleChangesNothing }
 {
     expressions_have_one_outcome();
 }
 
-/// What a reader of policies may rely on, of each world, request and list of policies. It does nothing; its contract is
-/// the laws.
+/// Proves what a reader of policies may rely on, for every world, request and list of policies. No-op.
 ///
-/// `one`: a request has one answer at most, wherever a test decides who is above whom; `finite`: exactly one, wherever
-/// finitely many entities have parents. `default_deny`: without a satisfied permit it is denied. `forbid`: a satisfied
-/// forbid decides, and where no entity is on a cycle exactly the satisfied forbids are the reason, in their order.
-/// `permits`: where no forbid is satisfied and no entity is on a cycle, it is allowed exactly where some permit is
-/// satisfied, and exactly the satisfied permits are the reason, in their order. `errors`: where no entity is on a
-/// cycle, the errors are those of exactly the erring policies, in their order. `idle`: leaving out a policy that is
-/// neither satisfied nor erring changes no answer, wherever it stands; `left_out`: nor does leaving out many of them.
-/// `order`: in whatever order the policies stand, the decision is the same, and so are the policies in reason and
-/// errors, and the cycle is the same. `ascending`: where the ids of the policies ascend strictly, by their bytes, so do
-/// the reason and the policies of the errors.
+/// All but `finite`, `default_deny` and `ascending` assume that a test decides the ancestor relation, as it does if
+/// finitely many entities have parents.
+///
+/// - `one`: a request has at most one answer; `finite`: exactly one, if finitely many entities have parents.
+/// - `default_deny`: without a satisfied permit the request is denied.
+/// - `forbid`: a satisfied forbid denies; if no entity is cyclic, exactly the satisfied forbids determine the answer,
+///   in order.
+/// - `permits`: if no forbid is satisfied and no entity is cyclic, the request is allowed if and only if some permit
+///   is satisfied, and exactly the satisfied permits determine the answer, in order.
+/// - `errors`: if no entity is cyclic, the errors are those of exactly the erroring policies, in order.
+/// - `idle`: removing a policy that is neither satisfied nor erroring changes no answer, whatever its position;
+///   `left_out`: nor does removing many of them.
+/// - `order`: the order of the policies changes neither the decision nor the cycle, and the determining and erroring
+///   policies stay the same.
+/// - `ascending`: if the ids of the policies ascend strictly, by their bytes, so do those of the determining and of
+///   the erroring policies.
 pub fn answers_are_lawful()
     ensures one { OneAnswerAtMost }
     ensures finite { OneAnswerInFiniteHierarchies }
@@ -54,11 +59,11 @@ pub fn answers_are_lawful()
     idle_policies_change_nothing();
 }
 
-/// What a scope is worth in its policy. It does nothing; its contract is the laws.
+/// Proves the role of a scope in its policy. No-op.
 ///
-/// `parts`: each part of a scope gives whether it is true, so it never errs. `leaves`: where all three are true, the
-/// policy gives what its condition gives, errors included. `idle`: where they are not, it gives false, whatever its
-/// condition is.
+/// - `parts`: each part of a scope evaluates to whether it is true, so it never errors.
+/// - `leaves`: if all three are true, the policy evaluates to what its condition does, errors included.
+/// - `idle`: if they are not, it evaluates to false, whatever its condition, if a test decides the ancestor relation.
 pub fn scopes_do_not_err()
     ensures parts { ScopesDoNotErr }
     ensures leaves { TrueScopesLeaveToConditions }

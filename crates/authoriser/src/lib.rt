@@ -1,9 +1,9 @@
 //! The authoriser: the answer to a request over policies and the stored entities.
 //!
-//! [`decide`] answers as the Cedar reference guide's "Authorization" says: a request is allowed where some `permit`
-//! policy is satisfied and no `forbid` policy is, and an erring policy counts for neither. A policy comes to what its
-//! whole expression, scope and conditions, gives. Where the hierarchy has a cycle, no policy is tried: the request is
-//! denied and the answer names the least cycle, which is a rule of this product.
+//! [`decide`] implements the Cedar reference guide's "Authorization": a request is allowed if some `permit` policy is
+//! satisfied and no `forbid` policy is, and an erroring policy counts for neither. A policy's outcome is the result
+//! of evaluating its whole expression, scope and conditions. If the hierarchy has a cycle, no policy is evaluated:
+//! the request is denied and the answer names the least cycle, which is a rule of this product.
 #![tactic(auto)]
 
 mod answer;

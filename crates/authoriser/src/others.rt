@@ -1,4 +1,4 @@
-//! Entities beside a request's three of which conditions ask who is above them, with what was searched for them.
+//! A memo of the ancestors of entities other than a request's three.
 ghost use Rattle.std.specs.Prelude.{◌≡◌, [], ⊤, Contains, IfOk, MatchOption};
 ghost use Rattle.authoriser.specs.inner.Views.{HasAllAbove, HaveAllAbove};
 
@@ -8,7 +8,7 @@ use std::alloc::Global;
 use std::cell::Cell;
 use values::EntityUid;
 
-/// An entity, with the entities above it.
+/// An entity, with its ancestors.
 #[derive(Drop)]
 pub(crate) struct Other<'a> {
     pub(crate) uid: EntityUid,
@@ -16,13 +16,13 @@ pub(crate) struct Other<'a> {
     pub(crate) ancestors: Vec<&'a EntityUid>,
 }
 
-/// Entities that are kept, each with those above it.
+/// Memoized entities, each with its ancestors.
 #[derive(Drop)]
 pub(crate) struct AncestorMemo<'a> {
     pub(crate) kept: Vec<Other<'a>>,
-    /// How many are kept at most.
+    /// The most entities that are memoized.
     most: usize,
-    /// The entity that is kept next. It is written while a condition is evaluated, and no answer depends on it.
+    /// The entity that is memoized next. It is written while a condition is evaluated, and no answer depends on it.
     next: Cell<Option<EntityUid>>,
 }
 
@@ -34,7 +34,7 @@ fn look_up<'a, S: Lookup>(store: &'a S, uid: EntityUid) -> Result<Other<'a>, NoM
 }
 
 impl<'a> AncestorMemo<'a> {
-    /// Of none. At most so many are kept.
+    /// Creates an empty memo of at most `most` entities.
     pub(crate) fn new(alloc: Global, most: usize) -> AncestorMemo<'a>
         ensures { result.kept.items ≡ [] }
     {
@@ -45,7 +45,7 @@ impl<'a> AncestorMemo<'a> {
         }
     }
 
-    /// Returns what is kept of an entity. One that is not kept is kept next, if there is room for one more.
+    /// Returns the memoized entity, if there is one; otherwise it is memoized next, if there is space for one more.
     pub(crate) fn find(&self, uid: &EntityUid) -> Option<&Other<'a>>
         ensures kept { MatchOption result ⊤ (λ other. Contains self.now.kept.items other.now) }
         ensures same { MatchOption result ⊤ (λ other. other.now.uid ≡ uid.now) }
@@ -70,7 +70,8 @@ impl<'a> AncestorMemo<'a> {
         Ok(())
     }
 
-    /// Keeps the entity that was asked for last and is not kept, if any. Where memory is refused, it is not kept.
+    /// Memoizes the entity that was last queried and is not memoized, if any. If an allocation fails, it is not
+    /// memoized.
     pub(crate) fn keep_next<S: Lookup>(&mut self, store: &'a S)
         requires { HaveAllAbove (S.parents store.now) self.old }
         ensures { HaveAllAbove (S.parents store.now) self.new }

@@ -1,34 +1,34 @@
-//! What a policy comes to on a request, and why one errs.
+//! The outcome of a policy on a request, and the error of an erroring one.
 
 use thiserror::Error;
 
-/// Why a policy errs. Cedar reference guide, "Errors"; the wants of memory are none of these.
+/// The error of an erroring policy (Cedar reference guide, "Errors"). It is never `NoMemory`.
 #[derive(Clone, Copy, Debug, Error)]
 pub enum PolicyError {
-    /// An attribute of an entity that is not stored was asked for.
+    /// An attribute of an entity that is not stored was accessed.
     #[error("entity does not exist")]
     EntityDoesNotExist,
-    /// An attribute that a record or an entity does not have was asked for.
+    /// An attribute that a record or an entity does not have was accessed.
     #[error("attribute does not exist")]
     AttrDoesNotExist,
-    /// An operand of another kind.
+    /// An operand has the wrong type.
     #[error("operand of the wrong type")]
     TypeError,
-    /// A number outside signed 64 bits.
+    /// The result of arithmetic is outside signed 64 bits.
     #[error("integer overflow")]
     ArithBoundsError,
-    /// A text that is no decimal or no address.
+    /// A string is not a decimal, or not an IP address.
     #[error("invalid decimal or IP address")]
     ExtensionError,
 }
 
-/// What a policy comes to on a request.
+/// The outcome of a policy on a request.
 #[derive(Clone, Copy)]
 pub enum Outcome {
     /// Its scope and its conditions are true.
     Satisfied,
     /// Its scope is not true, or its conditions are false.
     NotSatisfied,
-    /// Its scope is true and its conditions err.
+    /// Its scope is true and its conditions error.
     Errs(PolicyError),
 }

@@ -1,4 +1,4 @@
-//! A request's three entities: where they stand in the hierarchy, and what they have, looked up once.
+//! A request's three entities, with their ancestors and attributes, looked up once.
 ghost use Rattle.std.specs.Prelude.{◌↔◌, ⊤, IsTrue, IfOk, MatchOption};
 ghost use Rattle.evaluator.specs.ancestor_search.Hierarchy.{Parents, IsAscending, names};
 ghost use Rattle.evaluator.specs.Operators.{World, world_of};
@@ -10,13 +10,13 @@ use plain::NoMemory;
 use std::alloc::Global;
 use values::{EntityUid, Record, Request};
 
-/// An entity, with what was looked up for it.
+/// An entity, with its looked-up data.
 #[derive(Drop)]
 pub(crate) struct KnownEntity<'a> {
     pub(crate) uid: &'a EntityUid,
     /// Its ancestors, ascending.
     pub(crate) ancestors: Vec<&'a EntityUid>,
-    /// Its attributes; None exactly where it is not stored.
+    /// Its attributes; `None` if and only if it is not stored.
     pub(crate) attributes: Option<&'a Record>,
 }
 
@@ -28,7 +28,7 @@ pub(crate) struct RequestEntities<'a> {
     pub(crate) resource: KnownEntity<'a>,
 }
 
-/// Returns an entity with what is looked up for it. One that is not stored has no ancestors, so that nothing is
+/// Looks up an entity's ancestors and attributes. An entity that is not stored has no ancestors, so nothing is
 /// searched for it.
 fn look_up<'a, L: Lookup>(
     alloc: Global,
@@ -53,7 +53,7 @@ fn look_up<'a, L: Lookup>(
     }
 }
 
-/// Returns the request's entities with their ancestors and attributes, each asked for once at most.
+/// Looks up the ancestors and attributes of the request's entities, each at most once.
 pub(crate) fn request_entities_of<'a, L: Lookup>(
     alloc: Global,
     store: &'a L,
@@ -74,7 +74,7 @@ pub(crate) fn request_entities_of<'a, L: Lookup>(
 }
 
 impl KnownEntity<'_> {
-    /// Returns whether this is `of`, or `of` is among its ancestors: O(log n), without memory.
+    /// Returns whether this entity is `of` or a descendant of it. O(log n). Does not allocate.
     pub(crate) fn is_within(&self, of: &EntityUid) -> bool
         requires { IsAscending (names self.now.ancestors.items) }
         ensures { IsTrue result ↔ IsWithin self.now of.now }
@@ -84,7 +84,7 @@ impl KnownEntity<'_> {
 }
 
 impl<'a> RequestEntities<'a> {
-    /// Returns what was looked up for an entity, if it is one of the three.
+    /// Returns the looked-up data of an entity, if it is one of the three.
     pub(crate) fn find(&self, uid: &EntityUid) -> Option<&KnownEntity<'a>>
         ensures ancestors { MatchOption result ⊤
             (λ p. (parents : Parents) → AllHaveTheirAncestors parents self.now

@@ -9,7 +9,7 @@ use crate::request_entities::{KnownEntity, RequestEntities};
 use scope_index::{ActionScope, EntityScope, Scope};
 use values::EntityUid;
 
-// So few ancestors are compared one by one, ids first, which differ early; a search by halves compares types first.
+// So few ancestors are compared one by one, ids first, since ids differ early; a binary search compares types first.
 const FEW: usize = 16;
 
 /// Returns whether an entity is one of these.
@@ -24,7 +24,7 @@ fn is_one_of(entities: &[&EntityUid], of: &EntityUid) -> bool
     false
 }
 
-/// Returns whether an entity is `of`, or `of` is among its ancestors: in at most logarithmic time, without memory.
+/// Returns whether an entity is `of` or a descendant of it. At most O(log n). Does not allocate.
 fn is_within(known: &KnownEntity<'_>, of: &EntityUid) -> bool
     requires { IsAscending (names known.now.ancestors.items) }
     ensures { IsTrue result ↔ IsWithin known.now of.now }

@@ -1,4 +1,4 @@
-//! The policies that decide and those that err, gathered one after another.
+//! The determining and erroring policies, gathered one after another.
 ghost use Rattle.std.specs.Prelude.{◌≡◌, ◌∷◌, [], ◌++◌, List, map, IfOk, OnOk};
 ghost use Rattle.authoriser.specs.Answers.{PolicyOutcome, decided};
 ghost use Rattle.authoriser.specs.inner.Views.{Counts, ids, faults};
@@ -9,7 +9,7 @@ use plain::{Items, NoMemory, Text};
 use scope_index::Effect;
 use std::alloc::Global;
 
-/// The ids of the satisfied permits and forbids, and the erring policies, each in the order in which they came.
+/// The ids of the satisfied permits and forbids, and the erroring policies, each in their order.
 #[derive(Drop)]
 pub(crate) struct Tally<'a> {
     pub(crate) permits: Vec<&'a str>,
@@ -28,7 +28,7 @@ impl<'a> Tally<'a> {
         }
     }
 
-    /// Takes in what one policy came to.
+    /// Adds the outcome of one policy.
     pub(crate) fn note(
         &mut self,
         id: &'a str,
@@ -47,7 +47,7 @@ impl<'a> Tally<'a> {
         Ok(())
     }
 
-    /// Returns the answer by the policies that were noted. Ids are copied only here, and only those that are listed.
+    /// Returns the answer by the recorded policies. Ids are copied only here, and only those in the answer.
     pub(crate) fn into_answer(self, alloc: Global) -> Result<Answer, NoMemory>
         ensures { IfOk result (λ a. a ≡ decided (ids self.entry.permits.items) (ids self.entry.forbids.items)
             (faults self.entry.errors.items)) }

@@ -26,6 +26,7 @@ fn main(rt: HostRuntime) -> ExitCode {
         files: &rt,
         answers: rt.stdout(),
         faults: rt.stderr(),
+        lines: Some(rt.stdout()),
     };
     match words(&rt) {
         Ok(words) => run(rt.alloc(), &mut host, words.as_slice()),

@@ -1,5 +1,6 @@
--- What texts are read as where no schema is at hand. Rules of this product: a request may be decided by any policies,
--- no action is declared, and whatever has not the form of an entity or a request has one fault.
+-- Defines what texts are parsed as without a schema.
+-- Rules of this product: all policies are admitted, no action is declared, and a value without the form of an entity
+-- or a request has one error.
 use Rattle.std.specs.Prelude.{◌≡◌, None}
 use Rattle.serde_json.specs.Data.{Data}
 use Rattle.values.specs.declared.request.Request.{Request}
@@ -12,15 +13,17 @@ use Rattle.decision_texts.specs.Settings.{Reading, told_by}
 use Rattle.decision_texts.specs.Bare.{entity_of}
 use Rattle.decision_texts.specs.BareRequests.{StatesRequest}
 
+-- `refusal_of f` is the reported error for the error `f`.
 abbrev pub refusal_of : ShapeFault → Refusal
 refusal_of NoMemory = no_memory
 refusal_of BadShape = bad_shape None
 
--- the value states no request
+-- `StatesNone d refusal` holds if `d` does not state a request, with this error.
 pub record StatesNone (d : Data) (refusal : Refusal) : Type 0 where
   pub none : (q : Request) → StatesRequest d q → ⊥
   pub is : refusal ≡ bad_shape None
 
+-- `bare_reading` is what texts are parsed as without a schema.
 abbrev pub bare_reading : Reading
 bare_reading = record {
   admits = λ policies. Unit {0};

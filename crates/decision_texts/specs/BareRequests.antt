@@ -1,8 +1,8 @@
--- Requests as JSON without a schema.
+-- Defines requests as JSON without a schema.
 -- Source: Cedar reference guide 4.0, "Authorization request": principal, action, resource, context.
--- Rules of this product: each of the three is a uid as an entity's is, or the text of one, as "User::\"alice\"";
--- without a schema the context is absent or the empty object, and null is not absent, and the request's context is
--- empty; other keys are ignored.
+-- Rules of this product: each of the three is a uid as an entity's is, or its string, as "User::\"alice\""; without a
+-- schema the context is absent or the empty object, and null is not absent, and the request's context is empty; other
+-- keys are ignored.
 use Rattle.std.specs.Prelude.{◌≡◌, true, ℕ, List, [], MatchOption, codes}
 use Rattle.serde_json.specs.Data.{Data}
 use Rattle.serde_json.specs.Find.{get}
@@ -11,11 +11,11 @@ use Rattle.values.specs.declared.request.Request.{Request}
 use Rattle.answer_lines.specs.entity_uids.Uids.{NamesEntity}
 use Rattle.decision_texts.specs.Bare.{is_absent_or_empty}
 
--- what stands at a key of a value names this entity
+-- `NamesAt key d uid` holds if the value at `key` names `uid`.
 abbrev pub NamesAt : List ℕ → Data → EntityUid → Type 0
 NamesAt key d uid = MatchOption (get key d) ⊥ (λ found. NamesEntity found uid)
 
--- the value states this request
+-- `StatesRequest d q` holds if `d` states the request `q`.
 pub record StatesRequest (d : Data) (q : Request) : Type 0 where
   pub principal : NamesAt (codes "principal") d q.principal
   pub action : NamesAt (codes "action") d q.action

@@ -1,7 +1,8 @@
--- What three texts come to, as a setting reads them: the line of an answer, or the first refusal.
--- Source: Cedar reference guide 4.0, "Authorization". Rules of this product: the policies are all read before one is
--- judged; they are judged before the entities, and the entities before the request; a file that is too long
--- is refused before it is asked whether it is UTF-8, and bytes that are not UTF-8 are a bad token at place 0.
+-- Defines the outcome of three texts in a setting: the line of an answer, or the first error.
+-- Source: Cedar reference guide 4.0, "Authorization".
+-- Rules of this product: the policies are all parsed before one is checked; they are checked before the entities, and
+-- the entities before the request; a file that is too long is rejected before it is checked to be UTF-8, and bytes
+-- that are not UTF-8 are a bad token at offset 0.
 use Rattle.std.specs.Prelude.{◌≡◌, ◌⊎◌, ◌≤◌, ◌<◌, ℕ, List, [], ◌∷◌, length, if◌then◌else◌, Some, None, Ok, Err}
 use Rattle.std.specs.Prelude.{IsPermutation}
 use Rattle.std.specs.List.Sorted.{IsSortedByKey}
@@ -30,33 +31,36 @@ use Rattle.decision_texts.specs.Requests.{IsRequestText, IsRequestRefused}
 
 -- ---- policies
 
--- the names and the policies of a file, in its order
+-- `ArePoliciesOf bytes names policies` holds if these are the names and the policies of a file, in order.
 pub record ArePoliciesOf (bytes : List ℕ) (names : List (List ℕ)) (policies : List Policy) : Type 0 where
   pub utf8 : IsUtf8 bytes
   pub file : IsPolicyFile bytes names policies
 
--- why a file of policies is refused
+-- `IsFileFault bytes fault` holds if `fault` is the error of a file of policies.
 abbrev pub IsFileFault : List ℕ → ReadFault → Type 0
 IsFileFault bytes fault =
     ((most_file_bytes < length bytes) × (fault ≡ TooLong))
     ⊎ ((length bytes ≤ most_file_bytes) × (IsUtf8 bytes → ⊥) × (fault ≡ BadToken 0))
     ⊎ ((length bytes ≤ most_file_bytes) × IsUtf8 bytes × IsFileRefused bytes fault)
 
+-- `refusal_by fault` is the reported error for the error `fault` of a file of policies, at the same byte.
 abbrev pub refusal_by : ReadFault → Refusal
 refusal_by fault = record { code = code_of fault; place = place_of fault; within = None }
 
+-- `ArePoliciesRefused bytes refusal` holds if `refusal` is the reported error of a file of policies.
 pub record ArePoliciesRefused (bytes : List ℕ) (refusal : Refusal) : Type 0 where
   pub fault : ReadFault
   pub due : IsFileFault bytes fault
   pub is : refusal ≡ refusal_by fault
 
--- the names and the policies of a file, in its order, by which a request may be decided
+-- `AreAdmitted r bytes names policies` holds if these are the names and the policies of a file, in order, which the
+-- setting admits.
 pub record AreAdmitted (r : Reading) (bytes : List ℕ) (names : List (List ℕ)) (policies : List Policy) : Type
     0 where
   pub file : ArePoliciesOf bytes names policies
   pub admitted : r.admits policies
 
--- the file is not read, or a request may not be decided by its policies
+-- `AreNotAdmitted r bytes refusal` holds if the file is not parsed, or the setting does not admit its policies.
 pub data AreNotAdmitted (r : Reading) (bytes : List ℕ) (refusal : Refusal) : Type 0 where
   unread : ArePoliciesRefused bytes refusal → AreNotAdmitted r bytes refusal
   rejected : (names : List (List ℕ)) (policies : List Policy) → ArePoliciesOf bytes names policies
@@ -64,37 +68,40 @@ pub data AreNotAdmitted (r : Reading) (bytes : List ℕ) (refusal : Refusal) : T
 
 -- ---- the policies by their names
 
+-- `named_policies names policies` are these policies with these names.
 abbrev pub named_policies : List (List ℕ) → List Policy → List NamedPolicy
 named_policies [] policies = []
 named_policies (name ∷ names) [] = []
 named_policies (name ∷ names) (policy ∷ policies) =
     record { id = name; policy = policy } ∷ named_policies names policies
 
--- the same policies, ascending by name
+-- `IsInOrder policies ordered` holds if `ordered` are the same policies, ascending by name.
 pub record IsInOrder (policies ordered : List NamedPolicy) : Type 0 where
   pub same : IsPermutation policies ordered
   pub ascending : IsSortedByKey (λ p. p.id) (slice_cmp nat_cmp) ordered
 
--- ---- what requests are decided over
+-- ---- entity data
 
--- what entities state, each under its uid
+-- `stated es` are the entities `es`, each under its uid.
 abbrev pub stated : List Entity → EntityMap
 stated [] q = None
 stated (e ∷ es) q = if is_same e.uid q then Some (data_of e) else stated es q
 
--- these entities, and the actions that are declared
+-- `world_with actions es` are these entities, and the declared actions.
 abbrev pub world_with : Actions → List Entity → World
 world_with actions es = world_in (with_actions actions (stated es))
 
--- the answer to the request over these policies, tried in the order of their names
+-- `IsAnswerTo policies W asked answer` holds if `answer` is the answer over these policies, in the order of their
+-- names.
 pub record IsAnswerTo (policies : List NamedPolicy) (W : World) (asked : Request) (answer : Answer) : Type 0 where
   pub ordered : List NamedPolicy
   pub order : IsInOrder policies ordered
   pub is : IsAnswer W asked ordered answer
 
--- ---- entities and a request, over policies by which it may be decided
+-- ---- entities and a request, over admitted policies
 
--- the two texts are read, and this is the line of the request's answer
+-- `IsQuestionAnswered r policies entities request line` holds if both texts are parsed, and `line` is that of the
+-- request's answer.
 pub record IsQuestionAnswered (r : Reading) (policies : List NamedPolicy) (entities request line : List ℕ)
     : Type 0 where
   pub stored : List Entity
@@ -105,7 +112,8 @@ pub record IsQuestionAnswered (r : Reading) (policies : List NamedPolicy) (entit
   pub answers : IsAnswerTo policies (world_with r.actions stored) asked answer
   pub line_is : line ≡ answer_line answer
 
--- the entities are refused, or else the request
+-- `IsQuestionRefused r entities request refusal` holds if `refusal` is the error of the entities, or else of the
+-- request.
 pub data IsQuestionRefused (r : Reading) (entities request : List ℕ) (refusal : Refusal) : Type 0 where
   by_entities : entities_of r entities ≡ Err refusal → IsQuestionRefused r entities request refusal
   by_request : (stored : List Entity) → entities_of r entities ≡ Ok stored → IsRequestRefused r request refusal
@@ -113,14 +121,16 @@ pub data IsQuestionRefused (r : Reading) (entities request : List ℕ) (refusal 
 
 -- ---- the three texts
 
--- the texts of policies, entities and a request are read, and this is the line of the request's answer
+-- `IsDecided r policies entities request line` holds if the three texts are parsed, and `line` is that of the
+-- request's answer.
 pub record IsDecided (r : Reading) (policies entities request line : List ℕ) : Type 0 where
   pub names : List (List ℕ)
   pub cores : List Policy
   pub admitted : AreAdmitted r policies names cores
   pub answered : IsQuestionAnswered r (named_policies names cores) entities request line
 
--- the first text that is refused, and why
+-- `IsDecisionRefused r policies entities request refusal` holds if `refusal` is the error of the first text that is
+-- rejected.
 pub data IsDecisionRefused (r : Reading) (policies entities request : List ℕ) (refusal : Refusal) : Type 0 where
   by_policies : AreNotAdmitted r policies refusal → IsDecisionRefused r policies entities request refusal
   by_question : (names : List (List ℕ)) (cores : List Policy) → AreAdmitted r policies names cores

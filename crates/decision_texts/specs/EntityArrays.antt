@@ -1,7 +1,7 @@
--- The entities of an array, as JSON.
--- Source: Cedar reference guide 4.0, "Entities and context: JSON format". Rules of this product: each entity is read in
--- its turn, its own fault first; an entity stands once in its array, whatever else is the same; a text that is no array
--- has no place.
+-- Defines the entities of an array, as JSON.
+-- Source: Cedar reference guide 4.0, "Entities and context: JSON format".
+-- Rules of this product: entities are parsed in turn, each one's own error first; the uids of an array are distinct;
+-- a text that is not an array has no place.
 use Rattle.std.specs.Prelude.{Bool, false, not, ℕ, List, take, Some, None, Result, Ok, Err}
 use Rattle.std.specs.List.{list_any}
 use Rattle.serde_json.specs.Data.{Data, Items}
@@ -16,17 +16,17 @@ use Rattle.answer_lines.specs.declared.refusal.Refusal.{Refusal}
 use Rattle.answer_lines.specs.Refusals.{bad_shape, told_at}
 use Rattle.decision_texts.specs.Settings.{Reading}
 
--- whether this states an entity of that uid
+-- `names uid r` tests whether `r` is an entity with the uid `uid`.
 abbrev pub names : EntityUid → Result Entity Refusal → Bool
 names uid (Ok e) = is_same e.uid uid
 names uid (Err refusal) = false
 
--- a fault, told at a place
+-- `placed place r` is `r`, with its error at a place.
 abbrev pub placed : ℕ → Result Entity Refusal → Result Entity Refusal
 placed place (Ok e) = Ok e
 placed place (Err refusal) = Err (told_at place refusal)
 
--- the entity at a place of an array, of whose uid there is none before it
+-- `entity_at r ds place d` is the entity at an index of an array, whose uid no earlier one has.
 unfoldable pub entity_at : Reading → List Data → ℕ → Data → Result Entity Refusal
 entity_at r ds place d = do
   entity ← placed place (r.entity d)
@@ -34,11 +34,11 @@ entity_at r ds place d = do
       (not (list_any (λ earlier. names entity.uid (r.entity earlier)) (take place ds)))
   Ok entity
 
--- the entities of an array, or the first fault with its place
+-- `entities_in r ds` are the entities of an array, or the first error with its index.
 unfoldable pub entities_in : Reading → Items → Result (List Entity) Refusal
 entities_in r ds = each (entity_at r (list_of ds)) 0 (list_of ds)
 
--- the entities of a text
+-- `entities_of r text` are the entities of a text.
 unfoldable pub entities_of : Reading → List ℕ → Result (List Entity) Refusal
 entities_of r text = do
   d ← or_fault (bad_shape None) (json_of text)

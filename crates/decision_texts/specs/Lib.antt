@@ -7,7 +7,7 @@ pub mod Bare
 pub mod BareRequests
 pub mod BareReading
 pub mod inner
--- crates below, passed on to those above
+-- Specifications of lower crates, re-exported.
 pub use Rattle.answer_lines.specs as answer_lines
 pub use Rattle.answer_lines.specs.authoriser
 pub use Rattle.answer_lines.specs.entity_uids

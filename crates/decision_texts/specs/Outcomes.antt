@@ -1,35 +1,35 @@
--- That three texts come to exactly one thing: one line or one refusal, and never both.
--- A rule of this product: what texts come to follows from the texts and from what they are read under alone. Only want
--- of memory may come at any call, whatever the texts.
+-- Defines the theorems that three texts have exactly one outcome, a line or an error.
+-- Rules of this product: the outcome depends only on the texts and on the setting. Only `NoMemory` is possible at any
+-- call, whatever the texts.
 use Rattle.std.specs.Prelude.{◌≡◌, ◌⊎◌, ℕ, List, map}
 use Rattle.answer_lines.specs.authoriser.Laws.{AreIdsAscending}
 use Rattle.answer_lines.specs.declared.refusal.Refusal.{Refusal}
 use Rattle.decision_texts.specs.Settings.{Reading}
 use Rattle.decision_texts.specs.Decisions.{IsDecided, IsDecisionRefused}
 
--- three texts have one line at most
+-- `OneLine`: three texts have at most one line.
 abbrev pub OneLine : Reading → Type 0
 OneLine r = (policies entities request line other : List ℕ) → IsDecided r policies entities request line
     → IsDecided r policies entities request other → line ≡ other
 
--- texts that are decided are not refused
+-- `NotBoth`: texts that are decided are not rejected.
 abbrev pub NotBoth : Reading → Type 0
 NotBoth r = (policies entities request line : List ℕ) (refusal : Refusal)
     → IsDecided r policies entities request line → IsDecisionRefused r policies entities request refusal → ⊥
 
--- three texts have one refusal at most
+-- `OneRefusal`: three texts have at most one error.
 abbrev pub OneRefusal : Reading → Type 0
 OneRefusal r = (policies entities request : List ℕ) (refusal other : Refusal)
     → IsDecisionRefused r policies entities request refusal
     → IsDecisionRefused r policies entities request other → refusal ≡ other
 
--- three texts have a line or a refusal
+-- `LineOrRefusal`: three texts have a line or an error.
 abbrev pub LineOrRefusal : Reading → Type 0
 LineOrRefusal r = (policies entities request : List ℕ)
     → ((line : List ℕ) × IsDecided r policies entities request line)
     ⊎ ((refusal : Refusal) × IsDecisionRefused r policies entities request refusal)
 
--- the ids in a line's answer ascend: the reason, and the errors by their policy
+-- `ListsOfLinesAscend`: the ids in a line's answer ascend: those of the determining and of the erroring policies.
 abbrev pub ListsOfLinesAscend : Reading → Type 0
 ListsOfLinesAscend r = (policies entities request line : List ℕ) (x : IsDecided r policies entities request line)
     → let answer = x.answered.answer in

@@ -1,5 +1,5 @@
--- The request that a text states. A rule of this product: a text that is no JSON is refused as a value that has not the
--- form of a request is.
+-- Defines the request that a text states.
+-- Rules of this product: a text that is not JSON is rejected like a value without the form of a request.
 use Rattle.std.specs.Prelude.{◌≡◌, ℕ, List, None, MatchOption}
 use Rattle.json_words.specs.Json.{json_of}
 use Rattle.values.specs.declared.request.Request.{Request}
@@ -7,10 +7,10 @@ use Rattle.answer_lines.specs.declared.refusal.Refusal.{Refusal}
 use Rattle.answer_lines.specs.Refusals.{bad_shape}
 use Rattle.decision_texts.specs.Settings.{Reading}
 
--- the bytes are JSON that states this request
+-- `IsRequestText r text q` holds if `text` is JSON that states the request `q`.
 abbrev pub IsRequestText : Reading → List ℕ → Request → Type 0
 IsRequestText r text q = MatchOption (json_of text) ⊥ (λ d. r.states d q)
 
--- they state none, and this is the first fault
+-- `IsRequestRefused r text refusal` holds if it does not state one, and `refusal` is the first error.
 abbrev pub IsRequestRefused : Reading → List ℕ → Refusal → Type 0
 IsRequestRefused r text refusal = MatchOption (json_of text) (refusal ≡ bad_shape None) (λ d. r.faults d refusal)

@@ -1,4 +1,4 @@
-//! Entities without attributes, as JSON states them where no schema is given.
+//! Entities without attributes, as JSON states them without a schema.
 ghost use Rattle.std.specs.Prelude.{◌≡◌, option_map};
 ghost use Rattle.serde_json.specs.View.{view, items_view};
 ghost use Rattle.json_words.specs.ReadsAs.{ReadsAs};
@@ -14,13 +14,13 @@ use std::alloc::Global;
 use thiserror::Error;
 use values::{EntityUid, Record};
 
-/// Why a value is not read.
+/// An error of parsing JSON without a schema.
 #[derive(Clone, Copy, PartialEq, Eq, Debug, Error)]
 pub enum ShapeFault {
-    /// An allocation was refused.
+    /// An allocation failed.
     #[error("entity 1: out of memory")]
     NoMemory,
-    /// It is no entity, no uid, no request.
+    /// The value is not an entity, a uid or a request.
     #[error("entity 30: JSON without the form of an entity or a request")]
     BadShape,
 }
@@ -35,7 +35,7 @@ impl From<NoMemory> for ShapeFault {
     }
 }
 
-/// Returns a uid, also under `__entity`.
+/// Returns the uid of a value, also under `__entity`.
 fn read_uid(alloc: Global, value: &Value) -> Result<EntityUid, ShapeFault>
     ensures { ReadsAs ShapeFault.NoMemory (λ u. u) result (stated_uid (view value.now)) }
 {
@@ -45,7 +45,7 @@ fn read_uid(alloc: Global, value: &Value) -> Result<EntityUid, ShapeFault>
     }
 }
 
-/// Returns the uids that the parents of an entity are.
+/// Returns the uids of the parents of an entity.
 fn parent_uids(alloc: Global, values: &[Value]) -> Result<Items<EntityUid>, ShapeFault>
     ensures { ReadsAs ShapeFault.NoMemory (λ us. us) result (uids_of (items_view values.now)) }
 {
@@ -68,7 +68,7 @@ fn read_parents(alloc: Global, parents: Option<&Value>) -> Result<Items<EntityUi
     }
 }
 
-/// Returns whether nothing stands there, or an object with no members.
+/// Returns whether the value is absent or an object without members.
 pub(crate) fn is_absent_or_empty(found: Option<&Value>) -> bool
     ensures { result ≡ is_absent_or_empty (option_map (λ v. view v.now) found.entry) }
 {
@@ -85,7 +85,7 @@ fn is_bare(value: &Value) -> bool
     is_absent_or_empty(value.get("attrs")) && is_absent_or_empty(value.get("tags"))
 }
 
-/// Returns the entity that a value states, which has no attributes.
+/// Returns the entity that a value states, without attributes.
 #[tactic(auto, unfolding(crate::specs::Bare::entity_of))]
 pub(crate) fn read_entity(alloc: Global, value: &Value) -> Result<Entity, ShapeFault>
     ensures { ReadsAs ShapeFault.NoMemory (λ e. e) result (entity_of (view value.now)) }

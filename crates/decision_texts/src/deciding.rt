@@ -21,7 +21,7 @@ use plain::NoMemory;
 use std::alloc::Global;
 use values::Request;
 
-/// Returns the policies by reference, in the same order.
+/// Returns references to the policies, in the same order.
 fn referred<'p>(
     alloc: Global,
     policies: &'p [(String, Policy)],
@@ -36,7 +36,7 @@ fn referred<'p>(
     Ok(refs)
 }
 
-/// Returns the policies by reference, ascending by name.
+/// Returns references to the policies, ascending by name.
 fn in_order<'p>(
     alloc: Global,
     policies: &'p [(String, Policy)],
@@ -49,7 +49,7 @@ fn in_order<'p>(
     Ok(refs)
 }
 
-/// Returns the answer to a request over these policies and entities, and the actions that are declared.
+/// Returns the answer to a request over these policies and entities, and the declared actions.
 fn answer_over<S: Setting>(
     alloc: Global,
     setting: &S,
@@ -64,7 +64,7 @@ fn answer_over<S: Setting>(
     decide(alloc, policies, request, &world)
 }
 
-/// Returns the same over the policies of a file, tried in the order of their names.
+/// Returns the answer over the policies of a file, evaluated in the order of their names.
 fn answer_to<S: Setting>(
     alloc: Global,
     setting: &S,
@@ -131,13 +131,19 @@ fn answer_texts<S: Setting>(
     line_to(alloc, setting, policies, &store, request)
 }
 
-/// Returns the line of the answer to a request, over a file of policies and an array of entities, as the setting reads
-/// them, or the first refusal.
+/// Returns the line of the answer to a request, over a file of policies and an array of entities, as the setting
+/// parses them.
 ///
-/// Refused in this order: the file of policies (10 to 19, at a byte); for what the setting does not let a request be
-/// decided by its policies; the entities in their order (at the place in the array, from 0, or 30 without a place where
-/// there is no array), and 30 at the second of two entities of one uid; the request (without a place). `NoMemory` (1)
-/// may come at any point.
+/// # Errors
+///
+/// In this order:
+///
+/// - 10 to 19, at a byte offset: the file of policies.
+/// - The setting's error, if requests may not be decided by these policies.
+/// - For the entities, in order, at the index in the array, from 0: the entity's error; 30 for the second of two
+///   entities with one uid. 30 without a place if there is no array.
+/// - The error of the request, without a place.
+/// - `NoMemory` (1): an allocation failed; possible at any point.
 pub fn decide_in<S: Setting>(
     alloc: Global,
     setting: &S,
@@ -154,12 +160,18 @@ pub fn decide_in<S: Setting>(
     answer_texts(alloc, setting, &policies, entities, request)
 }
 
-/// Returns the line of the answer to a request, over a file of policies and an array of entities, or the first refusal.
+/// Returns the line of the answer to a request, over a file of policies and an array of entities, without a schema.
 ///
-/// No schema is at hand: no type and no action is declared, an entity has no attributes, and the request's context is
-/// empty. Refused in this order: the policies (10 to 19, at a byte), the entities (30, at the place in the array, from
-/// 0, or without a place where there is no array), the request (30, without a place). `NoMemory` (1) may come at any
-/// point.
+/// No type and no action is declared, an entity has no attributes, and the request's context is empty.
+///
+/// # Errors
+///
+/// In this order:
+///
+/// - 10 to 19, at a byte offset: the file of policies.
+/// - 30, at the index in the array, from 0: the entities; without a place if there is no array.
+/// - 30, without a place: the request.
+/// - `NoMemory` (1): an allocation failed; possible at any point.
 pub fn decide_texts(
     alloc: Global,
     policies: &[u8],

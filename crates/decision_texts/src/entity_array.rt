@@ -1,4 +1,4 @@
-//! The entities of an array.
+//! Arrays of entities.
 ghost use Rattle.std.specs.Prelude.{◌≡◌, ◌<◌, ◌^◌, List, length, None, Ok, Err, IfErr, OnOk};
 ghost use Rattle.serde_json.specs.View.{view};
 ghost use Rattle.json_words.specs.ReadsAs.{ReadsAs};
@@ -16,7 +16,7 @@ use json_values::{Member, Members, Scratch, members_of};
 use serde_json::Value;
 use std::alloc::Global;
 
-/// Returns the entity at a place of the array.
+/// Returns the entity at an index of the array.
 fn read_entity_at<S: Setting>(
     alloc: Global,
     setting: &S,
@@ -32,8 +32,7 @@ fn read_entity_at<S: Setting>(
     }
 }
 
-/// Keeps the entity that a value states at a place of the array, behind those that the store has. Its JSON is given up
-/// before it is kept.
+/// Adds the entity that a value states at an index of the array to the store. Its JSON is dropped before.
 fn keep_entity<S: Setting>(
     alloc: Global,
     setting: &S,
@@ -53,7 +52,7 @@ fn keep_entity<S: Setting>(
     Ok(())
 }
 
-/// Returns a member's refusal, or that of a text that is no JSON: what stands behind the member is read first.
+/// Returns a member's error, or that of a text that is not JSON: the rest after the member is read first.
 fn if_json(alloc: Global, members: &mut Members<'_>, refusal: Refusal) -> Refusal
     ensures { (result ≡ no_memory → ⊥) → result ≡ told (bad_shape None) refusal (to_come members.old) }
 {
@@ -64,7 +63,7 @@ fn if_json(alloc: Global, members: &mut Members<'_>, refusal: Refusal) -> Refusa
     }
 }
 
-/// Returns the entities of an array, each the only one of its uid. One member's JSON is held at a time.
+/// Returns the entities of an array, whose uids are distinct. One member's JSON is in memory at a time.
 fn read_array<S: Setting>(
     alloc: Global,
     setting: &S,
@@ -105,8 +104,8 @@ pub(crate) fn read_entities<S: Setting>(
     }
 }
 
-/// Checks that a text is a JSON array of entities, each the only one of its uid. Refused as
-/// [`decide_in`](crate::decide_in) refuses entities.
+/// Checks that a text is a JSON array of entities with distinct uids. Errors are those of
+/// [`decide_in`](crate::decide_in) for entities.
 pub fn judge_entities<S: Setting>(alloc: Global, setting: &S, text: &[u8]) -> Result<(), Refusal>
     ensures read { OnOk result ((es : List Stated) × (entities_of (S.reading setting.now) text.now ≡ Ok es)) }
     ensures refused { IfErr result

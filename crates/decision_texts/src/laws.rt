@@ -1,4 +1,4 @@
-//! Laws of the definitions.
+//! Theorems about the definitions.
 ghost use Rattle.decision_texts.specs.BareReading.{bare_reading};
 ghost use Rattle.decision_texts.specs.Outcomes.{OneLine, NotBoth, OneRefusal, LineOrRefusal, ListsOfLinesAscend};
 
@@ -6,8 +6,8 @@ use answer_lines::{
     answers_are_lawful, file_names_differ, names_read_back, texts_have_one_reading,
 };
 
-/// Proves that three texts come to exactly one thing, a line or a refusal, and that the ids in an answer's line ascend.
-/// It does nothing; its clauses are laws of the definitions.
+/// Proves that three texts have exactly one outcome, a line or an error, and that the ids in an answer's line ascend.
+/// No-op.
 pub fn texts_have_one_outcome()
     ensures one_line { OneLine bare_reading }
     ensures not_both { NotBoth bare_reading }

@@ -1,5 +1,5 @@
-//! From the texts of policies, entities and a request to the line of an answer or of a refusal, by whatever says how
-//! these are read: a [`Setting`], as a schema is, or none.
+//! From the texts of policies, entities and a request to the line of an answer or of an error. A [`Setting`], such as
+//! a schema or none, says how the texts are parsed.
 #![tactic(auto)]
 
 mod bare;

@@ -1,4 +1,4 @@
-//! Texts that are read without a schema.
+//! The setting without a schema.
 ghost use Rattle.std.specs.Prelude.{◌≡◌, IfOk, IfErr};
 ghost use Rattle.serde_json.specs.View.{view};
 ghost use Rattle.json_words.specs.ReadsAs.{ReadsAs};
@@ -18,7 +18,7 @@ use serde_json::Value;
 use std::alloc::Global;
 use values::Request;
 
-/// Returns a fault of shape as a refusal, which has no place.
+/// Returns the error, which has no place.
 fn refusal_of(fault: ShapeFault) -> Refusal
     ensures { result ≡ refusal_of fault }
 {
@@ -28,7 +28,7 @@ fn refusal_of(fault: ShapeFault) -> Refusal
     }
 }
 
-/// Returns the entity that a value states, or the refusal.
+/// Returns the entity that a value states, or the error.
 fn entity_in(alloc: Global, value: &Value) -> Result<Entity, Refusal>
     ensures { ReadsAs no_memory (λ e. e) result (told_by refusal_of (entity_of (view value.now))) }
 {
@@ -38,7 +38,7 @@ fn entity_in(alloc: Global, value: &Value) -> Result<Entity, Refusal>
     }
 }
 
-/// Returns the request that a value states, or the refusal.
+/// Returns the request that a value states, or the error.
 fn request_in(alloc: Global, value: &Value) -> Result<Request, Refusal>
     ensures read { IfOk result (StatesRequest (view value.now)) }
     ensures refused { IfErr result (OrNoMemory no_memory (StatesNone (view value.now))) }
@@ -49,7 +49,7 @@ fn request_in(alloc: Global, value: &Value) -> Result<Request, Refusal>
     }
 }
 
-/// No schema is at hand: each policy may be decided by, an entity has no attributes, and no action is declared.
+/// The setting without a schema: all policies are admitted, an entity has no attributes, and no action is declared.
 pub(crate) struct NoSchema;
 
 impl Setting for NoSchema {

@@ -10,7 +10,7 @@ use crate::setting::Setting;
 use answer_lines::{MOST_FILE_BYTES, Policy, ReadFault, Refusal, parse_policies};
 use std::alloc::Global;
 
-/// Returns a fault of the policies' text (10 to 19, or 1) as a refusal, at the same byte.
+/// Returns an error of the policies' text (10 to 19, or 1), at the same byte.
 fn refusal_by(fault: ReadFault) -> Refusal
     ensures { result ≡ refusal_by fault }
 {
@@ -21,8 +21,8 @@ fn refusal_by(fault: ReadFault) -> Refusal
     }
 }
 
-/// Returns the policies of a file with their names, or its fault. A file that is too long is refused before it is asked
-/// whether it is UTF-8.
+/// Returns the policies of a file with their names, or its error. A file that is too long is rejected before it is
+/// checked to be UTF-8.
 fn read_policies(alloc: Global, bytes: &[u8]) -> Result<Vec<(String, Policy)>, ReadFault>
     ensures read { IfOk result
         (λ named. ArePoliciesOf bytes.now (map (λ p. string_bytes p.0) named.items) (map (λ p. p.1) named.items)) }
@@ -37,7 +37,12 @@ fn read_policies(alloc: Global, bytes: &[u8]) -> Result<Vec<(String, Policy)>, R
     }
 }
 
-/// Returns the policies of a file with their names, in the file's order, or the refusal (10 to 19, at a byte).
+/// Returns the policies of a file with their names, in the file's order.
+///
+/// # Errors
+///
+/// - 10 to 19, at a byte offset: the file.
+/// - `NoMemory` (1): an allocation failed; possible at any point.
 pub fn policies_in(alloc: Global, bytes: &[u8]) -> Result<Vec<(String, Policy)>, Refusal>
     ensures read { IfOk result
         (λ named. ArePoliciesOf bytes.now (map (λ p. string_bytes p.0) named.items) (map (λ p. p.1) named.items)) }
@@ -49,7 +54,7 @@ pub fn policies_in(alloc: Global, bytes: &[u8]) -> Result<Vec<(String, Policy)>,
     }
 }
 
-/// Returns what goes on to be asked, or the refusal for which it does not.
+/// Returns the policies, or the error of their check.
 fn where_admitted<P: Drop>(policies: P, judged: Result<(), Refusal>) -> Result<P, Refusal>
     ensures { MatchResult judged (λ _. result ≡ Ok policies) (λ r. result ≡ Err r) }
 {
@@ -59,7 +64,7 @@ fn where_admitted<P: Drop>(policies: P, judged: Result<(), Refusal>) -> Result<P
     }
 }
 
-/// Returns the policies of a file with their names, in the file's order, by which a request may be decided.
+/// Returns the policies of a file with their names, in the file's order, if the setting admits them.
 pub(crate) fn admitted_policies<S: Setting>(
     alloc: Global,
     setting: &S,

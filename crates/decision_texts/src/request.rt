@@ -1,4 +1,4 @@
-//! Requests, as JSON states them where no schema is given.
+//! Requests, as JSON states them without a schema.
 ghost use Rattle.std.specs.Prelude.{◌≡◌, IfOk, IfErr};
 ghost use Rattle.serde_json.specs.View.{view};
 ghost use Rattle.values.specs.declared.entity_uid.EntityUid.{EntityUid as PlainUid};
@@ -13,7 +13,7 @@ use serde_json::Value;
 use std::alloc::Global;
 use values::{EntityUid, Record, Request};
 
-/// Returns the entity that what stands at a key names.
+/// Returns the entity that the value at a key names.
 fn read_name_at(alloc: Global, value: &Value, key: &str) -> Result<EntityUid, ShapeFault>
     ensures read { IfOk result (NamesAt key.now (view value.now)) }
     ensures refused { IfErr result

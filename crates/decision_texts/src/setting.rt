@@ -1,4 +1,4 @@
-//! What texts are read under: no schema, or one.
+//! The setting under which texts are parsed: a schema, or none.
 ghost use Rattle.std.specs.Prelude.{◌≡◌, IfOk, IfErr, map};
 ghost use Rattle.serde_json.specs.View.{view};
 ghost use Rattle.json_words.specs.ReadsAs.{ReadsAs};
@@ -12,33 +12,32 @@ use serde_json::Value;
 use std::alloc::Global;
 use values::Request;
 
-/// What texts are read under.
+/// The setting under which texts are parsed.
 ///
-/// It says by which policies a request may be decided, which entity and which request a JSON value states, for what
-/// each is refused, and which actions stand beside the entities. In which order texts are refused is the same under
-/// each ([`crate::decide_in`]).
+/// It says which policies are admitted, which entity and which request a JSON value states, their errors, and which
+/// actions are declared. The order in which texts are checked is the same in each setting ([`crate::decide_in`]).
 pub trait Setting {
-    /// The actions that are declared.
+    /// The declared actions.
     type Actions: ActionSource + Drop;
 
-    /// What texts are read as.
+    /// What texts are parsed as.
     ghost reading: { Self → Reading };
 
-    /// Returns the actions that are declared. Takes no memory.
+    /// Returns the declared actions. Does not allocate.
     fn actions(&self) -> Self::Actions
         ensures { Self.Actions.declared result ≡ (reading self.now).actions };
 
-    /// Checks that a request may be decided by the policies of a file, in the file's order.
+    /// Checks that the policies of a file, in the file's order, are admitted.
     fn judge(&self, alloc: Global, policies: &[(String, Policy)]) -> Result<(), Refusal>
         ensures admitted { IfOk result (λ _. (reading self.now).admits (map (λ p. p.1) policies.now)) }
         ensures refused { IfErr result
             (OrNoMemory no_memory ((reading self.now).rejects (map (λ p. p.1) policies.now))) };
 
-    /// Returns the entity that a value states, or its refusal, which has no place.
+    /// Returns the entity that a value states, or its error, which has no place.
     fn read_entity(&self, alloc: Global, value: &Value) -> Result<Entity, Refusal>
         ensures { ReadsAs no_memory (λ e. e) result ((reading self.now).entity (view value.now)) };
 
-    /// Returns the request that a value states, or its refusal, which has no place.
+    /// Returns the request that a value states, or its error, which has no place.
     fn read_request(&self, alloc: Global, value: &Value) -> Result<Request, Refusal>
         ensures read { IfOk result ((reading self.now).states (view value.now)) }
         ensures refused { IfErr result (OrNoMemory no_memory ((reading self.now).faults (view value.now))) };

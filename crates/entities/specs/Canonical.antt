@@ -1,6 +1,6 @@
--- The one JSON and the one text of an entity. Rules of this product: compact, keys ascending; parents and the uid are
--- {"id", "type"}, parents in their order, which ascends where the entity was read; the values of attributes are each in
--- their one JSON.
+-- Defines the canonical JSON and the canonical text of an entity.
+-- Rules of this product: compact, keys ascending; parents and the uid are {"id", "type"}, parents in their order,
+-- which ascends where the entity was parsed; the values of attributes are each in their canonical JSON.
 use Rattle.std.specs.Prelude.{ℕ, List, map, codes}
 use Rattle.serde_json.specs.Data.{Data, object, array, no_members, member}
 use Rattle.serde_json.specs.View.{items_of}
@@ -10,11 +10,13 @@ use Rattle.entity_values.specs.entity_uids.Uids.{uid_json}
 use Rattle.entity_values.specs.Canonical.{fields_json}
 use Rattle.entity_data.specs.declared.entity.Entity.{Entity}
 
+-- `canonical_json e` is the canonical JSON of the entity `e`.
 abbrev pub canonical_json : Entity → Data
 canonical_json e = object (member (codes "attrs") (object (fields_json (fields_of e.attrs)))
     (member (codes "parents") (array (items_of (map uid_json e.parents)))
     (member (codes "uid") (uid_json e.uid) no_members)))
 
+-- `canonical_text e` is its text:
 -- {"attrs":{"age":1},"parents":[{"id":"g","type":"Group"}],"uid":{"id":"alice","type":"User"}}
 unfoldable pub canonical_text : Entity → List ℕ
 canonical_text e = compact_text (canonical_json e)

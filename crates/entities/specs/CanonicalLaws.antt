@@ -1,5 +1,5 @@
--- Laws of the canonical texts of entities.
--- A rule of this product.
+-- Defines the theorems about the canonical texts of entities.
+-- Rules of this product: these theorems.
 use Rattle.std.specs.Prelude.{◌≡◌, ℕ, List, Some, Ok}
 use Rattle.serde_json.specs.Data.{Data}
 use Rattle.json_words.specs.Json.{json_of}
@@ -10,27 +10,27 @@ use Rattle.entities.specs.Entities.{entity_stated_in}
 use Rattle.entities.specs.Canonical.{canonical_json, canonical_text}
 use Rattle.entities.specs.Texts.{HasUtf8}
 
--- whatever JSON bytes are, its texts are UTF-8
+-- `JsonTextsAreUtf8`: each string in parsed JSON is UTF-8.
 abbrev pub JsonTextsAreUtf8 : Type 0
 JsonTextsAreUtf8 = (bytes : List ℕ) (d : Data) → json_of bytes ≡ Some d → HasUtf8 d
 
--- bytes are JSON that states an entity under a schema
+-- `IsReadFrom s bytes e` holds if `bytes` are JSON that states the entity `e` under the schema `s`.
 pub record IsReadFrom (s : StatedSchema) (bytes : List ℕ) (e : Entity) : Type 0 where
   pub json : Data
   pub stands : json_of bytes ≡ Some json
   pub states : entity_stated_in s json ≡ Ok e
 
--- Whatever bytes an entity was read from, its canonical text is its canonical JSON,
+-- `CanonicalTextsAreJson`: whatever bytes an entity was parsed from, its canonical text is its canonical JSON.
 abbrev pub CanonicalTextsAreJson : Type 0
 CanonicalTextsAreJson = (s : StatedSchema) (bytes : List ℕ) (e : Entity) → IsWellFormed s → IsReadFrom s bytes e
     → json_of (canonical_text e) ≡ Some (canonical_json e)
 
--- so it is read from its canonical text,
+-- `CanonicalTextsReadBack`: so it is parsed from its canonical text.
 abbrev pub CanonicalTextsReadBack : Type 0
 CanonicalTextsReadBack = (s : StatedSchema) (bytes : List ℕ) (e : Entity) → IsWellFormed s → IsReadFrom s bytes e
     → IsReadFrom s (canonical_text e) e
 
--- and no two entities have one canonical text.
+-- `CanonicalTextsAreOne`: entities with equal canonical texts are equal.
 abbrev pub CanonicalTextsAreOne : Type 0
 CanonicalTextsAreOne = (s : StatedSchema) (bytes other : List ℕ) (e f : Entity) → IsWellFormed s
     → IsReadFrom s bytes e → IsReadFrom s other f → canonical_text e ≡ canonical_text f → e ≡ f

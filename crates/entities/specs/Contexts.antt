@@ -1,6 +1,6 @@
--- The context that JSON states under a schema, or the first fault.
--- Source: Cedar reference guide 4.0, "Entities and context: JSON format", context. Rule of this product: the order of
--- the faults.
+-- Defines the context that JSON states under a schema, or the first error.
+-- Source: Cedar reference guide 4.0, "Entities and context: JSON format", context.
+-- Rules of this product: the order of the errors.
 use Rattle.std.specs.Prelude.{ℕ, List, [], ◌∷◌, Bool, ◌&&◌, is_some, Option, Some, None, Result, if◌then◌else◌}
 use Rattle.std.specs.Str.{bytes_eq}
 use Rattle.serde_json.specs.Data.{Data}
@@ -17,21 +17,22 @@ use Rattle.entities.specs.declared.fault.EntityFault.{EntityFault}
 use Rattle.entities.specs.declared.fault.EntityFault.TheVariants.{BadShape, NotApplicable}
 use Rattle.entities.specs.Faults.{told}
 
--- the context of the first environment whose place passes: all places of an action have one context
+-- `context_where passes es` is the type of the context of the first environment that passes: all environments of an
+-- action have one context.
 abbrev pub context_where : (Place → Bool) → List EnvironmentOf → Option Cedar
 context_where passes [] = None
 context_where passes (e ∷ es) = if passes e.place then Some e.context else context_where passes es
 
--- a place of this action
+-- `is_of_action action place` tests for an environment of `action`.
 abbrev pub is_of_action : EntityUid → Place → Bool
 is_of_action action place = is_same place.action action
 
--- this action, by a principal of this type, on a resource of that
+-- `is_place action principal resource place` tests for the environment of this action and these types.
 abbrev pub is_place : EntityUid → List ℕ → List ℕ → Place → Bool
 is_place action principal resource place =
     is_same place.action action && (bytes_eq place.principal principal && bytes_eq place.resource resource)
 
--- the context of an action
+-- `context_in s action d` is the context of `action` that `d` states, or the first error.
 unfoldable pub context_in : StatedSchema → EntityUid → Data → Result (List Field) EntityFault
 context_in s action d = do
   shape ← demand BadShape (is_some (as_object d))

@@ -1,7 +1,8 @@
--- The entity that JSON states under a schema, or the first fault.
+-- Defines the entity that JSON states under a schema, or the first error.
 -- Source: Cedar reference guide 4.0, "Entities and context: JSON format" and "Schema JSON format": an entity's
--- attributes are those of its type's shape, its parents of types that `memberOfTypes` leads to. Rules of this product:
--- the order of the faults; no action is stated as an entity; no entity has tags; an entity is none of its own parents.
+-- attributes are those of its type's shape, its parents of types that `memberOfTypes` leads to.
+-- Rules of this product: the order of the errors; no action is stated as an entity; no entity has tags; no entity is
+-- its own parent.
 use Rattle.std.specs.Prelude.{◌||◌, ◌==◌, ℕ, List, [], ◌∷◌, Bool, not, codes, ⊤, Result, Ok}
 use Rattle.std.specs.List.{ends_with}
 use Rattle.std.specs.Str.{bytes_eq}
@@ -22,44 +23,44 @@ use Rattle.entities.specs.Faults.{told}
 use Rattle.entities.specs.Stated.{is_absent_or_empty, or_empty, stated_in}
 use Rattle.entity_data.specs.UidSets.{uid_set}
 
--- the last word of a type's name is `Action`
+-- `is_action_type name` tests whether the last word of a type's name is `Action`.
 abbrev pub is_action_type : List ℕ → Bool
 is_action_type name = bytes_eq name (codes "Action") || ends_with (λ a b. a == b) name (codes "::Action")
 
--- the attributes that entities of a type have, as a record
+-- `shape_of s name` is the shape of an entity type: the attributes that its entities have, as a record.
 unfoldable pub shape_of : StatedSchema → List ℕ → Result Cedar EntityFault
 shape_of s name = do
   other ← demand ActionEntity (not (is_action_type name))
   or_fault UnknownType (s.shape name)
 
--- the attributes of an entity of this type
+-- `attributes_in s name d` are the attributes of an entity of this type.
 unfoldable pub attributes_in : StatedSchema → List ℕ → Data → Result (List Field) EntityFault
 attributes_in s name d = do
   shape ← shape_of s name
   untagged ← demand TagsLeftOut (is_absent_or_empty (get (codes "tags") d))
   told (record_in shape (or_empty (get (codes "attrs") d)))
 
--- an entity may have this parent
+-- `parent_fits s uid parent` checks that an entity may have this parent.
 unfoldable pub parent_fits : StatedSchema → EntityUid → EntityUid → Result ⊤ EntityFault
 parent_fits s uid parent = do
   other ← demand SelfParent (not (is_same parent uid))
   demand BadParent (s.may_have_parent uid.type_name parent.type_name)
 
--- an entity may have each of these parents; the first that it may not have tells why
+-- `parents_fit s uid ps` checks that it may have each of these; the first that it may not have gives the error.
 unfoldable pub parents_fit : StatedSchema → EntityUid → List EntityUid → Result ⊤ EntityFault
 parents_fit s uid [] = Ok tt
 parents_fit s uid (p ∷ ps) = do
   fits ← parent_fits s uid p
   parents_fit s uid ps
 
--- the parents of an entity, ascending and each once, where it may have them
+-- `parents_in s uid ps` are the parents of an entity, ascending and without duplicates, if it may have them.
 unfoldable pub parents_in : StatedSchema → EntityUid → List EntityUid → Result (List EntityUid) EntityFault
 parents_in s uid ps = do
   fit ← parents_fit s uid ps
   Ok (uid_set ps)
 
--- The entity that JSON states, or its first fault: first of its form, then of its type, its tags, its attributes and
--- its parents.
+-- `entity_stated_in s d` is the entity that `d` states, or its first error: of its form, then of its type, its tags,
+-- its attributes and its parents.
 unfoldable pub entity_stated_in : StatedSchema → Data → Result Entity EntityFault
 entity_stated_in s d = do
   stated ← stated_in d

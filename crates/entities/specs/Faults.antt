@@ -1,4 +1,4 @@
--- The refusals by number, which are a rule of this product, and those of values among them.
+-- Defines the codes of errors, which are a rule of this product, and the errors for those of values.
 use Rattle.std.specs.Prelude.{ℕ, Result, Ok, Err}
 use Rattle.entity_values.specs.declared.fault.ValueFault.{ValueFault}
 use Rattle.entity_values.specs.declared.fault.ValueFault.TheVariants as value
@@ -7,6 +7,7 @@ use Rattle.entities.specs.declared.fault.EntityFault.TheVariants.{NoMemory, BadS
 use Rattle.entities.specs.declared.fault.EntityFault.TheVariants.{Undeclared, Missing, WrongType, BadParent}
 use Rattle.entities.specs.declared.fault.EntityFault.TheVariants.{SelfParent, TagsLeftOut, NotApplicable}
 
+-- `code_of f` is the code of the error `f`.
 abbrev pub code_of : EntityFault → ℕ
 code_of NoMemory = 1
 code_of BadShape = 30
@@ -20,13 +21,14 @@ code_of SelfParent = 37
 code_of TagsLeftOut = 38
 code_of NotApplicable = 39
 
+-- `of_value f` is the error for the error `f` of a value.
 abbrev pub of_value : ValueFault → EntityFault
 of_value value.NoMemory = NoMemory
 of_value value.WrongType = WrongType
 of_value value.Undeclared = Undeclared
 of_value value.Missing = Missing
 
--- what reading a value gives, its fault as one of these
+-- `told r` is the result of reading a value, with its error as one of these.
 abbrev pub told : {A : Type 0} → Result A ValueFault → Result A EntityFault
 told (Ok x) = Ok x
 told (Err f) = Err (of_value f)

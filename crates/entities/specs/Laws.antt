@@ -1,4 +1,4 @@
--- Laws of entities and requests under a schema.
+-- Defines the theorems about entities and requests under a schema.
 use Rattle.std.specs.Prelude.{◌≡◌, ◌↔◌, ◌⊎◌, ◌≤◌, ℕ, List, Contains, IsTrue, Ok}
 use Rattle.serde_json.specs.Data.{Data, depth}
 use Rattle.serde_json.specs.Read.{max_depth}
@@ -14,56 +14,56 @@ use Rattle.entities.specs.Requests.{StatesRequest, RequestRefused}
 use Rattle.entities.specs.Canonical.{canonical_json}
 use Rattle.entity_data.specs.UidSets.{uid_set}
 
--- ---- types of actions
+-- ---- action types
 
--- the test tells the types that the actions of a namespace, or of none, have
+-- `ActionTypeTestIsExact`: the test accepts exactly the types of actions, in a namespace or in none.
 abbrev pub ActionTypeTestIsExact : Type 0
 ActionTypeTestIsExact = (name : List ℕ) → IsTrue (is_action_type name) ↔ IsActionType name
 
 -- ---- entities
 
--- the one JSON of an entity that was read is read as that entity
+-- `CanonicalIsRead`: the canonical JSON of an entity that was parsed is parsed as that entity.
 abbrev pub CanonicalIsRead : Type 0
 CanonicalIsRead = (s : StatedSchema) (d : Data) (e : Entity) → entity_stated_in s d ≡ Ok e
     → entity_stated_in s (canonical_json e) ≡ Ok e
 
--- it nests within what is read, since no shape of a schema that bytes state is too large
+-- `CanonicalNests`: it is within the limit of nesting, since no shape of a schema that bytes state is too large.
 abbrev pub CanonicalNests : Type 0
 CanonicalNests = (s : StatedSchema) (d : Data) (e : Entity) → IsWellFormed s → entity_stated_in s d ≡ Ok e
     → depth (canonical_json e) ≤ max_depth
 
--- two entities that were read and have one JSON are one
+-- `CanonicalIsOne`: two parsed entities with equal canonical JSON are equal.
 abbrev pub CanonicalIsOne : Type 0
 CanonicalIsOne = (s : StatedSchema) (d other : Data) (e f : Entity) → entity_stated_in s d ≡ Ok e
     → entity_stated_in s other ≡ Ok f
     → canonical_json e ≡ canonical_json f → e ≡ f
 
--- the parents of an entity ascend, each once
+-- `ParentsAscend`: the parents of an entity ascend strictly.
 abbrev pub ParentsAscend : Type 0
 ParentsAscend = (s : StatedSchema) (d : Data) (e : Entity) → entity_stated_in s d ≡ Ok e → IsAscending e.parents
 
--- uids in order are those that they were made of
+-- `SetsHoldTheirMembers`: a set of uids ascends strictly, and has exactly the uids that it was made of.
 abbrev pub SetsHoldTheirMembers : Type 0
 SetsHoldTheirMembers = (us : List EntityUid) → IsAscending (uid_set us)
     × ((u : EntityUid) → Contains us u ↔ Contains (uid_set us) u)
 
 -- ---- requests
 
--- a value states one request at most,
+-- `OneRequest`: a value states at most one request.
 abbrev pub OneRequest : Type 0
 OneRequest = (s : StatedSchema) (d : Data) (q other : Request) → StatesRequest s d q → StatesRequest s d other
     → q ≡ other
 
--- what states a request is not refused,
+-- `NotBoth`: a value that states a request is not rejected.
 abbrev pub NotBoth : Type 0
 NotBoth = (s : StatedSchema) (d : Data) (q : Request) (f : EntityFault) → StatesRequest s d q → RequestRefused s d f
     → ⊥
 
--- and it is refused for one fault at most
+-- `OneRefusal`: a value is rejected with at most one error.
 abbrev pub OneRefusal : Type 0
 OneRefusal = (s : StatedSchema) (d : Data) (f g : EntityFault) → RequestRefused s d f → RequestRefused s d g → f ≡ g
 
--- so each value states exactly one request, or is refused for exactly one fault
+-- `RequestOrRefusal`: each value states a request, or is rejected.
 abbrev pub RequestOrRefusal : Type 0
 RequestOrRefusal = (s : StatedSchema) (d : Data) → ((q : Request) × StatesRequest s d q)
     ⊎ ((f : EntityFault) × RequestRefused s d f)

@@ -8,7 +8,7 @@ pub mod Laws
 pub mod inner
 pub mod Texts
 pub mod CanonicalLaws
--- crates below, passed on to those above
+-- Specifications of lower crates, re-exported.
 pub use Rattle.entity_data.specs as entity_data
 pub use Rattle.entity_data.specs.ancestor_search
 pub use Rattle.schema.specs as schema

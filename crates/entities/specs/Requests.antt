@@ -1,8 +1,8 @@
--- The request that JSON states under a schema, and the first fault for which it states none.
--- Source: Cedar reference guide 4.0, "Authorization request" and "Schema JSON format", `appliesTo`: principal, action,
--- resource, context. Rules of this product: each of the three is a uid as an entity's is, or the text of one, as
--- "User::\"alice\""; an absent context is empty, and null is not absent; other keys are ignored; the order of the
--- faults.
+-- Defines the request that JSON states under a schema, and the first error if it states none.
+-- Source: Cedar reference guide 4.0, "Authorization request" and "Schema JSON format", `appliesTo`: principal,
+-- action, resource, context.
+-- Rules of this product: each of the three is a uid as an entity's is, or its string, as "User::\"alice\""; an absent
+-- context is empty, and null is not absent; other keys are ignored; the order of the errors.
 use Rattle.std.specs.Prelude.{◌≡◌, true, ℕ, List, MatchOption, codes, Result, Ok, Err}
 use Rattle.serde_json.specs.Data.{Data}
 use Rattle.serde_json.specs.Find.{get}
@@ -20,34 +20,35 @@ use Rattle.entities.specs.Faults.{told}
 use Rattle.entities.specs.Stated.{is_absent_or_object, or_empty}
 use Rattle.entities.specs.Contexts.{context_where, is_place}
 
--- what stands at a key of a value names this entity
+-- `NamesAt key d uid` holds if the value at `key` names `uid`.
 abbrev pub NamesAt : List ℕ → Data → EntityUid → Type 0
 NamesAt key d uid = MatchOption (get key d) ⊥ (λ found. NamesEntity found uid)
 
--- The form of a request: the value names who asks, what for, and of what; and its context is an object, or nothing.
+-- `Asks d asked` holds if `d` has the form of a request: it names the principal, the action and the resource `asked`,
+-- and its context is an object or absent.
 pub record Asks (d : Data) (asked : Asked) : Type 0 where
   pub principal : NamesAt (codes "principal") d asked.principal
   pub action : NamesAt (codes "action") d asked.action
   pub resource : NamesAt (codes "resource") d asked.resource
   pub context : is_absent_or_object (get (codes "context") d) ≡ true
 
--- the context, of the type that the action's places have
+-- `context_asked s asked d` is the context, of the type of the action's environment.
 unfoldable pub context_asked : StatedSchema → Asked → Data → Result (List Field) EntityFault
 context_asked s asked d = do
   type ← or_fault NotApplicable
       (context_where (is_place asked.action asked.principal.type_name asked.resource.type_name) s.environments)
   told (record_in type (or_empty (get (codes "context") d)))
 
--- who asks, what for, and of what
+-- `asked_by q` are the principal, action and resource of the request `q`.
 abbrev pub asked_by : Request → Asked
 asked_by q = record { principal = q.principal; action = q.action; resource = q.resource }
 
--- the value states this request
+-- `StatesRequest s d q` holds if `d` states the request `q`.
 pub record StatesRequest (s : StatedSchema) (d : Data) (q : Request) : Type 0 where
   pub asks : Asks d (asked_by q)
   pub context : context_asked s (asked_by q) d ≡ Ok q.context
 
--- it states none, and this is the first fault
+-- `RequestRefused s d f` holds if `d` does not state a request, and `f` is the first error.
 pub data RequestRefused (s : StatedSchema) (d : Data) : EntityFault → Type 0 where
   shape : ((asked : Asked) → Asks d asked → ⊥) → RequestRefused s d BadShape
   context : (asked : Asked) (f : EntityFault) → Asks d asked → context_asked s asked d ≡ Err f

@@ -1,7 +1,8 @@
--- The form of an entity's JSON, whatever its type.
--- Source: Cedar reference guide 4.0, "Entities and context: JSON format": uid, attrs, parents, tags; a uid is {"type",
--- "id"}, or that under `__entity`. Rules of this product: absent `attrs`, `parents` and `tags` are empty, and null is
--- not absent; other keys of an entity are ignored.
+-- Defines the form of an entity's JSON, whatever its type.
+-- Source: Cedar reference guide 4.0, "Entities and context: JSON format": uid, attrs, parents, tags; a uid is
+-- {"type", "id"}, or that under `__entity`.
+-- Rules of this product: absent `attrs`, `parents` and `tags` are empty, and null is not absent; other keys of an
+-- entity are ignored.
 use Rattle.std.specs.Prelude.{Bool, true, List, [], ◌&&◌, codes, is_some, Option, Some, None, Result, Ok}
 use Rattle.serde_json.specs.Data.{Data, Items, object, no_members}
 use Rattle.serde_json.specs.Find.{get, as_array, as_object}
@@ -14,38 +15,41 @@ use Rattle.entities.specs.declared.fault.EntityFault.{EntityFault}
 use Rattle.entities.specs.declared.fault.EntityFault.TheVariants.{BadShape}
 use Rattle.entities.specs.declared.stated.StatedEntity.{StatedEntity}
 
--- an object, or nothing
+-- `is_absent_or_object o` tests for an absent value, or an object.
 abbrev pub is_absent_or_object : Option Data → Bool
 is_absent_or_object None = true
 is_absent_or_object (Some d) = is_some (as_object d)
 
--- an object with no members, or nothing
+-- `is_absent_or_empty o` tests for an absent value, or an object without members.
 abbrev pub is_absent_or_empty : Option Data → Bool
 is_absent_or_empty None = true
 is_absent_or_empty (Some d) = has_only [] d
 
--- what stands there, or an object with no members
+-- `or_empty o` is the value, or an object without members if it is absent.
 abbrev pub or_empty : Option Data → Data
 or_empty None = object no_members
 or_empty (Some d) = d
 
+-- `stated_uid d` is the uid that `d` states.
 abbrev pub stated_uid : Data → Result EntityUid EntityFault
 stated_uid d = or_fault BadShape (uid_in d)
 
+-- `uids_of ds` are the uids that an array states.
 unfoldable pub uids_of : Items → Result (List EntityUid) EntityFault
 uids_of ds = each (λ i d. stated_uid d) 0 (list_of ds)
 
+-- `stated_parents o` are the parents that an entity states, none if they are absent.
 abbrev pub stated_parents : Option Data → Result (List EntityUid) EntityFault
 stated_parents None = Ok []
 stated_parents (Some d) = do
   ds ← or_fault BadShape (as_array d)
   uids_of ds
 
--- attributes and tags, where they stand, are objects
+-- `has_objects d` tests that attributes and tags, if present, are objects.
 abbrev pub has_objects : Data → Bool
 has_objects d = is_absent_or_object (get (codes "attrs") d) && is_absent_or_object (get (codes "tags") d)
 
--- the uid and the parents that an entity's JSON states, the parents in the order of their array
+-- `stated_in d` are the uid and the parents that an entity's JSON states, the parents in the order of their array.
 unfoldable pub stated_in : Data → Result StatedEntity EntityFault
 stated_in d = do
   name ← or_fault BadShape (get (codes "uid") d)

@@ -1,10 +1,10 @@
--- Texts in JSON. (RFC 8259, section 8.1, asks for UTF-8.)
+-- Defines JSON whose strings are UTF-8. (RFC 8259, section 8.1, requires UTF-8.)
 use Rattle.std.specs.Prelude.{⊤}
 use Rattle.std.specs.Str.{IsUtf8}
 use Rattle.serde_json.specs.Data.{Data, null, boolean, number, string, array, object}
 use Rattle.serde_json.specs.Data.{Items, no_items, item, Members, no_members, member}
 
--- each text is UTF-8, and each key of an object
+-- `HasUtf8 d` holds if each string in `d` is UTF-8, and each key of an object.
 abbrev mutual
   pub HasUtf8 : Data → Type 0
   HasUtf8 null = ⊤

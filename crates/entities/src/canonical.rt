@@ -1,4 +1,4 @@
-//! The one text of an entity, written token by token: no JSON value is built.
+//! The canonical text of an entity, written token by token: no JSON value is built.
 ghost use Rattle.std.specs.Prelude.{◌≡◌, ◌≤◌, IfOk, OnOk, Some, map};
 ghost use Rattle.serde_json.specs.Data.{array, depth};
 ghost use Rattle.serde_json.specs.Read.{max_depth};
@@ -15,7 +15,7 @@ use plain::NoMemory;
 use std::alloc::Global;
 use values::EntityUid;
 
-/// So much room is made at once for a text, in bytes: most entities take less, and their texts do not grow.
+/// The capacity that is reserved at once for a text, in bytes: most entities need less, and their texts do not grow.
 const ROOM: usize = 128;
 
 fn write_parents(out: &mut Writer, parents: &[EntityUid]) -> Result<(), NoMemory>
@@ -41,8 +41,8 @@ fn write_members(alloc: Global, out: &mut Writer, entity: &Entity) -> Result<(),
     out.end_object()
 }
 
-/// Returns the one text of an entity, which is compact JSON:
-/// `{"attrs":{"age":1},"parents":[],"uid":{"id":"a","type":"User"}}`. Fails for memory alone.
+/// Returns the canonical text of an entity, which is compact JSON:
+/// `{"attrs":{"age":1},"parents":[],"uid":{"id":"a","type":"User"}}`. The only error is `NoMemory`.
 pub fn canonical_text(alloc: Global, entity: &Entity) -> Result<Vec<u8>, NoMemory>
     ensures text { IfOk result (λ b. b.items ≡ canonical_text entity.now) }
     ensures reads_back { IfOk result (λ b. depth (canonical_json entity.now) ≤ max_depth

@@ -1,17 +1,17 @@
-//! Laws of the definitions; the functions do nothing.
+//! Theorems about the definitions. The functions are no-ops.
 ghost use Rattle.entities.specs.CanonicalLaws.{JsonTextsAreUtf8, CanonicalTextsAreJson};
 ghost use Rattle.entities.specs.CanonicalLaws.{CanonicalTextsReadBack, CanonicalTextsAreOne};
 
 use crate::laws::entities_read_back;
 use json_words::{compact_texts_read_back, json_keys_ascend};
 
-/// Proves that whatever JSON some bytes are, each text and each key in it is UTF-8.
+/// Proves that each string and each key in parsed JSON is UTF-8. No-op.
 pub fn json_texts_are_utf8()
     ensures { JsonTextsAreUtf8 }
 {}
 
-/// Proves that the canonical text of an entity that was read from bytes is its canonical JSON, is read as that entity
-/// under the same schema, and is that of no other entity.
+/// Proves that the canonical text of an entity that was parsed from bytes is its canonical JSON, is parsed as that
+/// entity under the same schema, and is that of no other entity. No-op.
 pub fn canonical_texts_are_read()
     ensures json { CanonicalTextsAreJson }
     ensures back { CanonicalTextsReadBack }

@@ -1,4 +1,4 @@
-//! Contexts, read by the action's environments.
+//! Contexts, parsed by the environments of the action.
 ghost use Rattle.std.specs.Prelude.{◌≡◌, option_map};
 ghost use Rattle.serde_json.specs.View.{view};
 ghost use Rattle.json_words.specs.ReadsAs.{ReadsAs};
@@ -18,7 +18,7 @@ use std::alloc::Global;
 use std::cmp::Ordering;
 use values::{EntityUid, Record};
 
-/// The places of an action.
+/// The environments of an action.
 impl Sought for EntityUid {
     ghost order = { order_of_action };
 
@@ -27,7 +27,7 @@ impl Sought for EntityUid {
     }
 }
 
-/// Returns the type of the context of an action, where some environment has it; takes logarithmic time.
+/// Returns the type of the context of an action, if it has an environment. O(log n).
 fn context_of_action<'s>(schema: &'s Schema, action: &EntityUid) -> Option<&'s CedarType>
     ensures { option_map (λ t. cedar_view t.now) result
         ≡ context_where (is_of_action action.now) (schema_view schema.now).environments }
@@ -35,10 +35,18 @@ fn context_of_action<'s>(schema: &'s Schema, action: &EntityUid) -> Option<&'s C
     context_of(schema, action)
 }
 
-/// Returns the context that a JSON object states for requests of an action.
+/// Parses a JSON object as the context of requests of an action.
 ///
-/// The first fault is told: that the value is no object; that no environment has the action; of the members, ascending
-/// by key, that one is not declared or its value of another type; that a required one is missing.
+/// # Errors
+///
+/// In this order:
+///
+/// - `BadShape` (30): the value is not an object.
+/// - `NotApplicable` (39): no environment has the action.
+/// - Of the members, ascending by key: `Undeclared` (33), it is not declared; `WrongType` (35), its value is of
+///   another type.
+/// - `Missing` (34): a required member is missing.
+/// - `NoMemory` (1): an allocation failed; possible at any point.
 #[tactic(auto, unfolding(crate::specs::Contexts::context_in))]
 pub fn read_context(
     alloc: Global,

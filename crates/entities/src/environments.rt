@@ -1,4 +1,4 @@
-//! Environments, looked for by halves: they ascend by their places.
+//! A binary search for environments, which ascend by action, principal type and resource type.
 ghost use Rattle.std.specs.Prelude.{◌≡◌, Bool, Some, option_map, slice_get};
 ghost use Rattle.std.specs.Ordering.{is_eq, is_lt};
 ghost use Rattle.std.specs.declared.cmp.Ordering.{Ordering as PlainOrdering};
@@ -12,24 +12,24 @@ use schema::{Environment, Place, Schema, stated_schemas_are_well_formed};
 use schema_types::CedarType;
 use std::cmp::Ordering;
 
-/// What environments are looked for by.
+/// What environments are searched for.
 pub(crate) trait Sought {
-    /// How a place compares with what is sought: as equal where it is sought.
+    /// How an environment's action and types compare with those sought; equal if they are sought.
     ghost order: { Self → PlainPlace → PlainOrdering };
 
-    /// Returns how a place compares with what is sought.
+    /// Compares an environment's action and types with those sought.
     fn compare(&self, place: &Place) -> Ordering
         ensures { result ≡ order self.now place.now };
 }
 
-/// Returns whether an environment stands before those that are sought.
+/// Returns whether an environment comes before those sought.
 fn is_before<S: Sought>(environment: &Environment, sought: &S) -> bool
     ensures { result ≡ is_lt (S.order sought.now environment.now.place) }
 {
     sought.compare(&environment.place).is_lt()
 }
 
-/// Returns the type of the context of an environment, where it is sought.
+/// Returns the type of the context of an environment, if it is sought.
 fn context_if_sought<'s, S: Sought>(
     environment: &'s Environment,
     sought: &S,
@@ -44,7 +44,7 @@ fn context_if_sought<'s, S: Sought>(
     }
 }
 
-/// Returns the same of the environment at a place of a list.
+/// Returns the same of the environment at an index of a list.
 fn context_at<'s, S: Sought>(
     environments: &'s [Environment],
     at: usize,
@@ -59,7 +59,7 @@ fn context_at<'s, S: Sought>(
     }
 }
 
-/// Returns the type of the context of the first environment that is sought, where some is; takes logarithmic time.
+/// Returns the type of the context of the first environment that is sought, if there is one. O(log n).
 pub(crate) fn context_of<'s, S: Sought>(schema: &'s Schema, sought: &S) -> Option<&'s CedarType>
     ensures { (passes : PlainPlace → Bool) → AreSought (S.order sought.now) passes
         → option_map (λ t. cedar_view t.now) result ≡ context_where passes (schema_view schema.now).environments }

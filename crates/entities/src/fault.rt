@@ -1,4 +1,4 @@
-//! Why an entity, a context or a request is not read.
+//! Errors of parsing an entity, a context or a request.
 ghost use Rattle.std.specs.Prelude.{◌≡◌};
 ghost use Rattle.entities.specs.Faults.{code_of, of_value};
 ghost use Rattle.entities.specs.declared.fault.EntityFault.TheVariants.{NoMemory};
@@ -7,13 +7,13 @@ use entity_values::ValueFault;
 use plain::NoMemory;
 use thiserror::Error;
 
-/// The first cause for which JSON states no entity, no context or no request under a schema.
+/// The first error of JSON as an entity, a context or a request under a schema.
 #[derive(Clone, Copy, PartialEq, Eq, Debug, Error)]
 pub enum EntityFault {
-    /// An allocation was refused.
+    /// An allocation failed.
     #[error("entity 1: out of memory")]
     NoMemory,
-    /// The JSON has not the form of an entity, of a context or of a request.
+    /// The JSON does not have the form of an entity, of a context or of a request.
     #[error("entity 30: JSON without the form of an entity, a context or a request")]
     BadShape,
     /// The entity's type is not declared.
@@ -31,7 +31,7 @@ pub enum EntityFault {
     /// The value of an attribute is not of its declared type.
     #[error("entity 35: attribute value of the wrong type")]
     WrongType,
-    /// An entity of this type may not have a parent of that.
+    /// An entity of this type may not have a parent of that type.
     #[error("entity 36: parent of a type that the schema does not allow")]
     BadParent,
     /// The entity is one of its own parents.
@@ -40,13 +40,13 @@ pub enum EntityFault {
     /// The entity has tags.
     #[error("entity 38: tags; entity tags are not supported")]
     TagsLeftOut,
-    /// The action is not declared, or it does not apply to the types of principal and resource.
+    /// The action is not declared, or does not apply to the types of principal and resource.
     #[error("entity 39: action undeclared, or not applicable to these types of principal and resource")]
     NotApplicable,
 }
 
 impl EntityFault {
-    /// Returns the number by which the refusal is told.
+    /// Returns the error's code.
     pub fn code(self) -> u8
         ensures { result ≡ code_of self }
     {

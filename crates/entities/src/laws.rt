@@ -1,12 +1,14 @@
-//! Laws of the definitions; the functions do nothing.
+//! Theorems about the definitions. The functions are no-ops.
 ghost use Rattle.entities.specs.Laws.{CanonicalIsRead, CanonicalNests, CanonicalIsOne, ParentsAscend};
 ghost use Rattle.entities.specs.Laws.{SetsHoldTheirMembers, ActionTypeTestIsExact};
 ghost use Rattle.entities.specs.Laws.{OneRequest, NotBoth, OneRefusal, RequestOrRefusal};
 
 use entity_values::{names_read_back, records_are_read_again, texts_have_one_reading};
 
-/// Proves that the one JSON of an entity that was read is read as that entity under the same schema, can be written,
-/// and is that of no other; and that its parents ascend, and are those that were stated.
+/// Proves that the canonical JSON of a parsed entity is parsed as that entity under the same schema. No-op.
+///
+/// It is within the limit of nesting, and is that of no other entity. The parents of a parsed entity ascend, and a
+/// set of uids has exactly the uids that it was made of.
 pub fn entities_read_back()
     ensures read { CanonicalIsRead }
     ensures nests { CanonicalNests }
@@ -18,12 +20,12 @@ pub fn entities_read_back()
     records_are_read_again();
 }
 
-/// Proves that whether a type's name is one of an action's is told right: it is where its last word is `Action`.
+/// Proves that the test for an action's type accepts exactly the names whose last word is `Action`. No-op.
 pub fn action_types_are_told()
     ensures { ActionTypeTestIsExact }
 {}
 
-/// Proves that a value states exactly one request or is refused for exactly one fault, and never both.
+/// Proves that a value states exactly one request or is rejected with exactly one error, and never both. No-op.
 pub fn requests_have_one_outcome()
     ensures one_request { OneRequest }
     ensures not_both { NotBoth }

@@ -1,8 +1,8 @@
-//! Entities, contexts and requests, read from JSON by what a schema declares, and the one text of an entity.
+//! Entities, contexts and requests, parsed from JSON by what a schema declares, and the canonical text of an entity.
 //!
-//! What is read follows from the JSON and the schema alone: no other entity is looked at, so parents need not be
-//! stored. Whatever bytes an entity was read from under a schema, its canonical text is read as that entity again, and
-//! no other entity has it.
+//! The result depends only on the JSON and the schema: no other entity is looked up, so parents need not be stored.
+//! Whatever bytes an entity was parsed from under a schema, its canonical text is parsed as that entity again, and no
+//! other entity has it.
 #![tactic(auto)]
 
 mod canonical;

@@ -1,4 +1,4 @@
-//! Which parents an entity may have.
+//! The parents that an entity may have.
 ghost use Rattle.json_words.specs.ReadsAs.{ReadsAs};
 ghost use Rattle.schema.specs.Views.{schema_view};
 ghost use Rattle.entities.specs.declared.fault.EntityFault.TheVariants as EntityFault;
@@ -10,7 +10,7 @@ use plain::Items;
 use schema::Schema;
 use values::EntityUid;
 
-/// Demands that an entity may have this parent: another entity, of a type that its own leads to by `memberOfTypes`.
+/// Checks that an entity may have this parent: another entity, of a type that its own may have by `memberOfTypes`.
 #[tactic(auto, unfolding(crate::specs::Entities::parent_fits))]
 fn demand_parent(schema: &Schema, uid: &EntityUid, parent: &EntityUid) -> Result<(), EntityFault>
     ensures { ReadsAs EntityFault.NoMemory (λ u. u) result (parent_fits (schema_view schema.now) uid.now parent.now) }
@@ -24,7 +24,7 @@ fn demand_parent(schema: &Schema, uid: &EntityUid, parent: &EntityUid) -> Result
     Ok(())
 }
 
-/// Demands this of each of them, in their order.
+/// Checks this for each of them, in order.
 fn demand_parents(
     schema: &Schema,
     uid: &EntityUid,
@@ -38,7 +38,7 @@ fn demand_parents(
     Ok(())
 }
 
-/// Returns the parents of an entity, ascending and each once, where it may have each of these.
+/// Returns the parents of an entity, ascending and without duplicates, if it may have each of these.
 #[tactic(auto, unfolding(crate::specs::Entities::parents_in))]
 pub(crate) fn checked_parents(
     schema: &Schema,

@@ -1,4 +1,4 @@
-//! Entities, read by their types.
+//! Entities, parsed by their types.
 ghost use Rattle.std.specs.Prelude.{◌≡◌, option_map};
 ghost use Rattle.serde_json.specs.View.{view};
 ghost use Rattle.json_words.specs.ReadsAs.{ReadsAs, AlwaysReadsAs};
@@ -29,7 +29,7 @@ fn is_action_type(name: &TypeName) -> bool
     text == "Action" || text.as_bytes().ends_with(b"::Action")
 }
 
-/// Returns the attributes that entities of a type have.
+/// Returns the shape of an entity type: the attributes that its entities have.
 #[tactic(auto, unfolding(crate::specs::Entities::shape_of))]
 fn shape_of<'s>(schema: &'s Schema, name: &TypeName) -> Result<&'s CedarType, EntityFault>
     ensures { AlwaysReadsAs (λ t. cedar_view t.now) result (shape_of (schema_view schema.now) name.now) }
@@ -43,7 +43,7 @@ fn shape_of<'s>(schema: &'s Schema, name: &TypeName) -> Result<&'s CedarType, En
     }
 }
 
-/// Returns the record of this type that a value states; where there is none, that of an empty object.
+/// Returns the record of this type that a value states; for an absent value, that of an empty object.
 pub(crate) fn read_fields(
     alloc: Global,
     found: Option<&Value>,
@@ -79,11 +79,21 @@ fn read_attributes(
     read_fields(alloc, value.get("attrs"), shape)
 }
 
-/// Returns the entity that a JSON value states: `{"uid":{"type":"User","id":"alice"},"attrs":{..},"parents":[..]}`.
+/// Parses a JSON value as an entity: `{"uid":{"type":"User","id":"alice"},"attrs":{..},"parents":[..]}`.
 ///
-/// The first fault is told: that the value has not this form; the entity's type is an action's, or not declared; it has
-/// tags; of the attributes, ascending by key, that one is not declared or its value of another type; that a required
-/// one is missing; of the parents, in their order, that one is the entity itself or of a type that it may not have.
+/// # Errors
+///
+/// In this order:
+///
+/// - `BadShape` (30): the value does not have this form.
+/// - `ActionEntity` (32): the type is an action's; `UnknownType` (31): it is not declared.
+/// - `TagsLeftOut` (38): the entity has tags.
+/// - Of the attributes, ascending by key: `Undeclared` (33), it is not declared; `WrongType` (35), its value is of
+///   another type.
+/// - `Missing` (34): a required attribute is missing.
+/// - Of the parents, in order: `SelfParent` (37), it is the entity itself; `BadParent` (36), it is of a type that it
+///   may not have.
+/// - `NoMemory` (1): an allocation failed; possible at any point.
 #[tactic(auto, unfolding(crate::specs::Entities::entity_stated_in))]
 pub fn read_entity(alloc: Global, schema: &Schema, value: &Value) -> Result<Entity, EntityFault>
     ensures { ReadsAs EntityFault.NoMemory (λ e. e) result

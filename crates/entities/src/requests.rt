@@ -1,4 +1,4 @@
-//! Requests, read by the environments of their place.
+//! Requests, parsed by the environments of their action and types.
 ghost use Rattle.std.specs.Prelude.{◌≡◌, ◌≢◌, IfOk, IfErr, option_map};
 ghost use Rattle.serde_json.specs.View.{view};
 ghost use Rattle.json_words.specs.ReadsAs.{ReadsAs};
@@ -23,7 +23,7 @@ use std::alloc::Global;
 use std::cmp::Ordering;
 use values::{EntityUid, Record, Request};
 
-/// Who asks, what for, and of what.
+/// The principal, action and resource of a request.
 #[derive(Drop)]
 pub struct Asked {
     pub principal: EntityUid,
@@ -31,7 +31,7 @@ pub struct Asked {
     pub resource: EntityUid,
 }
 
-/// Returns the entity that what stands at a key names.
+/// Returns the entity that the value at a key names.
 fn read_name_at(alloc: Global, value: &Value, key: &str) -> Result<EntityUid, EntityFault>
     ensures read { IfOk result (NamesAt key.now (view value.now)) }
     ensures refused { IfErr result (λ f. f ≢ EntityFault.NoMemory
@@ -46,7 +46,7 @@ fn read_name_at(alloc: Global, value: &Value, key: &str) -> Result<EntityUid, En
     }
 }
 
-/// Returns what a request asks, where the value has the form of one.
+/// Returns the principal, action and resource of a request, if the value has the form of one.
 #[tactic(auto, using(crate::proofs::RequestLemmas::no_principal, crate::proofs::RequestLemmas::no_action, crate::proofs::RequestLemmas::no_resource, crate::proofs::RequestLemmas::no_context))]
 fn read_asked(alloc: Global, value: &Value) -> Result<Asked, EntityFault>
     ensures read { IfOk result (Asks (view value.now)) }
@@ -66,7 +66,7 @@ fn read_asked(alloc: Global, value: &Value) -> Result<Asked, EntityFault>
     })
 }
 
-/// The place of what is asked.
+/// The environment of a request.
 impl Sought for Asked {
     ghost order = { order_of_asked };
 
@@ -80,7 +80,7 @@ impl Sought for Asked {
     }
 }
 
-/// Returns the type of the context of what is asked, where some environment has its place; takes logarithmic time.
+/// Returns the type of the context of a request, if there is an environment of its action and types. O(log n).
 fn context_of_asked<'s>(schema: &'s Schema, asked: &Asked) -> Option<&'s CedarType>
     ensures { option_map (λ t. cedar_view t.now) result ≡ context_where
         (is_place asked.now.action asked.now.principal.type_name asked.now.resource.type_name)
@@ -89,7 +89,7 @@ fn context_of_asked<'s>(schema: &'s Schema, asked: &Asked) -> Option<&'s CedarTy
     context_of(schema, asked)
 }
 
-/// Returns the context of what is asked.
+/// Returns the context of a request.
 #[tactic(auto, unfolding(crate::specs::Requests::context_asked))]
 fn read_context_of(
     alloc: Global,
@@ -106,11 +106,18 @@ fn read_context_of(
     }
 }
 
-/// Returns the request that a JSON value states:
-/// `{"principal":"User::\"alice\"","action":..,"resource":..,"context":{..}}`.
+/// Parses a JSON value as a request: `{"principal":"User::\"alice\"","action":..,"resource":..,"context":{..}}`.
 ///
-/// The first fault is told: that the value has not this form; that the action is not declared or does not apply to the
-/// two types; of the context, that a member is not declared or of another type, or that a required one is missing.
+/// # Errors
+///
+/// In this order:
+///
+/// - `BadShape` (30): the value does not have this form.
+/// - `NotApplicable` (39): the action is not declared, or does not apply to the two types.
+/// - Of the context's members, ascending by key: `Undeclared` (33), it is not declared; `WrongType` (35), its value
+///   is of another type.
+/// - `Missing` (34): a required member is missing.
+/// - `NoMemory` (1): an allocation failed; possible at any point.
 pub fn read_request(alloc: Global, schema: &Schema, value: &Value) -> Result<Request, EntityFault>
     ensures read { IfOk result (StatesRequest (schema_view schema.now) (view value.now)) }
     ensures refused { IfErr result

@@ -13,7 +13,7 @@ use serde_json::Value;
 use std::alloc::Global;
 use values::EntityUid;
 
-/// The name of an entity and its parents, as its JSON states them.
+/// The uid of an entity and its parents, as its JSON states them.
 #[derive(Drop)]
 pub struct StatedEntity {
     pub uid: EntityUid,
@@ -30,7 +30,7 @@ fn read_uid(alloc: Global, value: &Value) -> Result<EntityUid, EntityFault>
     }
 }
 
-/// Returns the uids that the parents of an entity are.
+/// Returns the uids of the parents of an entity.
 fn parent_uids(alloc: Global, values: &[Value]) -> Result<Items<EntityUid>, EntityFault>
     ensures { ReadsAs EntityFault.NoMemory (λ us. us) result (uids_of (items_view values.now)) }
 {
@@ -53,7 +53,7 @@ fn read_parents(alloc: Global, parents: Option<&Value>) -> Result<Items<EntityUi
     }
 }
 
-/// Returns whether nothing stands there, or an object.
+/// Returns whether the value is absent or an object.
 pub(crate) fn is_absent_or_object(found: Option<&Value>) -> bool
     ensures { result ≡ is_absent_or_object (option_map (λ v. view v.now) found.entry) }
 {
@@ -63,7 +63,7 @@ pub(crate) fn is_absent_or_object(found: Option<&Value>) -> bool
     }
 }
 
-/// Returns whether nothing stands there, or an object with no members.
+/// Returns whether the value is absent or an object without members.
 pub(crate) fn is_absent_or_empty(found: Option<&Value>) -> bool
     ensures { result ≡ is_absent_or_empty (option_map (λ v. view v.now) found.entry) }
 {
@@ -79,7 +79,7 @@ fn has_objects(value: &Value) -> bool
     is_absent_or_object(value.get("attrs")) && is_absent_or_object(value.get("tags"))
 }
 
-/// Returns the name and the parents that an entity's JSON states, where it has the form of an entity.
+/// Returns the uid and the parents that an entity's JSON states, if it has the form of an entity.
 #[tactic(auto, unfolding(crate::specs::Stated::stated_in))]
 pub(crate) fn read_stated(alloc: Global, value: &Value) -> Result<StatedEntity, EntityFault>
     ensures { ReadsAs EntityFault.NoMemory (λ e. e) result (stated_in (view value.now)) }

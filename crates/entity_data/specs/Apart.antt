@@ -1,4 +1,4 @@
--- What is declared as actions is a hierarchy of its own.
+-- Defines that declared actions are a hierarchy of their own.
 -- Source: Cedar reference guide 4.0, "Schema JSON format", `actions` and `memberOf`: the groups that an action is a
 -- member of are actions, and none is above itself: bytes that declare such an action state no schema.
 use Rattle.std.specs.Prelude.{List, [], Contains, Option, Some, None, IsSome}
@@ -7,15 +7,16 @@ use Rattle.evaluator.specs.ancestor_search.Hierarchy.{Parents}
 use Rattle.evaluator.specs.ancestor_search.LeastCycle.{HasNoCycle}
 use Rattle.entity_data.specs.Entities.{Actions}
 
--- the parents of an action; what is no action has none
+-- `stated_parents o` are the parents of an action; an entity that is not an action has none.
 abbrev pub stated_parents : Option (List EntityUid) → List EntityUid
 stated_parents None = []
 stated_parents (Some parents) = parents
 
+-- `edges_of actions` are the edges of the actions.
 abbrev pub edges_of : Actions → Parents
 edges_of actions u = stated_parents (actions u)
 
--- the parents of actions are actions, and no action is above itself
+-- `AreApart actions` holds if the parents of actions are actions, and no action is cyclic.
 pub record AreApart (actions : Actions) : Type 0 where
   pub among : (u parent : EntityUid) → Contains (edges_of actions u) parent → IsSome (actions parent)
   pub acyclic : HasNoCycle (edges_of actions)

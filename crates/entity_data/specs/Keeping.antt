@@ -1,4 +1,4 @@
--- What a store of entities keeps: entries of uids and what is kept under them.
+-- Defines the abstract view of a store of entities: entries of uids and their data.
 use Rattle.std.specs.Prelude.{◌≡◌, List, map, Some, if◌then◌else◌}
 use Rattle.std.specs.Map.{lookup}
 use Rattle.std.specs.BTreeMap.{is_at}
@@ -10,23 +10,26 @@ use Rattle.entity_data.specs.declared.data.EntityData.{EntityData}
 use Rattle.entity_data.specs.Entities.{EntityMap, AreListed}
 use Rattle.entity_data.specs.Listing.{keys_are_found}
 
--- what a store keeps: entries, ascending by their uids
+-- `Entries` are those of a store, ascending by uid.
 abbrev pub Entries : Type 0
 Entries = List (EntityUid × EntityData)
 
+-- `kept_in es` are the data of each uid by the entries `es`.
 abbrev pub kept_in : Entries → EntityMap
 kept_in es u = lookup (is_at (uid_cmp u)) es
 
+-- `uids_in es` are the uids of the entries `es`.
 abbrev pub uids_in : Entries → List EntityUid
 uids_in es = map (λ e. e.0) es
 
+-- `data_of e` are the data of the entity `e`.
 abbrev pub data_of : Entity → EntityData
 data_of e = record { attrs = e.attrs; parents = e.parents }
 
--- one more entity is kept: it under its uid, and under each other what was before
+-- `Puts old new e` holds if the entity `e` was added under its uid, and each other uid keeps its data.
 abbrev pub Puts : EntityMap → EntityMap → Entity → Type 0
 Puts old new e = (q : EntityUid) → new q ≡ (if is_same e.uid q then Some (data_of e) else old q)
 
--- the uids are those under which something is kept
+-- The uids of entries are those that have data.
 pub entries_are_listed : (es : Entries) → AreListed (kept_in es) (uids_in es)
 entries_are_listed es = keys_are_found es

@@ -4,6 +4,6 @@ pub mod Keeping
 pub mod Listing
 pub mod UidSets
 pub mod inner
--- crates below, passed on to those above
+-- Specifications of lower crates, re-exported.
 pub use Rattle.evaluator.specs as evaluator
 pub use Rattle.evaluator.specs.ancestor_search

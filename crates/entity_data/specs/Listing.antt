@@ -1,4 +1,4 @@
--- Each entity with parents is listed, so that a test decides who is above whom.
+-- Defines the proof that each entity with parents is listed, so that a test decides the ancestor relation.
 use Rattle.std.proofs.Common.{◌≡◌, ◌↔◌, List, [], ◌∷◌, ◌++◌, Option, Some, None, Less, Equal, Greater, Bool, true}
 use Rattle.std.proofs.Common.{false, cond, map, refl, sym, subst, inl, inr}
 use Rattle.std.specs.Prelude.{Contains, IsSome, ◌⊎◌}
@@ -16,7 +16,7 @@ use Rattle.entity_data.specs.declared.data.EntityData.{EntityData}
 use Rattle.entity_data.specs.Entities.{EntityMap, AreListed, kept_parents, Actions, AreActions, action_or}
 use Rattle.entity_data.specs.Entities.{with_actions, no_actions, uids_with}
 
--- ---- the keys of entries are what something is found under
+-- ---- the keys of entries are those that have a value
 
 module _ {X : Type 0} where
   abbrev keys_in : List (EntityUid × X) → List EntityUid
@@ -52,7 +52,7 @@ module _ {X : Type 0} where
   pub keys_are_found : (es : List (EntityUid × X)) (u : EntityUid) → Contains (keys_in es) u ↔ IsSome (found_in es u)
   keys_are_found es u = (key_is_found es u, key_from es u)
 
--- ---- uids in order are those that they were made of
+-- ---- a set of uids has the uids that it was made of
 
 put_here : (u : EntityUid) (us : List EntityUid) → Contains (put_uid u us) u
 put_here u [] = Contains-here u []
@@ -128,7 +128,7 @@ module _ (actions : Actions) (declared : List EntityUid) (are : AreActions actio
       (reaches (λ u. kept_parents (with_actions actions entities u)) (uids_with declared us))
   all_decided = decided (λ u. kept_parents (with_actions actions entities u)) (uids_with declared us) all_listed
 
--- ---- none is an action where nothing is declared
+-- ---- nothing is an action if none is declared
 
 pub none_is_an_action : AreActions no_actions []
 none_is_an_action u = ((λ h. Contains-none u h), (λ h. cc h))

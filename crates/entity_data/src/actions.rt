@@ -1,4 +1,4 @@
-//! Actions, as whoever declares them lends them.
+//! Sources of actions.
 ghost use Rattle.std.specs.Prelude.{◌≡◌, [], List, None, option_map};
 ghost use Rattle.values.specs.declared.entity_uid.EntityUid.{EntityUid};
 ghost use Rattle.evaluator.specs.ancestor_search.Hierarchy.{IsAscending};
@@ -8,7 +8,7 @@ ghost use Rattle.entity_data.specs.Listing.{none_is_an_action};
 
 use values::EntityUid;
 
-/// Whoever declares actions, each with those above it.
+/// A source of actions, each with its ancestors.
 pub trait ActionSource {
     /// The parents of each action.
     ghost declared: { Self → Actions };
@@ -16,17 +16,17 @@ pub trait ActionSource {
     /// The uids of the actions.
     ghost uids: { Self → List EntityUid };
 
-    /// Lends the uids of the actions, ascending. Takes no memory.
+    /// Returns the uids of the actions, in ascending order. Does not allocate.
     fn actions(&self) -> &[EntityUid]
         ensures all { AreActions (declared self.now) result.now }
         ensures ascending { IsAscending result.now };
 
-    /// Lends the parents of an action, or None exactly where it is not declared. Takes no memory.
+    /// Returns the parents of an action, or `None` if and only if it is not declared. Does not allocate.
     fn ancestors_of(&self, uid: &EntityUid) -> Option<&[EntityUid]>
         ensures { option_map (λ us. us.now) result ≡ declared self.now uid.now };
 
-    /// Proves that the parents of actions are actions and that none is above itself, so that no cycle goes through an
-    /// action. It does nothing.
+    /// Proves that the parents of actions are actions and that no action is its own ancestor, so that no cycle
+    /// contains an action. No-op.
     fn are_apart(&self)
         ensures { AreApart (declared self.now) };
 
@@ -34,7 +34,7 @@ pub trait ActionSource {
     ghost listed: { (s : Self) → AreActions (declared s) (uids s) };
 }
 
-/// Nothing is declared, so that no entity is an action.
+/// The empty source, with no actions.
 #[derive(Clone, Copy)]
 pub struct NoActions;
 

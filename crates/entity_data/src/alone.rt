@@ -1,5 +1,4 @@
-//! The entities that are kept, as the search for cycles looks at them: no cycle goes through an action, so that none is
-//! walked.
+//! The stored entities, as the search for cycles sees them: no cycle contains an action, so none is visited.
 ghost use Rattle.entity_data.specs.inner.EntityEdges.{entity_edges, edges_are_listed};
 
 use crate::actions::ActionSource;
@@ -9,7 +8,7 @@ use plain::NoMemory;
 use std::alloc::Global;
 use values::EntityUid;
 
-/// The entities of a source with the edges that lead from them; no edge leads from what is declared as an action.
+/// The entities of a source with their outgoing edges; declared actions have none.
 #[derive(Drop)]
 pub(crate) struct Alone<'a, S: EntitySource, A: ActionSource + Drop> {
     pub(crate) source: &'a S,

@@ -1,4 +1,4 @@
-//! What is kept of an entity (cedar-spec, cedar-lean/Cedar/Spec/Entities.lean, `EntityData`).
+//! The data of a stored entity (cedar-spec, cedar-lean/Cedar/Spec/Entities.lean, `EntityData`).
 
 use plain::Items;
 use values::{EntityUid, Record};

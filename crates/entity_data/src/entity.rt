@@ -3,7 +3,7 @@
 use plain::Items;
 use values::{EntityUid, Record};
 
-/// An entity with its attributes and its parents, which ascend, each once, where it was read under a schema.
+/// An entity with its attributes and its parents. Parsed under a schema, its parents ascend without duplicates.
 #[derive(Drop)]
 pub struct Entity {
     pub uid: EntityUid,

@@ -1,7 +1,6 @@
-//! Entities, kept once for all who ask: evaluation, decisions and whoever asks who is above whom.
+//! Entity data, stored once for evaluation, decisions and queries of ancestors.
 //!
-//! Whoever keeps entities lends them by one small trait, and whoever declares actions lends these by another, so that
-//! nothing here stands on schemas.
+//! Sources of entities and of actions implement one small trait each, so that nothing here depends on schemas.
 #![tactic(auto)]
 
 mod actions;

@@ -1,4 +1,4 @@
-//! Entities, as whoever keeps them lends them.
+//! Sources of entities.
 ghost use Rattle.std.specs.Prelude.{◌≡◌, List, IfOk, option_map};
 ghost use Rattle.values.specs.declared.entity_uid.EntityUid.{EntityUid};
 ghost use Rattle.evaluator.specs.ancestor_search.Hierarchy.{IsAscending, names};
@@ -8,27 +8,27 @@ use plain::NoMemory;
 use std::alloc::Global;
 use values::{EntityUid, Record};
 
-/// Whoever keeps entities, each with its attributes and its parents.
+/// A source of entities, each with its attributes and its parents.
 pub trait EntitySource {
-    /// What is kept under each uid.
+    /// The data of each uid.
     ghost kept: { Self → EntityMap };
 
-    /// The uids under which something is kept.
+    /// The uids that have data.
     ghost uids: { Self → List EntityUid };
 
-    /// Lends the attributes of an entity, or None exactly where it is not kept; takes no memory.
+    /// Returns the attributes of an entity, or `None` if and only if it is not stored. Does not allocate.
     fn attrs_at(&self, uid: &EntityUid) -> Option<&Record>
         ensures { option_map (λ r. r.now) result ≡ attributes_of (kept self.now uid.now) };
 
-    /// Lends the parents of an entity; an empty slice where it is not kept. Takes no memory.
+    /// Returns the parents of an entity; an empty slice if it is not stored. Does not allocate.
     fn parents_at(&self, uid: &EntityUid) -> &[EntityUid]
         ensures { result.now ≡ kept_parents (kept self.now uid.now) };
 
-    /// Lists the uids of the entities that are kept, ascending.
+    /// Returns the uids of the stored entities, in ascending order.
     fn kept_uids(&self, alloc: Global) -> Result<Vec<&EntityUid>, NoMemory>
         ensures all { IfOk result (λ found. names found.items ≡ uids self.now) }
         ensures ascending { IfOk result (λ found. IsAscending (names found.items)) };
 
-    /// The listed uids are those under which something is kept.
+    /// The listed uids are those that have data.
     ghost listed: { (s : Self) → AreListed (kept s) (uids s) };
 }

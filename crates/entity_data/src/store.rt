@@ -1,4 +1,4 @@
-//! Entities in a map by their uids.
+//! A map of entities by their uids.
 ghost use Rattle.std.specs.Prelude.{◌≡◌, [], IfOk, OnErr, IsTrue, not, false, is_some};
 ghost use Rattle.entity_data.specs.Keeping.{kept_in, uids_in, Puts, entries_are_listed};
 
@@ -12,8 +12,8 @@ use std::collections::btree_map::Entry;
 use std::marker::Model;
 use values::{EntityUid, Record};
 
-/// Entities, each kept once under its uid. Contracts see the entries, ascending by uid, and speak of what is kept under
-/// each uid: `kept_in`.
+/// Entities, each stored once by its uid. Contracts see the entries, ascending by uid; `kept_in` is the data of each
+/// uid.
 #[derive(Drop)]
 pub struct EntityStore {
     entries: BTreeMap<EntityUid, EntityData>,
@@ -32,7 +32,7 @@ impl Model for EntityStore {
 }
 
 impl EntityStore {
-    /// Returns a store without entities. Takes no memory.
+    /// Creates an empty store. Does not allocate.
     pub fn new(alloc: Global) -> Self
         ensures { result ≡ [] }
     {
@@ -41,8 +41,8 @@ impl EntityStore {
         }
     }
 
-    /// Keeps one more entity, in logarithmic time, and tells whether it is the first of its uid: where one is kept
-    /// under that uid, or memory is refused, nothing changes.
+    /// Adds an entity, and returns whether it is the first of its uid. If there is one, or an allocation fails, the
+    /// store is unchanged. O(log n).
     pub fn put(&mut self, entity: Entity) -> Result<bool, NoMemory>
         ensures first { IfOk result (λ first. is_some (kept_in self.old entity.uid) ≡ not first) }
         ensures puts { IfOk result (λ first. IsTrue first → Puts (kept_in self.old) (kept_in self.new) entity) }

@@ -9,7 +9,7 @@ use evaluator::ascending_lists_are_one;
 use plain::NoMemory;
 use values::{EntityUid, entity_uids_are_ordered};
 
-/// These uids and those, ascending, each once.
+/// Returns both lists of uids together, ascending and without duplicates.
 fn together<'a>(
     some: Vec<&'a EntityUid>,
     others: &'a [EntityUid],
@@ -28,7 +28,7 @@ fn together<'a>(
     Ok(all)
 }
 
-/// Returns the uids of entities, ascending, with those of actions.
+/// Returns the uids of entities together with those of actions, in ascending order.
 pub(crate) fn with_actions<'a, A: ActionSource>(
     kept: Vec<&'a EntityUid>,
     actions: &'a A,

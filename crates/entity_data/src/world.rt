@@ -1,4 +1,4 @@
-//! The entities that requests are decided over.
+//! The entity data of a decision.
 ghost use Rattle.std.specs.Prelude.{◌≡◌, Option, Some, None, option_map};
 ghost use Rattle.evaluator.specs.ancestor_search.Decided.{reaches};
 ghost use Rattle.entity_data.specs.Entities.{with_actions, uids_with, attributes_of, kept_parents};
@@ -16,13 +16,13 @@ use std::alloc::Global;
 use std::marker::Model;
 use values::{EntityUid, Record};
 
-/// The entities of a source and the actions that are declared, which have no attributes.
+/// The entities of a source and the declared actions, which have no attributes.
 ///
-/// Contracts see the source and the actions, and speak of the entities that these say: `with_actions`.
+/// Contracts see the source and the actions; `with_actions` defines the entities of both.
 #[derive(Drop)]
 pub struct World<'a, S: EntitySource, A: ActionSource + Drop> {
     alloc: Global,
-    /// The source and the actions, as the search for cycles looks at them.
+    /// The source and the actions, as the search for cycles sees them.
     alone: Alone<'a, S, A>,
     /// The attributes of an action: none.
     nothing: Record,
@@ -39,7 +39,7 @@ impl<'a, S: EntitySource, A: ActionSource + Drop> Model for World<'a, S, A> {
 }
 
 impl<'a, S: EntitySource, A: ActionSource + Drop> World<'a, S, A> {
-    /// Returns the entities of a source, and these actions. Takes no memory.
+    /// Creates the entity data of a source and these actions. Does not allocate.
     pub fn new(alloc: Global, source: &'a S, actions: A) -> Self
         ensures { result ≡ (source.now, actions) }
     {
@@ -50,7 +50,7 @@ impl<'a, S: EntitySource, A: ActionSource + Drop> World<'a, S, A> {
         }
     }
 
-    /// The parents of an action; None where it is not declared.
+    /// Returns the parents of an action; `None` if it is not declared.
     fn action(&self, uid: &EntityUid) -> Option<&[EntityUid]>
         ensures { option_map (λ us. us.now) result ≡ A.declared self.now.1 uid.now }
     {

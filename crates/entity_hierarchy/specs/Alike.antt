@@ -1,4 +1,4 @@
--- Worlds with the same entities, in which the same stand above one another, are alike to whoever asks.
+-- Defines when two worlds, with the same entities and the same ancestor relation, cannot be distinguished.
 use Rattle.std.specs.Prelude.{◌↔◌, List}
 use Rattle.values.specs.declared.entity_uid.EntityUid.{EntityUid}
 use Rattle.values.specs.declared.request.Request.{Request}
@@ -11,19 +11,19 @@ use Rattle.authoriser.specs.evaluator.Evaluation.{EvaluatesTo}
 use Rattle.authoriser.specs.declared.answer.Answer.{Answer}
 use Rattle.authoriser.specs.Answers.{NamedPolicy, IsAnswer}
 
--- the same entities are above one another, and so the same are on cycles
+-- `LeadAlike parents others` holds if the ancestor relation is the same, and so the cyclic entities are.
 abbrev pub LeadAlike : Parents → Parents → Type 0
 LeadAlike parents others = (a b : EntityUid) → IsAncestor parents a b ↔ IsAncestor others a b
 
--- the same walks are closed: the cycles are the same, edge by edge
+-- `HaveSameCycles parents others` holds if the closed walks are the same, edge by edge.
 abbrev pub HaveSameCycles : Parents → Parents → Type 0
 HaveSameCycles parents others = (walk : List EntityUid) → IsClosedWalk parents walk ↔ IsClosedWalk others walk
 
--- each expression gives the same
+-- `GiveAlike W V` holds if each expression has the same outcome.
 abbrev pub GiveAlike : World → World → Type 0
 GiveAlike W V = (q : Request) (x : Expr) (r : EvaluationResult) → EvaluatesTo W q x r ↔ EvaluatesTo V q x r
 
--- each request has the same answer, over whichever policies
+-- `AnswerAlike W V` holds if each request has the same answer, over any policies.
 abbrev pub AnswerAlike : World → World → Type 0
 AnswerAlike W V = (q : Request) (policies : List NamedPolicy) (a : Answer)
     → IsAnswer W q policies a ↔ IsAnswer V q policies a

@@ -1,7 +1,7 @@
 pub mod Alike
 pub mod Entities
 pub mod Laws
--- crates below, passed on to those above
+-- Specifications of lower crates, re-exported.
 pub use Rattle.authoriser.specs as authoriser
 pub use Rattle.authoriser.specs.ancestor_search
 pub use Rattle.authoriser.specs.evaluator

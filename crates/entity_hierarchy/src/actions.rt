@@ -25,7 +25,7 @@ impl<'a> Model for SchemaActions<'a> {
 }
 
 impl<'a> SchemaActions<'a> {
-    /// Those of this schema. Takes no memory.
+    /// Returns the actions of this schema. Does not allocate.
     pub fn of(schema: &'a Schema) -> Self
         ensures { result ≡ schema.now }
     {

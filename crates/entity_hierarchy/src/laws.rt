@@ -1,21 +1,23 @@
-//! Laws of the definitions; the functions do nothing.
+//! Theorems about the definitions. The functions are no-ops.
 ghost use Rattle.entity_hierarchy.specs.Laws.{ReachDecides, MemberOfIsKept, MemberOfLeadsAlike, MemberOfGivesAlike};
 ghost use Rattle.entity_hierarchy.specs.Laws.{MemberOfAnswersAlike, MemberOfPutsAlike, NoEntityIsAnAction};
 
 use entities::{action_types_are_told, stated_schemas_are_well_formed};
 
-/// Proves that what expressions give follows from the attributes of the entities and from who is above whom, whichever
-/// edges lead there; and what is answered too, where no entity is on a cycle. Where one is, the answer names a cycle,
-/// and so the edges of the cycles have to be the same.
+/// Proves that outcomes depend only on the attributes of the entities and on the ancestor relation. No-op.
+///
+/// Whichever edges give this relation, each expression has the same outcome; and each request has the same answer if
+/// no entity is cyclic. If one is, the answer names a cycle, so the edges of the cycles must be the same too.
 pub fn reach_decides()
     ensures { ReachDecides }
 {}
 
-/// Proves that an action has the parents that its `memberOf` states, and may have all that is above it as its parents:
-/// the same entities are above one another and on cycles, each expression gives the same, and each request has the same
-/// answer.
-/// No cycle goes through an action, whatever entities are kept. An entity that is put, under whatever uid and with
-/// whatever parents, is then on a cycle over the one exactly where it is over the other.
+/// Proves that an action has the parents that its `memberOf` states, and that all its ancestors could be its parents
+/// instead. No-op.
+///
+/// The ancestor relation and the cyclic entities would be the same, each expression would have the same outcome, and
+/// each request the same answer. No cycle contains an action, whatever entities are stored. An entity that is put,
+/// under whatever uid and with whatever parents, is then cyclic with the one if and only if it is with the other.
 pub fn actions_may_be_closed()
     ensures kept { MemberOfIsKept }
     ensures alike { MemberOfLeadsAlike }
@@ -26,7 +28,8 @@ pub fn actions_may_be_closed()
     stated_schemas_are_well_formed();
 }
 
-/// Proves that an entity that is read under a schema is none of its actions, whose types alone end in `Action`.
+/// Proves that an entity that is parsed under a schema is not one of its actions, since only action types end in
+/// `Action`. No-op.
 pub fn entities_are_no_actions()
     ensures { NoEntityIsAnAction }
 {

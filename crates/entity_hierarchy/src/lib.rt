@@ -1,6 +1,6 @@
-//! Entities under a schema: its actions stand beside those that are kept.
+//! Entity data under a schema: the stored entities and the schema's actions.
 //!
-//! Whoever keeps entities lends them by one small trait (`entity_data`); here a schema lends its actions.
+//! A store of entities implements one small trait (`entity_data`); here a schema provides its actions.
 #![tactic(auto)]
 
 mod actions;

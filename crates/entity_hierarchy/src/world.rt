@@ -1,4 +1,4 @@
-//! The entities that requests are decided over under a schema.
+//! The entity data of a decision under a schema.
 ghost use Rattle.std.specs.Prelude.{◌≡◌};
 
 use crate::actions::SchemaActions;
@@ -7,10 +7,10 @@ use std::alloc::Global;
 
 /// The entities of a source, and the actions of a schema.
 ///
-/// Contracts see the source and the schema, and speak of the entities that these say: `entities_under`.
+/// Contracts see the source and the schema; `entities_under` defines the entities of both.
 pub type World<'a, S> = entities::World<'a, S, SchemaActions<'a>>;
 
-/// Returns the entities of a source, and the actions of this schema. Takes no memory.
+/// Creates the entity data of a source and the actions of this schema. Does not allocate.
 pub fn world_under<'a, S: EntitySource>(
     alloc: Global,
     source: &'a S,

@@ -1,7 +1,7 @@
--- Defines which JSON states which entity, and why JSON states none.
+-- Defines which JSON states which entity, and the error of JSON that states none.
 -- Source: Cedar reference guide 4.0, "Entities and context: JSON format".
 -- Rules of this product: absent `attrs`, `parents` and `tags` are empty, and null is not absent; other keys are
--- ignored; no entity is an action, has tags, or is its own parent; the order of the faults.
+-- ignored; no entity is an action, has tags, or is its own parent; the order of the errors.
 use Rattle.std.specs.Prelude.{◌≡◌, ◌↔◌, ℕ, List, [], ◌∷◌, Some, None, Contains, IsTrue, codes}
 use Rattle.std.specs.List.{AllZip}
 use Rattle.serde_json.specs.Data.{Data, Items, Members, no_members, array, object}
@@ -49,10 +49,10 @@ pub record HasForm (d : Data) (uid : EntityUid) (parents : List EntityUid) (attr
   pub has_tags : ObjectAt (codes "tags") d tags
   pub has_parents : ParentsAt d parents
 
--- ---- what the schema says
+-- ---- by the schema
 
--- `HasShape s name shape` holds if `name` is an entity type of the schema `s` with the shape `shape`, and not the
--- type of an action.
+-- `HasShape s name shape` holds if `name` is an entity type of the schema `s` with the shape `shape`, and not an
+-- action type.
 pub record HasShape (s : StatedSchema) (name : List ℕ) (shape : Cedar) : Type 0 where
   pub no_action : IsActionType name → ⊥
   pub declared : s.shape name ≡ Some shape
@@ -65,7 +65,7 @@ pub record MayHaveParent (s : StatedSchema) (uid parent : EntityUid) : Type 0 wh
 
 -- `StatesEntity s d e` holds if `d` states the entity `e` under the schema `s`: it has the form of one, without tags;
 -- the type of `e` is declared; the attributes are the record that they state by its shape; and the parents are those
--- that it lists, each of which it may have, in ascending order, each once.
+-- that it lists, each of which it may have, in ascending order, without duplicates.
 pub record StatesEntity (s : StatedSchema) (d : Data) (e : Entity) : Type 0 where
   pub listed : List EntityUid
   pub attributes : Members
@@ -77,10 +77,10 @@ pub record StatesEntity (s : StatedSchema) (d : Data) (e : Entity) : Type 0 wher
   pub ascend : IsAscending e.parents
   pub same : (parent : EntityUid) → Contains e.parents parent ↔ Contains listed parent
 
--- ---- what states no entity
+-- ---- JSON that states no entity
 
--- `RefusesParents s uid parents fault` holds if `fault` tells why `uid` may not have one of `parents`, the first of
--- those at fault.
+-- `RefusesParents s uid parents fault` holds if `fault` is the error of the first of `parents` that `uid` may not
+-- have.
 pub data RefusesParents (s : StatedSchema) (uid : EntityUid) : List EntityUid → EntityFault → Type 0 where
   self_parent : (parent : EntityUid) (more : List EntityUid) → parent ≡ uid
       → RefusesParents s uid (parent ∷ more) SelfParent
@@ -90,14 +90,15 @@ pub data RefusesParents (s : StatedSchema) (uid : EntityUid) : List EntityUid �
   later_parent : (parent : EntityUid) (more : List EntityUid) (fault : EntityFault) → MayHaveParent s uid parent
       → RefusesParents s uid more fault → RefusesParents s uid (parent ∷ more) fault
 
--- `IsToldAs f fault` holds if the fault `f` of a record is the fault `fault` of an entity, a context or a request.
+-- `IsToldAs f fault` holds if the error `f` of a record is the error `fault` of an entity, a context or a request.
 pub data IsToldAs : ValueFault → EntityFault → Type 0 where
   as_undeclared : IsToldAs value.Undeclared Undeclared
   as_wrong_type : IsToldAs value.WrongType WrongType
   as_missing : IsToldAs value.Missing Missing
 
--- `RefusesEntity s d fault` holds if `d` states no entity under the schema `s`, and `fault` is the first cause, in
--- this order: its form, its type (an action's before an undeclared one), its tags, its attributes, and its parents.
+-- `RefusesEntity s d fault` holds if `d` states no entity under the schema `s`, and `fault` is the first error, in
+-- this order: its form, its type (an action type before an undeclared one), its tags, its attributes, and its
+-- parents.
 pub data RefusesEntity (s : StatedSchema) (d : Data) : EntityFault → Type 0 where
   bad_shape : ((uid : EntityUid) (listed : List EntityUid) (attributes tags : Members)
       → HasForm d uid listed attributes tags → ⊥) → RefusesEntity s d BadShape

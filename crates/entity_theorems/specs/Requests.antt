@@ -1,7 +1,7 @@
--- Defines which JSON states which context and which request, and why JSON states none.
+-- Defines which JSON states which context and which request, and the error of JSON that states none.
 -- Source: Cedar reference guide 4.0, "Authorization request".
--- Rules of this product: principal, action and resource are each a uid as an entity's, or its text; an absent context
--- is empty, and null is not absent; other keys are ignored; the order of the faults.
+-- Rules of this product: principal, action and resource are each a uid as an entity's, or its string; an absent
+-- context is empty, and null is not absent; other keys are ignored; the order of the errors.
 use Rattle.std.specs.Prelude.{◌≡◌, List, ◌∷◌, codes}
 use Rattle.serde_json.specs.Data.{Data, Members, object}
 use Rattle.values.specs.Fields.{Field}
@@ -48,7 +48,7 @@ pub record ReadsContext (IsPlace : Place → Type 0) (s : StatedSchema) (ms : Me
   pub reads : Reads shape (object ms) (record_of (fields_of fields))
 
 -- `FailsContext IsPlace s ms fault` holds if the object with the members `ms` states none, and `fault` is the first
--- cause: no environment has such a place, or the object is no record of the context's type.
+-- error: no environment has such a place, or the object is not a record of the context's type.
 pub data FailsContext (IsPlace : Place → Type 0) (s : StatedSchema) (ms : Members) : EntityFault → Type 0 where
   not_applicable : ((t : Cedar) → HasContext IsPlace s.environments t → ⊥) → FailsContext IsPlace s ms NotApplicable
   bad_fields : (t : Cedar) (f : ValueFault) (fault : EntityFault) → HasContext IsPlace s.environments t
@@ -61,7 +61,7 @@ pub record StatesContext (s : StatedSchema) (action : EntityUid) (d : Data) (fie
   pub reads : ReadsContext (IsOfAction action) s members fields
 
 -- `RefusesContext s action d fault` holds if `d` states no context of `action` under `s`, and `fault` is the first
--- cause.
+-- error.
 pub data RefusesContext (s : StatedSchema) (action : EntityUid) (d : Data) : EntityFault → Type 0 where
   other_json : ((ms : Members) → d ≡ object ms → ⊥) → RefusesContext s action d BadShape
   bad_context : (ms : Members) (fault : EntityFault) → d ≡ object ms → FailsContext (IsOfAction action) s ms fault
@@ -69,8 +69,8 @@ pub data RefusesContext (s : StatedSchema) (action : EntityUid) (d : Data) : Ent
 
 -- ---- requests
 
--- `Asks d asked ms` holds if `d` has the form of a request: it names who asks, what for and of what as `asked` has it,
--- and its context is absent or an object, with the members `ms`.
+-- `Asks d asked ms` holds if `d` has the form of a request: it names the principal, the action and the resource
+-- `asked`, and its context is absent or an object, with the members `ms`.
 pub record Asks (d : Data) (asked : Asked) (ms : Members) : Type 0 where
   pub principal : NamesAt (codes "principal") d asked.principal
   pub action : NamesAt (codes "action") d asked.action
@@ -84,7 +84,7 @@ pub record DescribesRequest (s : StatedSchema) (d : Data) (q : Request) : Type 0
   pub asks : Asks d (asked_by q) members
   pub reads : ReadsContext (AppliesTo (asked_by q)) s members q.context
 
--- `RefusesRequest s d fault` holds if `d` states no request under `s`, and `fault` is the first cause: its form, that
+-- `RefusesRequest s d fault` holds if `d` states no request under `s`, and `fault` is the first error: its form, that
 -- the action does not apply, and its context.
 pub data RefusesRequest (s : StatedSchema) (d : Data) : EntityFault → Type 0 where
   no_request : ((asked : Asked) (ms : Members) → Asks d asked ms → ⊥) → RefusesRequest s d BadShape

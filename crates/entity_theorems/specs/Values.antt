@@ -1,7 +1,7 @@
--- Defines which JSON states which value of a type, and why JSON states no record.
+-- Defines which JSON states which value of a type, and the error of JSON that states no record.
 -- Source: Cedar reference guide 4.0, "Entities and context: JSON format".
--- Rules of this product: an extension value is `{"__extn":{"fn":F,"arg":A}}`, `{"fn":F,"arg":A}` or the text A alone;
--- an object that stands for an entity or an extension value has no other keys; null states no value.
+-- Rules of this product: an extension value is `{"__extn":{"fn":F,"arg":A}}`, `{"fn":F,"arg":A}` or the string A
+-- alone; an object that stands for an entity or an extension value has no other keys; null states no value.
 use Rattle.std.specs.Prelude.{◌≡◌, ℕ, ℤ, List, [], ◌∷◌, Bool, true, Some, None, FitsSigned, codes}
 use Rattle.std.specs.Int.{w64}
 use Rattle.serde_json.specs.Data.{Num, Data, Items, no_items, item, Members, no_members, member}
@@ -23,7 +23,7 @@ use Rattle.entity_values.specs.declared.fault.ValueFault.TheVariants.{WrongType,
 use Rattle.entities.specs.schema_types.Cedar as type
 use Rattle.entities.specs.schema_types.Cedar.{Cedar, CedarFields}
 
--- ---- what a record type declares
+-- ---- declarations of a record type
 
 -- `Declares fields key t` holds if the first of `fields` with the key `key` has the type `t`. (A schema's keys differ.)
 pub data Declares : CedarFields → List ℕ → Cedar → Type 0 where
@@ -56,7 +56,8 @@ pub record IsCall (name : List ℕ) (d : Data) (argument : List ℕ) : Type 0 wh
   pub called : text_at (codes "fn") d ≡ Some name
   pub given : text_at (codes "arg") d ≡ Some argument
 
--- `IsArgument name d argument` holds if `d` is the text `argument`, a call of `name` with it, or that under `__extn`.
+-- `IsArgument name d argument` holds if `d` is the string `argument`, a call of `name` with it, or that under
+-- `__extn`.
 pub data IsArgument (name : List ℕ) : Data → List ℕ → Type 0 where
   bare_text : (argument : List ℕ) → IsArgument name (json.string argument) argument
   call : (d : Data) (argument : List ℕ) → get (codes "__extn") d ≡ None → IsCall name d argument
@@ -84,24 +85,24 @@ mutual
     ipaddr : (d : Data) (argument : List ℕ) (n : Network) → IsArgument (codes "ip") d argument
         → IsNetworkText argument n → Reads type.ipaddr d (value.ipaddr n)
 
-  -- `ReadItems t ds vs` holds if the items `ds` of an array state the values `vs` of the type `t`, place by place.
+  -- `ReadItems t ds vs` holds if the items `ds` of an array state the values `vs` of the type `t`, index by index.
   pub data ReadItems : Cedar → Items → List PlainValue → Type 0 where
     empty_array : (t : Cedar) → ReadItems t no_items []
     next_item : (t : Cedar) (d : Data) (ds : Items) (v : PlainValue) (vs : List PlainValue) → Reads t d v
         → ReadItems t ds vs → ReadItems t (item d ds) (v ∷ vs)
 
   -- `ReadMembers fields ms stated` holds if each key of `ms` is declared in `fields` and has a value of its type, and
-  -- `stated` lists these keys and values in their order.
+  -- `stated` lists these keys and values in order.
   pub data ReadMembers : CedarFields → Members → List Field → Type 0 where
     empty_object : (fields : CedarFields) → ReadMembers fields no_members []
     next_member : (fields : CedarFields) (key : List ℕ) (d : Data) (ms : Members) (t : Cedar) (v : PlainValue)
         (stated : List Field) → Declares fields key t → Reads t d v → ReadMembers fields ms stated
         → ReadMembers fields (member key d ms) ((key, v) ∷ stated)
 
--- ---- what is no record of a type
+-- ---- objects that are not a record of a type
 
--- `FaultyMember fields ms fault` holds if `fault` tells what is wrong with the first of `ms` that is at fault, by key:
--- its key is not declared in `fields`, or its JSON states no value of the type declared for it.
+-- `FaultyMember fields ms fault` holds if `fault` is the error of the first faulty member of `ms`, by key: its key is
+-- not declared in `fields`, or its JSON states no value of the type declared for it.
 pub data FaultyMember (fields : CedarFields) : Members → ValueFault → Type 0 where
   undeclared : (key : List ℕ) (d : Data) (ms : Members) → ((t : Cedar) → Declares fields key t → ⊥)
       → FaultyMember fields (member key d ms) Undeclared
@@ -115,8 +116,8 @@ pub data FaultyMember (fields : CedarFields) : Members → ValueFault → Type 0
 abbrev pub LacksRequired : CedarFields → Members → Type 0
 LacksRequired fields ms = (key : List ℕ) × Requires fields key × (HasKey ms key → ⊥)
 
--- `RefusesRecord t ms fault` holds if the object with the members `ms` states no record of the type `t` for `fault`:
--- what is wrong with a member is told before a missing key. Nothing is a record of a type that is no record type.
+-- `RefusesRecord t ms fault` holds if the object with the members `ms` states no record of the type `t`, with the
+-- error `fault`: an error of a member comes before a missing key. A type that is not a record type has no records.
 pub data RefusesRecord : Cedar → Members → ValueFault → Type 0 where
   no_record : (t : Cedar) (ms : Members) → ((fields : CedarFields) → t ≡ type.record_of fields → ⊥)
       → RefusesRecord t ms WrongType

@@ -1,4 +1,4 @@
-//! Theorems; the functions do nothing.
+//! Theorems. The functions are no-ops.
 ghost use Rattle.entity_theorems.specs.Laws.{ValuesAreRead, OneValue, OtherJsonIsOfWrongType};
 ghost use Rattle.entity_theorems.specs.Laws.{RecordsAreRead, RecordsAreRefused};
 ghost use Rattle.entity_theorems.specs.Laws.{EntitiesAreRead, EntitiesHaveOneOutcome};
@@ -9,9 +9,10 @@ use entities::{action_types_are_told, requests_have_one_outcome};
 use entity_data::ascending_lists_are_one;
 use entity_values::names_read_back;
 
-/// Proves that reading by a type gives the value that JSON states, which is one at most, and WrongType for JSON that
-/// states none; and that reading a record gives the fields that an object states, or the first cause for which it
-/// states none. No-op.
+/// Proves that parsing by a type gives the value that JSON states, or the error if it states none. No-op.
+///
+/// JSON states at most one value of a type; if it states none, the error is `WrongType`. Parsing a record gives the
+/// fields that an object states, or the first error.
 pub fn values_are_read_as_stated()
     ensures values { ValuesAreRead }
     ensures one { OneValue }
@@ -22,8 +23,9 @@ pub fn values_are_read_as_stated()
     names_read_back();
 }
 
-/// Proves that reading an entity under a schema gives the entity that JSON states, or the first cause for which it
-/// states none; and that JSON states exactly one entity or is refused for exactly one cause, never both. No-op.
+/// Proves that parsing an entity under a schema gives the entity that JSON states, or the first error. No-op.
+///
+/// JSON states exactly one entity or is rejected with exactly one error, never both.
 pub fn entities_are_read_as_stated()
     ensures read { EntitiesAreRead }
     ensures one { EntitiesHaveOneOutcome }
@@ -33,9 +35,10 @@ pub fn entities_are_read_as_stated()
     ascending_lists_are_one();
 }
 
-/// Proves that reading the context of an action under a schema gives the context that JSON states, or the first cause
-/// for which it states none; and that JSON states exactly one context or is refused for exactly one cause, never both.
-/// No-op.
+/// Proves that parsing the context of an action under a schema gives the context that JSON states, or the first
+/// error. No-op.
+///
+/// JSON states exactly one context or is rejected with exactly one error, never both.
 pub fn contexts_are_read_as_stated()
     ensures read { ContextsAreRead }
     ensures one { ContextsHaveOneOutcome }
@@ -43,8 +46,9 @@ pub fn contexts_are_read_as_stated()
     names_read_back();
 }
 
-/// Proves that reading a request under a schema gives the request that JSON states, or the first cause for which it
-/// states none; and that JSON states exactly one request or is refused for exactly one cause, never both. No-op.
+/// Proves that parsing a request under a schema gives the request that JSON states, or the first error. No-op.
+///
+/// JSON states exactly one request or is rejected with exactly one error, never both.
 pub fn requests_are_read_as_stated()
     ensures read { RequestsAreRead }
     ensures one { RequestsHaveOneOutcome }

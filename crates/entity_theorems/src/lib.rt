@@ -1,6 +1,6 @@
-//! What JSON states under a schema, as relations that a reader can hold against the Cedar reference guide: which JSON
-//! is which value of a type, which entity, context and request, and why other JSON is refused. The functions that
-//! contracts of readers cite agree with these relations. The crate has theorems, and no code.
+//! Relations between JSON and what it states under a schema, to compare with the Cedar reference guide: which JSON is
+//! which value of a type, which entity, context and request, and the error of other JSON. The functions that the
+//! contracts of readers cite agree with these relations. The crate has only theorems.
 #![tactic(auto)]
 
 mod laws;

@@ -1,5 +1,5 @@
 pub mod Laws
 pub mod Tokens
 pub mod Uids
--- crates below, passed on to those above
+-- Specifications of lower crates, re-exported.
 pub use Rattle.policy_grammar.specs as policy_grammar

@@ -1,6 +1,7 @@
--- The name of an entity as JSON.
+-- Defines the name of an entity as JSON.
 -- Source: Cedar reference guide 4.0, "Entities and context: JSON format": a uid is {"type", "id"}, or that under
--- `__entity`. Rule of this product: neither object has another key.
+-- `__entity`.
+-- Rules of this product: neither object has another key.
 use Rattle.std.specs.Prelude.{◌≡◌, true, ℕ, List, [], ◌∷◌, Option, Some, None, MatchOption, if◌then◌else◌, codes}
 use Rattle.serde_json.specs.Data.{Data, string, object, no_members, member}
 use Rattle.serde_json.specs.Find.{get, as_str}
@@ -11,65 +12,70 @@ use Rattle.values.specs.Paths.{is_path}
 use Rattle.policy_grammar.specs.PolicyText.{IsUidText}
 use Rattle.values.specs.declared.entity_uid.EntityUid.{EntityUid}
 
--- {"type": the name of a type, "id": any text}
+-- `IsPlainUid d uid` holds if `d` is {"type": the name of a type, "id": any string}, of this uid.
 pub record IsPlainUid (d : Data) (uid : EntityUid) : Type 0 where
   pub alone : has_only (codes "type" ∷ codes "id" ∷ []) d ≡ true
   pub type_name : text_at (codes "type") d ≡ Some uid.type_name
   pub path : IsPath uid.type_name
   pub id : text_at (codes "id") d ≡ Some uid.id
 
--- that, as the one member `__entity` of an object
+-- `IsUnderEntity d inner uid` holds if `d` has such an object as its one member `__entity`.
 pub record IsUnderEntity (d inner : Data) (uid : EntityUid) : Type 0 where
   pub alone : has_only (codes "__entity" ∷ []) d ≡ true
   pub is : IsPlainUid inner uid
 
--- the value is the name of this entity, in one of the two spellings
+-- `IsUid d uid` holds if `d` is the name of `uid`, in one of the two forms.
 abbrev pub IsUid : Data → EntityUid → Type 0
 IsUid d uid = MatchOption (get (codes "__entity") d) (IsPlainUid d uid) (λ inner. IsUnderEntity d inner uid)
 
--- the value names this entity where a text may stand for it: `User::"alice"` as a policy has it, or a uid
+-- `NamesEntity d uid` holds if `d` names `uid` where a string is allowed: `User::"alice"` as in a policy, or a uid.
 abbrev pub NamesEntity : Data → EntityUid → Type 0
 NamesEntity d uid = MatchOption (as_str d) (IsUid d uid) (λ text. IsUidText text uid)
 
--- what was read of a value: the one that is named, or None where none is
+-- `IsRead Names read` holds if `read` is the entity that is named, or `None` if none is.
 abbrev pub IsRead : (EntityUid → Type 0) → Option EntityUid → Type 0
 IsRead Names read = MatchOption read ((uid : EntityUid) → Names uid → ⊥) Names
 
--- ---- the same as a function, which readers of larger values compute with
+-- ---- the same as a function, for the contracts of readers of larger values
 
+-- `uid_made_of name id` is the uid of these parts, if both are present and the name is a Path.
 abbrev pub uid_made_of : Option (List ℕ) → Option (List ℕ) → Option EntityUid
 uid_made_of None id = None
 uid_made_of (Some name) None = None
 uid_made_of (Some name) (Some id) = if is_path name then Some (record { type_name = name; id = id }) else None
 
+-- `plain_uid_in d` is the uid of an object with a type and an id.
 unfoldable pub plain_uid_in : Data → Option EntityUid
 plain_uid_in d =
     if has_only (codes "type" ∷ codes "id" ∷ []) d then uid_made_of (text_at (codes "type") d) (text_at (codes "id") d)
     else None
 
+-- `uid_under d inner` is the uid of the member `__entity`, or of `d` itself if there is none.
 abbrev pub uid_under : Data → Option Data → Option EntityUid
 uid_under d None = plain_uid_in d
 uid_under d (Some inner) = if has_only (codes "__entity" ∷ []) d then plain_uid_in inner else None
 
+-- `uid_in d` is the uid that `d` names, in one of the two forms.
 unfoldable pub uid_in : Data → Option EntityUid
 uid_in d = uid_under d (get (codes "__entity") d)
 
--- those of several values, in their order, or None where one of them is none
+-- `with_first o os` is the uid `o` in front of `os`, if both are present.
 abbrev pub with_first : Option EntityUid → Option (List EntityUid) → Option (List EntityUid)
 with_first (Some uid) (Some uids) = Some (uid ∷ uids)
 with_first (Some uid) None = None
 with_first None uids = None
 
+-- `uids_in ds` are the entities of several values, in order, or `None` if one of them is not a name.
 abbrev pub uids_in : List Data → Option (List EntityUid)
 uids_in [] = Some []
 uids_in (d ∷ ds) = with_first (uid_in d) (uids_in ds)
 
 -- ---- writing
 
--- how a name is written: {"id":"alice","type":"User"}
+-- `uid_json uid` is how a name is written: {"id":"alice","type":"User"}
 abbrev pub uid_json : EntityUid → Data
 uid_json uid = object (member (codes "id") (string uid.id) (member (codes "type") (string uid.type_name) no_members))
 
--- and where it stands as a value: {"__entity":{"id":"alice","type":"User"}}
+-- `entity_json uid` is how it is written as a value: {"__entity":{"id":"alice","type":"User"}}
 abbrev pub entity_json : EntityUid → Data
 entity_json uid = object (member (codes "__entity") (uid_json uid) no_members)

@@ -1,7 +1,7 @@
-//! The names of entities as JSON: read in both spellings that Cedar has for them, and written in each.
+//! The names of entities as JSON: parsed in both forms that Cedar has for them, and written in each.
 //!
-//! Entities, requests, messages and the service's bodies name entities in this one way, so its meaning stands here,
-//! below them all, with no fault of theirs: a value that is no name is None.
+//! Entities, requests, messages and the service's bodies name entities in this one way, so it is defined here, below
+//! them all, without an error of theirs: a value that is not a name is `None`.
 #![tactic(auto)]
 
 mod laws;

@@ -1,4 +1,4 @@
-//! Uids as requests name them: as JSON, or as one text.
+//! Uids in requests: as JSON, or as one string.
 ghost use Rattle.std.specs.Prelude.{◌≢◌, IfOk, OnOk};
 ghost use Rattle.serde_json.specs.View.{view};
 ghost use Rattle.policy_grammar.specs.declared.fault.ReadFault.TheVariants as ReadFault;
@@ -12,7 +12,7 @@ use serde_json::Value;
 use std::alloc::Global;
 use values::EntityUid;
 
-/// Tells want of memory apart from a text that is refused.
+/// Returns `NoMemory` for a failed allocation, and success for any other error.
 fn refused(fault: ReadFault) -> Result<(), NoMemory>
     ensures { OnOk result (fault ≢ ReadFault.NoMemory) }
 {
@@ -22,7 +22,7 @@ fn refused(fault: ReadFault) -> Result<(), NoMemory>
     }
 }
 
-/// Returns the uid that a text is.
+/// Returns the uid of a string.
 fn read_text(alloc: Global, text: &str) -> Result<Option<EntityUid>, NoMemory>
     ensures { IfOk result (IsRead (IsUidText text.now)) }
 {
@@ -36,8 +36,8 @@ fn read_text(alloc: Global, text: &str) -> Result<Option<EntityUid>, NoMemory>
     }
 }
 
-/// Returns the entity that a value names where a text may stand for it, as a request's principal: `User::"alice"` in
-/// policy syntax, or a uid as [`read_uid`] reads it. None where it is neither. Fails for memory alone.
+/// Returns the entity of a value where a string is allowed, as for a request's principal: `User::"alice"` in policy
+/// syntax, or a uid as [`read_uid`] parses it. `None` if it is neither. The only error is `NoMemory`.
 pub fn read_name(alloc: Global, value: &Value) -> Result<Option<EntityUid>, NoMemory>
     ensures { IfOk result (IsRead (NamesEntity (view value.now))) }
 {

@@ -10,7 +10,7 @@ use serde_json::Value;
 use std::alloc::Global;
 use values::{EntityUid, SharedText, TypeName};
 
-/// Returns the name that an object of a type and an id states.
+/// Returns the entity of an object with a type and an id.
 fn read_plain_uid(alloc: Global, value: &Value) -> Result<Option<EntityUid>, NoMemory>
     ensures { IfOk result (IsRead (IsPlainUid (view value.now))) }
 {
@@ -30,7 +30,7 @@ fn read_plain_uid(alloc: Global, value: &Value) -> Result<Option<EntityUid>, NoM
     Ok(Some(EntityUid { type_name, id }))
 }
 
-/// Returns the name that a value states in one of the two spellings.
+/// Returns the entity of a value in one of the two forms.
 #[tactic(auto, using(crate::proofs::UidLemmas::plain, crate::proofs::UidLemmas::under_entity))]
 fn read_either(alloc: Global, value: &Value) -> Result<Option<EntityUid>, NoMemory>
     ensures { IfOk result (IsRead (IsUid (view value.now))) }
@@ -46,8 +46,8 @@ fn read_either(alloc: Global, value: &Value) -> Result<Option<EntityUid>, NoMemo
     }
 }
 
-/// Returns the entity that a value names, as `{"type": .., "id": ..}` or as that under `__entity`, or None where it is
-/// no such name: another shape, another key, or a type that is no Path. Fails for memory alone.
+/// Returns the entity of a value, as `{"type": .., "id": ..}` or as that under `__entity`; `None` if it has another
+/// shape, another key, or a type that is not a Path. The only error is `NoMemory`.
 #[tactic(auto, using(crate::proofs::FoundLemmas::same))]
 pub fn read_uid(alloc: Global, value: &Value) -> Result<Option<EntityUid>, NoMemory>
     ensures names { IfOk result (IsRead (IsUid (view value.now))) }
@@ -57,8 +57,8 @@ pub fn read_uid(alloc: Global, value: &Value) -> Result<Option<EntityUid>, NoMem
     read_either(alloc, value)
 }
 
-/// Returns the entities that values name, each as [`read_uid`] reads it, in the order of the values and with repeats;
-/// None where one of them is no such name. Fails for memory alone.
+/// Returns the entities of values, each as [`read_uid`] parses it, in order and with repeats; `None` if one of them
+/// is not a name. The only error is `NoMemory`.
 pub fn read_uids(alloc: Global, values: &[Value]) -> Result<Option<Items<EntityUid>>, NoMemory>
     ensures { IfOk result (λ o. o ≡ uids_in (map view values.now)) }
 {

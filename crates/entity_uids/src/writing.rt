@@ -1,4 +1,4 @@
-//! Names of entities written as JSON, token by token.
+//! Names of entities, written as JSON token by token.
 ghost use Rattle.std.specs.Prelude.{OnOk};
 ghost use Rattle.entity_uids.specs.Tokens.{Adds, tokens_of};
 ghost use Rattle.entity_uids.specs.Uids.{uid_json, entity_json};
@@ -7,8 +7,8 @@ use json::Writer;
 use plain::NoMemory;
 use values::EntityUid;
 
-/// Writes the name of an entity, `{"id":"alice","type":"User"}`, behind what was written. Fails for memory alone; what
-/// was written by then is for nobody to read.
+/// Appends the name of an entity, `{"id":"alice","type":"User"}`. The only error is `NoMemory`; what was written by
+/// then must not be used.
 pub fn write_uid(out: &mut Writer, uid: &EntityUid) -> Result<(), NoMemory>
     ensures { OnOk result (Adds out.old out.new (tokens_of (uid_json uid.now))) }
 {
@@ -21,8 +21,8 @@ pub fn write_uid(out: &mut Writer, uid: &EntityUid) -> Result<(), NoMemory>
     Ok(())
 }
 
-/// Writes the name of an entity where it stands as a value, `{"__entity":{"id":"alice","type":"User"}}`, behind what
-/// was written. Fails for memory alone; what was written by then is for nobody to read.
+/// Appends the name of an entity as a value, `{"__entity":{"id":"alice","type":"User"}}`. The only error is
+/// `NoMemory`; what was written by then must not be used.
 pub fn write_entity(out: &mut Writer, uid: &EntityUid) -> Result<(), NoMemory>
     ensures { OnOk result (Adds out.old out.new (tokens_of (entity_json uid.now))) }
 {

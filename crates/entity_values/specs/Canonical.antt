@@ -1,6 +1,6 @@
--- The one JSON of a value: entities under `__entity`, extensions under `__extn` with the canonical argument, sets
--- ascending.
--- A rule of this product.
+-- Defines the canonical JSON of a value: entities under `__entity`, extensions under `__extn` with the canonical
+-- argument, sets ascending.
+-- Rules of this product: the canonical JSON.
 use Rattle.std.specs.Prelude.{ℕ, List, codes}
 use Rattle.serde_json.specs.Data.{Data, Items, no_items, item, Members, no_members, member}
 use Rattle.serde_json.specs.Data as json
@@ -11,15 +11,16 @@ use Rattle.entity_uids.specs.Uids.{entity_json}
 use Rattle.values.specs.Values.{PlainValue, boolean, long, text, entity, set, record_of, decimal, ipaddr}
 use Rattle.values.specs.Values.{PlainValues, no_values, value, PlainFields, no_fields, field}
 
--- an object with one key
+-- `only k d` is an object with one key.
 abbrev pub only : List ℕ → Data → Data
 only k d = json.object (member k d no_members)
 
--- {"__extn":{"arg":..,"fn":..}}
+-- `call_json name argument` is {"__extn":{"arg":..,"fn":..}}
 abbrev pub call_json : List ℕ → List ℕ → Data
 call_json name argument = only (codes "__extn")
     (json.object (member (codes "arg") (json.string argument) (member (codes "fn") (json.string name) no_members)))
 
+-- `value_json v` is the canonical JSON of the value `v`.
 abbrev mutual
   pub value_json : PlainValue → Data
   value_json (boolean b) = json.boolean b

@@ -4,6 +4,6 @@ pub mod Parts
 pub mod Texts
 pub mod Typing
 pub mod inner
--- crates below, passed on to those above
+-- Specifications of lower crates, re-exported.
 pub use Rattle.entity_uids.specs as entity_uids
 pub use Rattle.entity_uids.specs.policy_grammar

@@ -1,10 +1,10 @@
--- The parts of a type.
+-- Defines the parts of a type.
 use Rattle.std.specs.Prelude.{ℕ, List, Option, Some, None, if◌then◌else◌}
 use Rattle.std.specs.Str.{bytes_eq}
 use Rattle.schema_types.specs.Cedar as cedar
 use Rattle.schema_types.specs.Cedar.{Cedar, CedarFields, no_fields, field}
 
--- the type of a set's members
+-- `element_of t` is the type of a set's members.
 abbrev pub element_of : Cedar → Option Cedar
 element_of cedar.text = None
 element_of cedar.long = None
@@ -15,7 +15,7 @@ element_of (cedar.set t) = Some t
 element_of (cedar.record_of fs) = None
 element_of (cedar.entity name) = None
 
--- the fields of a record
+-- `fields_in t` are the fields of a record.
 abbrev pub fields_in : Cedar → Option CedarFields
 fields_in cedar.text = None
 fields_in cedar.long = None
@@ -26,7 +26,7 @@ fields_in (cedar.set t) = None
 fields_in (cedar.record_of fs) = Some fs
 fields_in (cedar.entity name) = None
 
--- the type of a field
+-- `declared_at k fs` is the type of the field `k`.
 abbrev pub declared_at : List ℕ → CedarFields → Option Cedar
 declared_at k no_fields = None
 declared_at k (field l t r fs) = if bytes_eq l k then Some t else declared_at k fs

@@ -1,4 +1,4 @@
--- Values as texts.
+-- Defines values as texts.
 use Rattle.std.specs.Prelude.{ℕ, List, Result}
 use Rattle.json_words.specs.ReadsAs.{◌>>=◌, or_fault}
 use Rattle.json_words.specs.Json.{json_of}
@@ -8,7 +8,7 @@ use Rattle.entity_values.specs.declared.fault.ValueFault.{ValueFault}
 use Rattle.entity_values.specs.declared.fault.ValueFault.TheVariants.{WrongType}
 use Rattle.entity_values.specs.Typing.{typed_value}
 
--- the value of this type that bytes are
+-- `text_typed t bytes` is the value of the type `t` that `bytes` are parsed as.
 unfoldable pub text_typed : Cedar → List ℕ → Result PlainValue ValueFault
 text_typed t bytes = do
   d ← or_fault WrongType (json_of bytes)

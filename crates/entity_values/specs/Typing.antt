@@ -1,7 +1,7 @@
--- Reading a value by its declared type.
--- Source: Cedar reference guide 4.0, "Entities and context: JSON format". Rules of this product: an extension is
--- `{"__extn":{"fn","arg"}}`, `{"fn","arg"}` or the argument alone; an entity is `{"type","id"}` or that under
--- `__entity`; neither has other keys.
+-- Defines how a value is parsed by its declared type.
+-- Source: Cedar reference guide 4.0, "Entities and context: JSON format".
+-- Rules of this product: an extension is `{"__extn":{"fn","arg"}}`, `{"fn","arg"}` or the argument alone; an entity
+-- is `{"type","id"}` or that under `__entity`; neither has other keys.
 use Rattle.std.specs.Prelude.{ℕ, ℤ, pos, negsuc, ◌^◌, nat_lt, List, [], ◌∷◌, Bool, true, not, ◌&&◌, ◌||◌}
 use Rattle.std.specs.Prelude.{Option, Some, None, is_some, Result, Ok, Err, codes}
 use Rattle.std.specs.Str.{bytes_eq}
@@ -22,14 +22,14 @@ use Rattle.schema_types.specs.Cedar as cedar
 use Rattle.schema_types.specs.Cedar.{Cedar, CedarFields, no_fields, field}
 use Rattle.entity_values.specs.Parts.{element_of, fields_in, declared_at}
 
--- what stands under a key, with no other key, or the value itself
+-- `under_key k d o` is the value at the key `k`, with no other key, or `d` itself if there is none.
 abbrev pub under_key : List ℕ → Data → Option Data → Result Data ValueFault
 under_key k d None = Ok d
 under_key k d (Some inner) = do
   alone ← demand WrongType (has_only (k ∷ []) d)
   Ok inner
 
--- {"fn": this name, "arg": any text}, and no other key
+-- `plain_call name d` is the argument of {"fn": `name`, "arg": any string}, without other keys.
 unfoldable pub plain_call : List ℕ → Data → Result (List ℕ) ValueFault
 plain_call name d = do
   shape ← demand WrongType (has_only (codes "fn" ∷ codes "arg" ∷ []) d)
@@ -38,32 +38,33 @@ plain_call name d = do
   same ← demand WrongType (bytes_eq given name)
   Ok argument
 
--- the same, also under `__extn`
+-- `call_in name d` is the same, also under `__extn`.
 unfoldable pub call_in : List ℕ → Data → Result (List ℕ) ValueFault
 call_in name d = do
   inner ← under_key (codes "__extn") d (get (codes "__extn") d)
   plain_call name inner
 
--- the text itself, or a call's
+-- `argument_or_call name d o` is the string itself, or a call's argument.
 abbrev pub argument_or_call : List ℕ → Data → Option (List ℕ) → Result (List ℕ) ValueFault
 argument_or_call name d (Some s) = Ok s
 argument_or_call name d None = call_in name d
 
--- the argument of an extension's function
+-- `argument_in name d` is the argument of an extension's function.
 unfoldable pub argument_in : List ℕ → Data → Result (List ℕ) ValueFault
 argument_in name d = argument_or_call name d (as_str d)
 
+-- `boolean_in`, `long_in`, `text_in`, `entity_in`, `decimal_in` and `ipaddr_in` are the values of these types.
 unfoldable pub boolean_in : Data → Result PlainValue ValueFault
 boolean_in d = do
   b ← or_fault WrongType (as_bool d)
   Ok (boolean b)
 
--- an integer of 64 bits with a sign
+-- `is_long z` tests for a signed 64-bit integer.
 abbrev pub is_long : ℤ → Bool
 is_long (pos n) = nat_lt n (2 ^ 63)
 is_long (negsuc n) = nat_lt n (2 ^ 63)
 
--- (`as_i64` gives no other integer of what bytes are.)
+-- (For parsed bytes, `as_i64` gives no other integer.)
 abbrev pub long_of : ℤ → Result PlainValue ValueFault
 long_of z = do
   small ← demand WrongType (is_long z)
@@ -98,7 +99,7 @@ ipaddr_in d = do
   n ← or_fault WrongType (network_of s)
   Ok (ipaddr n)
 
--- a value that is no set and no record
+-- `leaf t d` is a value that is neither a set nor a record.
 abbrev pub leaf : Cedar → Data → Result PlainValue ValueFault
 leaf cedar.boolean d = boolean_in d
 leaf cedar.long d = long_in d
@@ -109,17 +110,17 @@ leaf (cedar.record_of fs) d = Err WrongType
 leaf cedar.decimal d = decimal_in d
 leaf cedar.ipaddr d = ipaddr_in d
 
--- each required field is there
+-- `all_there fs d` tests whether each required field is present.
 abbrev pub all_there : CedarFields → Data → Bool
 all_there no_fields d = true
 all_there (field k t r fs) d = (not r || is_some (get k d)) && all_there fs d
 
--- one reading where there is something, another where there is nothing
+-- `with_or o f b` is `f` of the value of `o`, or `b` if there is none.
 abbrev pub with_or : {A B : Type 0} → Option A → (A → B) → B → B
 with_or (Some a) f b = f a
 with_or None f b = b
 
--- what is wrong inside a value makes it no value of its type
+-- `inside r`: an error inside a value makes it not a value of its type.
 abbrev pub inside : {A : Type 0} → Result A ValueFault → Result A ValueFault
 inside (Ok x) = Ok x
 inside (Err f) = Err WrongType
@@ -154,8 +155,8 @@ unfoldable mutual
     vs ← typed_members fs ms
     Ok ((k, v) ∷ vs)
 
--- The fields of a record: first each that stands there, ascending by key, is declared and of its type; then each
--- required one is there.
+-- `record_in t d` are the fields of a record: first, each present field, ascending by key, must be declared and of
+-- its type; then each required one must be present.
 unfoldable pub record_in : Cedar → Data → Result (List (List ℕ × PlainValue)) ValueFault
 record_in t d = do
   fs ← or_fault WrongType (fields_in t)

@@ -1,17 +1,17 @@
-//! Why a value is not read.
+//! Errors of parsing a value.
 ghost use Rattle.std.specs.Prelude.{◌≡◌};
 
 use plain::NoMemory;
 use std::alloc::AllocFailed;
 use thiserror::Error;
 
-/// Why a value is not read.
+/// An error of parsing a value.
 #[derive(Clone, Copy, PartialEq, Eq, Debug, Error)]
 pub enum ValueFault {
-    /// An allocation was refused.
+    /// An allocation failed.
     #[error("entity 1: out of memory")]
     NoMemory,
-    /// It is no value of that type.
+    /// It is not a value of that type.
     #[error("entity 35: value of the wrong type")]
     WrongType,
     /// A field of a record is not declared.

@@ -1,40 +1,36 @@
-//! Laws of the definitions.
+//! Theorems about the definitions.
 ghost use Rattle.entity_values.specs.Laws.{CanonicalIsRead, JsonIsReadAgain, CanonicalNests, WrittenIsReadAgain};
 ghost use Rattle.entity_values.specs.Laws.{RecordIsReadAgain, RecordNests, NoFloatIsWritten};
 
-/// Proves that the one JSON of a value that was read is read as that value: it does nothing, and its clause is a law of
-/// the definitions.
+/// Proves that the canonical JSON of a value that was parsed is parsed as that value. No-op.
 pub fn canonical_is_read()
     ensures { CanonicalIsRead }
 {}
 
-/// That, whatever bytes were read as a value, bytes that are its one JSON are read as it: it does nothing, and its
-/// clause is a law of the definitions.
+/// Proves that, whatever bytes were parsed as a value, bytes that are its canonical JSON are parsed as it. No-op.
 pub fn json_is_read_again()
     ensures { JsonIsReadAgain }
 {}
 
-/// Proves that the one JSON of a value that was read nests no deeper than its type allows: it does nothing, and its
-/// clause is a law of the definitions.
+/// Proves that the canonical JSON of a value that was parsed nests no deeper than its type allows. No-op.
 pub fn canonical_nests_within_its_type()
     ensures { CanonicalNests }
 {}
 
-/// That, whatever bytes were read as a value of a type that a schema may have, the text written for that value is read
-/// as it: it does nothing, and its clause is a law of the definitions.
+/// Proves that, whatever bytes were parsed as a value of a type that a schema may have, the text written for that
+/// value is parsed as it. No-op.
 pub fn written_is_read_again()
     ensures { WrittenIsReadAgain }
 {}
 
-/// Proves that the one JSON of a record that was read is read as that record, and nests no deeper than its type allows:
-/// it does nothing, and its clauses are laws of the definitions.
+/// Proves that the canonical JSON of a record that was parsed is parsed as that record, and nests no deeper than its
+/// type allows. No-op.
 pub fn records_are_read_again()
     ensures again { RecordIsReadAgain }
     ensures nests { RecordNests }
 {}
 
-/// Proves that the one JSON of a value has no float, so its text is known to the byte: it does nothing, and its clause
-/// is a law of the definitions.
+/// Proves that the canonical JSON of a value has no float, so its text is determined to the byte. No-op.
 pub fn values_have_no_float()
     ensures { NoFloatIsWritten }
 {}

@@ -1,7 +1,7 @@
-//! Values of the policy language, read from JSON by their types, and the one JSON of a value.
+//! Values of the policy language, parsed from JSON by their types, and their canonical JSON.
 //!
-//! Attributes, contexts and messages state values in this one way: what JSON stands for follows from the type that a
-//! schema gives it. Every value has one JSON, whatever it was read from, and is read back from that.
+//! Attributes, contexts and messages state values in this one way: the meaning of JSON follows from the type that a
+//! schema gives it. Every value has one canonical JSON, whatever it was parsed from, and is parsed from that again.
 #![tactic(auto)]
 
 mod fault;

@@ -1,4 +1,4 @@
-//! Reading by a type.
+//! Parsing values by a type.
 ghost use Rattle.std.specs.Prelude.{◌≡◌, option_map};
 ghost use Rattle.serde_json.specs.View.{view, items_view, members_view};
 ghost use Rattle.json_words.specs.ReadsAs.{ReadsAs, AlwaysReadsAs, or_fault};
@@ -51,8 +51,8 @@ fn fields(ty: &CedarType) -> Option<&Fields>
     }
 }
 
-/// Returns the fields from the first on whose name is not before this one. Those in front of it have other names, so
-/// whoever looks for names in ascending order need not look at them again.
+/// Returns the fields from the first on whose name is not less than this one. The fields before it have other names,
+/// so a caller that looks up names in ascending order need not visit them again.
 fn from_name<'t>(fields: &'t [Field], name: &str) -> &'t [Field]
     ensures { StateAlikeFrom name.now (cedar_fields_view fields.now) (cedar_fields_view result.now) }
 {
@@ -76,7 +76,7 @@ fn declared<'t>(fields: &'t [Field], name: &str) -> Option<&'t CedarType>
     None
 }
 
-/// Returns whether each required field is there.
+/// Returns whether each required field is present.
 fn has_required(fields: &Fields, value: &Json) -> bool
     ensures { result ≡ all_there (cedar_fields_view fields.now) (view value.now) }
 {
@@ -90,7 +90,7 @@ fn has_required(fields: &Fields, value: &Json) -> bool
 
 // ---- values that are neither sets nor records
 
-/// Returns the text at a key, which must be there.
+/// Returns the string at a key, which must be present.
 fn read_text_at<'v>(value: &'v Json, key: &str) -> Result<&'v str, ValueFault>
     ensures { AlwaysReadsAs (λ s. s.now) result
         (or_fault ValueFault.WrongType (text_in_json key.now (view value.now))) }
@@ -117,7 +117,7 @@ fn read_plain_call<'v>(value: &'v Json, name: &str) -> Result<&'v str, ValueFaul
     Ok(argument)
 }
 
-/// Returns the same, also under `__extn`.
+/// Returns the argument of such a call, also under `__extn`.
 #[tactic(auto, unfolding(crate::specs::Typing::call_in))]
 fn read_call<'v>(value: &'v Json, name: &str) -> Result<&'v str, ValueFault>
     ensures { AlwaysReadsAs (λ s. s.now) result (call_in name.now (view value.now)) }
@@ -133,7 +133,7 @@ fn read_call<'v>(value: &'v Json, name: &str) -> Result<&'v str, ValueFault>
     }
 }
 
-/// Returns the argument alone, or that of a call.
+/// Returns the argument by itself, or that of a call.
 #[tactic(auto, unfolding(crate::specs::Typing::argument_in))]
 fn read_argument<'v>(value: &'v Json, name: &str) -> Result<&'v str, ValueFault>
     ensures { AlwaysReadsAs (λ s. s.now) result (argument_in name.now (view value.now)) }
@@ -166,7 +166,7 @@ fn read_boolean(value: &Json) -> Result<Value, ValueFault>
     }
 }
 
-/// Returns a number of 64 bits, which is within what a Long can be.
+/// Returns a 64-bit integer as a Long.
 fn long_value(number: i64) -> Result<Value, ValueFault>
     ensures { AlwaysReadsAs (λ v. v) result (long_of number) }
 {
@@ -196,7 +196,7 @@ fn read_text(alloc: Global, value: &Json) -> Result<Value, ValueFault>
     }
 }
 
-/// Returns the entity that a value names, which is of this type.
+/// Returns the entity that a value names, which must have this type.
 #[tactic(auto, unfolding(crate::specs::Typing::entity_in))]
 fn read_entity(alloc: Global, value: &Json, name: &TypeName) -> Result<Value, ValueFault>
     ensures { ReadsAs ValueFault.NoMemory (λ v. v) result (entity_in name.now (view value.now)) }
@@ -232,8 +232,8 @@ fn read_network(value: &Json) -> Result<Value, ValueFault>
     }
 }
 
-/// Returns a value that is neither a set nor a record. Reading a boolean, a number, a decimal or an address takes no
-/// memory.
+/// Returns a value that is neither a set nor a record. A boolean, an integer, a decimal or an IP address does not
+/// allocate.
 #[tactic(auto, using(crate::proofs::Nothing::always_reads))]
 fn read_leaf(alloc: Global, value: &Json, ty: &CedarType) -> Result<Value, ValueFault>
     ensures reads { ReadsAs ValueFault.NoMemory (λ v. v) result (leaf (cedar_view ty.now) (view value.now)) }
@@ -254,7 +254,7 @@ fn read_leaf(alloc: Global, value: &Json, ty: &CedarType) -> Result<Value, Value
 
 // ---- all values
 
-/// Returns what a fault inside a value makes of the value.
+/// Returns the error of a value for an error inside it.
 fn inside(fault: ValueFault) -> ValueFault
     ensures { result ≡ inside_fault fault }
 {
@@ -264,11 +264,11 @@ fn inside(fault: ValueFault) -> ValueFault
     }
 }
 
-/// Returns the value of this type that a JSON value states.
+/// Parses a JSON value as a value of this type.
 ///
-/// Refused as `WrongType` where it states none: another kind of JSON, a number that is no Long, a text that is no
-/// decimal or address, an entity of another type, a field that the type does not have, or a required one that is
-/// missing. Reading a boolean, a number, a decimal or an address takes no memory.
+/// `WrongType` if it is not one: another kind of JSON, a number that is not a Long, a string that is not a decimal or
+/// an IP address, an entity of another type, a field that the type does not have, or a missing required field. A
+/// boolean, an integer, a decimal or an IP address does not allocate.
 #[cycle(typed_value)]
 #[tactic(auto, unfolding(crate::specs::Typing::typed_value))]
 fn typed_value(alloc: Global, value: &Json, ty: &CedarType) -> Result<Value, ValueFault>
@@ -342,10 +342,17 @@ fn typed_members(
     Ok(record)
 }
 
-/// Returns the record of this type that a JSON object states, as attributes and contexts are.
+/// Parses a JSON object as a record of this type, as for attributes and contexts.
 ///
-/// The first fault is told: of the object's members, ascending by key, that one is `Undeclared` or its value of the
-/// `WrongType`; and then that a required field is `Missing`. No object, or a type that is no record, is `WrongType`.
+/// # Errors
+///
+/// The first of these:
+///
+/// - `WrongType`: the value is not an object, or the type is not a record.
+/// - Of the object's members, ascending by key: `Undeclared`, the type has no such field; `WrongType`, its value is
+///   not of the field's type.
+/// - `Missing`: a required field is missing.
+/// - `NoMemory`: an allocation failed; possible at any point.
 #[tactic(auto, unfolding(crate::specs::Typing::record_in))]
 pub fn read_record(alloc: Global, value: &Json, ty: &CedarType) -> Result<Record, ValueFault>
     ensures { ReadsAs ValueFault.NoMemory (λ r. r) result (record_in (cedar_view ty.now) (view value.now)) }

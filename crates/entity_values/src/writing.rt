@@ -1,4 +1,4 @@
-//! The one JSON of a value, written token by token: no JSON value is built, and no name copied.
+//! The canonical JSON of a value, written token by token: no JSON value is built, and no name copied.
 ghost use Rattle.std.specs.Prelude.{OnOk, codes};
 ghost use Rattle.serde_json.specs.Data.{array, object};
 ghost use Rattle.values.specs.extensions.DecimalText.{decimal_text};
@@ -43,7 +43,7 @@ fn write_decimal(alloc: Global, out: &mut Writer, number: &Decimal) -> Result<()
     write_call(out, "decimal", argument.as_str())
 }
 
-/// Writes an address as a call.
+/// Writes an IP address as a call.
 fn write_network(alloc: Global, out: &mut Writer, network: &IpNet) -> Result<(), NoMemory>
     ensures { OnOk result (AppendsValue out.old out.new (call_json (codes "ip") (network_text network.now))) }
 {
@@ -52,7 +52,7 @@ fn write_network(alloc: Global, out: &mut Writer, network: &IpNet) -> Result<(),
     write_call(out, "ip", argument.as_str())
 }
 
-/// Writes the one JSON of a value.
+/// Writes the canonical JSON of a value.
 #[cycle(write)]
 fn write_value(alloc: Global, out: &mut Writer, value: &Value) -> Result<(), NoMemory>
     ensures { OnOk result (AppendsValue out.old out.new (value_json value.now)) }
@@ -92,8 +92,8 @@ fn write_members(alloc: Global, out: &mut Writer, fields: &Record) -> Result<(),
     out.end_object()
 }
 
-/// Writes the one JSON of a record, `{"age":1}`, behind what was written. Fails for memory alone; what was
-/// written by then is for nobody to read.
+/// Appends the canonical JSON of a record, `{"age":1}`. The only error is `NoMemory`; what was written by then must
+/// not be used.
 pub fn write_record(alloc: Global, out: &mut Writer, fields: &Record) -> Result<(), NoMemory>
     ensures { OnOk result (AppendsValue out.old out.new (object (fields_json (fields_of fields.now)))) }
 {

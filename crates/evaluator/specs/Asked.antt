@@ -1,4 +1,4 @@
--- The fields of what a variable stands for, by the stored entities and the request.
+-- Defines the fields of a variable, by the stored entities and the request.
 -- Source: Cedar reference guide 4.0, "Variables" and "Operators and functions".
 use Rattle.std.specs.Prelude.{List, Option, Some}
 use Rattle.values.specs.declared.entity_uid.EntityUid.{EntityUid}
@@ -7,7 +7,8 @@ use Rattle.values.specs.Fields.{Field}
 use Rattle.grammar_core.specs.declared.leaf.Variable.{Variable}
 use Rattle.grammar_core.specs.declared.leaf.Variable.TheVariants.{Principal, Action, Resource, Context}
 
--- the attributes of the entity, where it is stored, or the fields of the context
+-- `fields_under stored q x` are the attributes of the entity of the variable `x`, if it is stored, or the fields of
+-- the context.
 abbrev pub fields_under : (EntityUid → Option (List Field)) → Request → Variable → Option (List Field)
 fields_under stored q Principal = stored q.principal
 fields_under stored q Action = stored q.action

@@ -1,8 +1,9 @@
--- The value of what is borrowed or owned.
+-- Defines the value of a borrowed or owned one.
 use Rattle.values.specs.Values.{PlainValue}
 use Rattle.evaluator.specs.declared.borrowed_or_owned.Ownership.{Ownership}
 use Rattle.evaluator.specs.declared.borrowed_or_owned.Ownership.TheVariants.{Borrowed, Owned}
 
+-- `of_ownership v` is the value `v`, borrowed or owned.
 abbrev pub of_ownership : Ownership → PlainValue
 of_ownership (Borrowed v) = v
 of_ownership (Owned v) = v

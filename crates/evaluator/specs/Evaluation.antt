@@ -1,8 +1,9 @@
--- What an expression gives under a request, over the stored entities: a value, or the first error. One case a rule of
--- the language. Sources: Cedar reference guide 4.0, "Operators and functions" and "Syntax: record, set, if";
--- cedar-spec, cedar-lean/Cedar/Spec/Evaluator.lean (`evaluate`). Operands are evaluated from the left to the right, and
--- only then judged. A rule of this product: the fields of a record are evaluated in the order in which they are
--- written.
+-- Defines the outcome of an expression under a request, over the stored entities: a value, or the first error, by one
+-- case for each rule of the language.
+-- Source: Cedar reference guide 4.0, "Operators and functions" and "Syntax: record, set, if"; cedar-spec,
+-- cedar-lean/Cedar/Spec/Evaluator.lean (`evaluate`). Operands are evaluated from left to right, and only then
+-- checked.
+-- Rules of this product: the fields of a record are evaluated in the order in which they are written.
 use Rattle.std.specs.Prelude.{◌≡◌, ◌≢◌, ℕ, List, [], ◌∷◌, map, Bool, true, false, None, Result, Ok, Err, MatchResult}
 use Rattle.values.specs.declared.request.Request.{Request}
 use Rattle.values.specs.Fields.{Field, put}
@@ -25,20 +26,22 @@ use Rattle.evaluator.specs.Outcomes.{EvaluationResult, boolean_in}
 use Rattle.evaluator.specs.Operators.{World, UnaryGives, BinaryGives, FieldGives, HasGives, UnaryCallGives}
 use Rattle.evaluator.specs.Operators.{BinaryCallGives}
 
+-- `literal_value l` is the value of the literal `l`.
 abbrev pub literal_value : Literal → PlainValue
 literal_value (literal.Boolean b) = boolean b
 literal_value (literal.Long z) = long z
 literal_value (literal.Text t) = text t
 literal_value (literal.Entity u) = entity u
 
+-- `variable_value x q` is the value of the variable `x` under the request `q`.
 abbrev pub variable_value : Variable → Request → PlainValue
 variable_value Principal q = entity q.principal
 variable_value Action q = entity q.action
 variable_value Resource q = entity q.resource
 variable_value Context q = record_of (fields_of q.context)
 
--- The operands of a form that wants the values of them all, in the order in which they are evaluated. `if`, `&&` and
--- `||` want only what decides; a literal and a variable have none.
+-- `HasOperands x xs` holds if `x` needs the values of all of its operands `xs`, evaluated in this order. `if`, `&&`
+-- and `||` only evaluate what they need; a literal and a variable have none.
 pub data HasOperands : Expr → List Expr → Type 0 where
   of_unary : (op : Unary) (a : Expr) → HasOperands (form.Unary op a) (a ∷ [])
   of_binary : (op : Binary) (a b : Expr) → HasOperands (form.Binary op a b) (a ∷ b ∷ [])
@@ -49,13 +52,13 @@ pub data HasOperands : Expr → List Expr → Type 0 where
   of_unary_call : (called : UnaryCall) (a : Expr) → HasOperands (form.UnaryCall called a) (a ∷ [])
   of_binary_call : (called : BinaryCall) (a b : Expr) → HasOperands (form.BinaryCall called a b) (a ∷ b ∷ [])
 
--- the fields, with each of these set to its value, one after the other
+-- `put_each xs vs done` are the fields `done`, with each name of `xs` set to its value of `vs`, in order.
 abbrev pub put_each : List (Named Expr) → List PlainValue → List Field → List Field
 put_each (x ∷ xs) (v ∷ vs) done = put_each xs vs (put x.name v done)
 put_each xs vs done = done
 
 mutual
-  -- the expression gives r
+  -- `EvaluatesTo W q x r` holds if `r` is the outcome of `x` under the request `q`, over the entities of `W`.
   pub data EvaluatesTo (W : World) (q : Request) : Expr → EvaluationResult → Type 0 where
     gives_literal : (l : Literal) → EvaluatesTo W q (form.Literal l) (Ok (literal_value l))
     gives_variable : (x : Variable) → EvaluatesTo W q (form.Variable x) (Ok (variable_value x q))
@@ -77,7 +80,7 @@ mutual
     or_left_fails : (a b : Expr) {e : EvalFault} → TestFails W q a e → EvaluatesTo W q (form.Or a b) (Err e)
     or_right_fails : (a b : Expr) {e : EvalFault} → EvaluatesTo W q a (Ok (boolean false)) → TestFails W q b e
         → EvaluatesTo W q (form.Or a b) (Err e)
-    -- the first operand that errs decides, whatever stands behind it
+    -- the first operand with an error decides, whatever follows it
     operand_fails : {x : Expr} {xs : List Expr} {e : EvalFault} → HasOperands x xs → EachEvaluatesTo W q xs (Err e)
         → EvaluatesTo W q x (Err e)
     gives_unary : (op : Unary) (a : Expr) {v : PlainValue} {r : EvaluationResult} → EvaluatesTo W q a (Ok v)
@@ -98,13 +101,13 @@ mutual
         → EvaluatesTo W q a (Ok v)
         → EvaluatesTo W q b (Ok w) → BinaryCallGives called v w r → EvaluatesTo W q (form.BinaryCall called a b) r
 
-  -- the expression is no test: it errs, or gives no boolean
+  -- `TestFails W q x e` holds if `x` fails as a condition with `e`: that is its outcome, or it is not a boolean.
   pub data TestFails (W : World) (q : Request) : Expr → EvalFault → Type 0 where
     test_errs : {a : Expr} {e : EvalFault} → EvaluatesTo W q a (Err e) → TestFails W q a e
     no_boolean : {a : Expr} {v : PlainValue} → EvaluatesTo W q a (Ok v) → boolean_in v ≡ None
         → TestFails W q a TypeError
 
-  -- the expressions give these values in order, or the first error
+  -- `EachEvaluatesTo W q xs r` holds if `r` are the values of `xs` in order, or the first error.
   pub data EachEvaluatesTo (W : World) (q : Request) : List Expr → Result (List PlainValue) EvalFault → Type 0 where
     each_none : EachEvaluatesTo W q [] (Ok [])
     each_more : {x : Expr} {xs : List Expr} {v : PlainValue} {vs : List PlainValue} → EvaluatesTo W q x (Ok v)
@@ -114,18 +117,19 @@ mutual
     each_fails_later : {x : Expr} {xs : List Expr} {v : PlainValue} {e : EvalFault} → EvaluatesTo W q x (Ok v)
         → EachEvaluatesTo W q xs (Err e) → EachEvaluatesTo W q (x ∷ xs) (Err e)
 
--- ---- what code that evaluates returns
+-- ---- contracts of an evaluator
 
--- what is returned is what the expression gives, but where memory was refused
+-- Soundness: a result other than `NoMemory` is one that `EvaluatesTo` relates to the expression.
 abbrev pub IsSoundEvaluation : World → Request → Expr → EvaluationResult → Type 0
 IsSoundEvaluation W q x answer = MatchResult answer (λ v. EvaluatesTo W q x (Ok v))
     (λ e. e ≢ NoMemory → EvaluatesTo W q x (Err e))
 
--- whatever the expression gives is returned, but where memory was refused
+-- Completeness: a result that `EvaluatesTo` relates to the expression is returned, unless `NoMemory` is.
 abbrev pub IsCompleteEvaluation : World → Request → Expr → EvaluationResult → Type 0
 IsCompleteEvaluation W q x answer = (r : EvaluationResult) → EvaluatesTo W q x r → answer ≢ Err NoMemory → answer ≡ r
 
--- the boolean that the expression gives is returned, or why it gives none
+-- `AnswersTest W q x answer` holds if `answer` is the boolean of `x`, the error by which `x` fails as a condition, or
+-- `NoMemory`.
 abbrev pub AnswersTest : World → Request → Expr → Result Bool EvalFault → Type 0
 AnswersTest W q x answer = MatchResult answer (λ t. EvaluatesTo W q x (Ok (boolean t)))
     (λ e. e ≢ NoMemory → TestFails W q x e)

@@ -5,7 +5,7 @@ pub mod Laws
 pub mod Operators
 pub mod Outcomes
 pub mod inner
--- crates below, passed on to those above
+-- Specifications of lower crates, re-exported.
 pub use Rattle.ancestor_search.specs as ancestor_search
 pub use Rattle.evaluator_steps.specs as evaluator_steps
 pub use Rattle.grammar_core.specs as grammar_core

@@ -1,5 +1,5 @@
--- What operators and calls give on values, one case a rule.
--- Sources: Cedar reference guide 4.0, "Operators and functions"; cedar-spec, cedar-lean/Cedar/Spec/Evaluator.lean
+-- Defines the results of operators and calls on values, by one case for each rule.
+-- Source: Cedar reference guide 4.0, "Operators and functions"; cedar-spec, cedar-lean/Cedar/Spec/Evaluator.lean
 -- (`apply₁`, `apply₂`, `inₑ`, `inₛ`, `hasAttr`, `getAttr`) and ExtFun.lean (`call`).
 use Rattle.std.specs.Prelude.{◌≡◌, ◌⊎◌, ⊤, ℕ, ℤ, neg_ℤ, ◌+ℤ◌, ◌-ℤ◌, ◌*ℤ◌, ◌≤ℤ◌, ◌<ℤ◌, List, map, Bool, false, not}
 use Rattle.std.specs.Prelude.{Contains, Option, Some, None, IsSome, Ok, Err}
@@ -31,15 +31,16 @@ use Rattle.evaluator.specs.declared.fault.EvalFault.TheVariants.{ExtensionError}
 use Rattle.evaluator.specs.Outcomes.{EvaluationResult, IsTruthOf, IsChecked, boolean_in, long_in, text_in}
 use Rattle.evaluator.specs.Outcomes.{entity_uid_in, members_in, record_fields_in, decimal_in, network_in}
 
--- the attributes of each stored entity, and the parents of each entity
+-- A `World` has the attributes of each stored entity, and the parents of each entity.
 pub record World : Type 0 where
   pub stored : EntityUid → Option (List Field)
   pub parents : Parents
 
+-- `world_of stored parents` is the world with these attributes and parents.
 abbrev pub world_of : (EntityUid → Option (List Field)) → Parents → World
 world_of stored parents = record { stored = stored; parents = parents }
 
--- an operator on one value
+-- `UnaryGives op v r` holds if `r` is the result of the operator `op` on `v`.
 pub data UnaryGives : Unary → PlainValue → EvaluationResult → Type 0 where
   negation : {b : Bool} → UnaryGives Not (boolean b) (Ok (boolean (not b)))
   negation_of_other : {v : PlainValue} → boolean_in v ≡ None → UnaryGives Not v (Err TypeError)
@@ -53,7 +54,7 @@ pub data UnaryGives : Unary → PlainValue → EvaluationResult → Type 0 where
       → UnaryGives (Is name) (entity u) r
   is_of_other : {name : List ℕ} {v : PlainValue} → entity_uid_in v ≡ None → UnaryGives (Is name) v (Err TypeError)
 
--- what two numbers give under an operator that takes numbers
+-- `NumbersGive op x y r` holds if `r` is the result of the operator `op` on two integers.
 abbrev pub NumbersGive : Binary → ℤ → ℤ → EvaluationResult → Type 0
 NumbersGive Less x y r = IsTruthOf (x <ℤ y) r
 NumbersGive LessOrEqual x y r = IsTruthOf (x ≤ℤ y) r
@@ -62,7 +63,7 @@ NumbersGive Subtract x y r = IsChecked (x -ℤ y) r
 NumbersGive Multiply x y r = IsChecked (x *ℤ y) r
 NumbersGive op x y r = ⊥
 
--- these take two numbers, these two sets
+-- `TakesNumbers op` and `TakesSets op` hold if both operands of `op` must be integers, or sets.
 abbrev pub TakesNumbers : Binary → Type 0
 TakesNumbers Less = ⊤
 TakesNumbers LessOrEqual = ⊤
@@ -76,8 +77,9 @@ TakesSets ContainsAll = ⊤
 TakesSets ContainsAny = ⊤
 TakesSets op = ⊥
 
--- An operator on two values. `a in b` of two entities asks whether a is in b; of a set, all of whose members have to be
--- entities, whether a is in some of them.
+-- `BinaryGives W op v w r` holds if `r` is the result of `op` on `v` and `w`. `a in b` tests, for two entities,
+-- whether `a` is `b` or a descendant of it; for a set, all of whose members must be entities, whether it is so for
+-- some member.
 pub data BinaryGives (W : World) : Binary → PlainValue → PlainValue → EvaluationResult → Type 0 where
   equal : {v w : PlainValue} {r : EvaluationResult} → IsTruthOf (v ≡ w) r → BinaryGives W Equal v w r
   of_numbers : {op : Binary} {x y : ℤ} {r : EvaluationResult} → NumbersGive op x y r
@@ -106,7 +108,7 @@ pub data BinaryGives (W : World) : Binary → PlainValue → PlainValue → Eval
   no_sets : {op : Binary} {v w : PlainValue} → TakesSets op → (members_in v ≡ None) ⊎ (members_in w ≡ None)
       → BinaryGives W op v w (Err TypeError)
 
--- `v.name`
+-- `FieldGives W name v r` holds if `r` is the result of `v.name`.
 pub data FieldGives (W : World) (name : List ℕ) : PlainValue → EvaluationResult → Type 0 where
   field : {fs : PlainFields} {v : PlainValue} → find_field name (pairs_of fs) ≡ Some v
       → FieldGives W name (record_of fs) (Ok v)
@@ -117,7 +119,7 @@ pub data FieldGives (W : World) (name : List ℕ) : PlainValue → EvaluationRes
   field_of_other : {v : PlainValue} → record_fields_in v ≡ None → entity_uid_in v ≡ None
       → FieldGives W name v (Err TypeError)
 
--- `v has name`
+-- `HasGives W name v r` holds if `r` is the result of `v has name`.
 pub data HasGives (W : World) (name : List ℕ) : PlainValue → EvaluationResult → Type 0 where
   has_field : {fs : PlainFields} {r : EvaluationResult} → IsTruthOf (IsSome (find_field name (pairs_of fs))) r
       → HasGives W name (record_of fs) r
@@ -127,7 +129,7 @@ pub data HasGives (W : World) (name : List ℕ) : PlainValue → EvaluationResul
   has_of_other : {v : PlainValue} → record_fields_in v ≡ None → entity_uid_in v ≡ None
       → HasGives W name v (Err TypeError)
 
--- what is tested of an address
+-- `IsTested called n` holds if the address `n` passes the test `called`.
 abbrev pub IsTested : UnaryCall → Network → Type 0
 IsTested IsIpv4 n = n.version ≡ V4
 IsTested IsIpv6 n = n.version ≡ V6
@@ -135,13 +137,13 @@ IsTested IsLoopback n = IsWithin n loopback_v4 ⊎ IsWithin n loopback_v6
 IsTested IsMulticast n = IsWithin n multicast_v4 ⊎ IsWithin n multicast_v6
 IsTested called n = ⊥
 
--- these take an address
+-- `TakesAddress called` holds if the operand of `called` must be an IP address.
 abbrev pub TakesAddress : UnaryCall → Type 0
 TakesAddress Ip = ⊥
 TakesAddress Decimal = ⊥
 TakesAddress called = ⊤
 
--- a call with one operand
+-- `UnaryCallGives called v r` holds if `r` is the result of a call on `v`.
 pub data UnaryCallGives : UnaryCall → PlainValue → EvaluationResult → Type 0 where
   reads_decimal : {t : List ℕ} {z : ℤ} → IsDecimalText t z → UnaryCallGives Decimal (text t) (Ok (decimal z))
   no_decimal : {t : List ℕ} → ((z : ℤ) → ¬ IsDecimalText t z) → UnaryCallGives Decimal (text t) (Err ExtensionError)
@@ -154,7 +156,7 @@ pub data UnaryCallGives : UnaryCall → PlainValue → EvaluationResult → Type
   of_no_address : {called : UnaryCall} {v : PlainValue} → TakesAddress called → network_in v ≡ None
       → UnaryCallGives called v (Err TypeError)
 
--- how two decimals are compared
+-- `AreCompared called x y` holds if two decimals compare so.
 abbrev pub AreCompared : BinaryCall → ℤ → ℤ → Type 0
 AreCompared LessThan x y = x <ℤ y
 AreCompared LessThanOrEqual x y = x ≤ℤ y
@@ -162,12 +164,12 @@ AreCompared GreaterThan x y = y <ℤ x
 AreCompared GreaterThanOrEqual x y = y ≤ℤ x
 AreCompared IsInRange x y = ⊥
 
--- these take two decimals
+-- `TakesDecimals called` holds if both operands of `called` must be decimals.
 abbrev pub TakesDecimals : BinaryCall → Type 0
 TakesDecimals IsInRange = ⊥
 TakesDecimals called = ⊤
 
--- a call with two operands
+-- `BinaryCallGives called v w r` holds if `r` is the result of a call on `v` and `w`.
 pub data BinaryCallGives : BinaryCall → PlainValue → PlainValue → EvaluationResult → Type 0 where
   of_decimals : {called : BinaryCall} {x y : ℤ} {r : EvaluationResult} → TakesDecimals called
       → IsTruthOf (AreCompared called x y) r → BinaryCallGives called (decimal x) (decimal y) r

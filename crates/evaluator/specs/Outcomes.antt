@@ -1,4 +1,4 @@
--- What evaluating comes to, and what of values it speaks of.
+-- Defines the outcomes of evaluation, and the content of values by their kind.
 -- Source: Cedar reference guide 4.0, "Operators and functions".
 use Rattle.std.specs.Prelude.{ℕ, ℤ, List, Bool, true, false, Option, Some, None, Result, Ok, Err, FitsSigned}
 use Rattle.std.specs.Int.{w64}
@@ -10,12 +10,12 @@ use Rattle.values.specs.Values.{pairs_of}
 use Rattle.evaluator.specs.declared.fault.EvalFault.{EvalFault}
 use Rattle.evaluator.specs.declared.fault.EvalFault.TheVariants.{ArithBoundsError}
 
--- a value, or an error
+-- An `EvaluationResult` is a value, or an error.
 abbrev pub EvaluationResult : Type 0
 EvaluationResult = Result PlainValue EvalFault
 
--- What a value holds if it is of that kind: a boolean, a number, a text, an entity, the members of a set, the fields of
--- a record, a decimal, an address.
+-- The content of a value, if it is of that kind: a boolean, an integer, a string, an entity, the members of a set,
+-- the fields of a record, a decimal, an IP address.
 
 abbrev pub boolean_in : PlainValue → Option Bool
 boolean_in (boolean b) = Some b
@@ -49,12 +49,12 @@ abbrev pub network_in : PlainValue → Option Network
 network_in (ipaddr n) = Some n
 network_in v = None
 
--- the boolean that tells whether P holds
+-- `IsTruthOf P r` holds if `r` is the boolean that says whether `P` holds.
 pub data IsTruthOf (P : Type 0) : EvaluationResult → Type 0 where
   holds : P → IsTruthOf P (Ok (boolean true))
   fails : ¬ P → IsTruthOf P (Ok (boolean false))
 
--- a number, if signed 64 bits hold it
+-- `IsChecked z r` holds if `r` is the integer `z` if it fits in signed 64 bits, else `ArithBoundsError`.
 pub data IsChecked : ℤ → EvaluationResult → Type 0 where
   fits : {z : ℤ} → FitsSigned w64 z → IsChecked z (Ok (long z))
   overflows : {z : ℤ} → ¬ FitsSigned w64 z → IsChecked z (Err ArithBoundsError)

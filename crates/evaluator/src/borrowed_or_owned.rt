@@ -1,4 +1,4 @@
-//! What expressions give.
+//! Results of evaluation.
 ghost use Rattle.std.specs.Prelude.{◌≡◌, IfOk};
 ghost use Rattle.values.specs.ValueOrder.{value_cmp};
 ghost use Rattle.evaluator.specs.Outcomes.{boolean_in, long_in};
@@ -10,14 +10,14 @@ use std::cmp::Ordering;
 use std::marker::Model;
 use values::{BorrowedKind, Value, ValueRef};
 
-/// What an expression gives: a value, borrowed where it stands in the expression, the request or the stored entities.
-/// Contracts see the value.
+/// The value of an expression, borrowed if it is in the expression, the request or the stored entities. Contracts see
+/// the value.
 #[derive(Drop)]
 pub struct BorrowedOrOwned<'a> {
     pub(crate) ownership: Ownership<'a>,
 }
 
-/// Where a value comes from.
+/// The ownership of a value.
 #[derive(Drop)]
 pub(crate) enum Ownership<'a> {
     Borrowed(ValueRef<'a>),
@@ -38,7 +38,7 @@ impl<'a> Model for BorrowedOrOwned<'a> {
 }
 
 impl<'a> BorrowedOrOwned<'a> {
-    /// Returns a value that stands somewhere.
+    /// Returns a borrowed value.
     pub(crate) fn borrowed(value: &'a Value) -> BorrowedOrOwned<'a>
         ensures { result ≡ value.now }
     {
@@ -47,7 +47,7 @@ impl<'a> BorrowedOrOwned<'a> {
         }
     }
 
-    /// Returns what was computed.
+    /// Returns a computed value.
     pub(crate) fn computed(value: Value) -> BorrowedOrOwned<'a>
         ensures { result ≡ value }
     {
@@ -56,7 +56,7 @@ impl<'a> BorrowedOrOwned<'a> {
         }
     }
 
-    /// Returns what the value is.
+    /// Returns the value by its kind.
     #[inline(always)]
     pub(crate) fn kind(&self) -> BorrowedKind<'_>
         ensures { of_borrowed result ≡ self.now }
@@ -67,7 +67,7 @@ impl<'a> BorrowedOrOwned<'a> {
         }
     }
 
-    /// Returns how it compares with a value that stands elsewhere.
+    /// Compares the value with a borrowed one.
     fn compare_with(&self, other: &ValueRef<'_>) -> Ordering
         ensures { result ≡ value_cmp self.now other.now }
     {
@@ -77,7 +77,7 @@ impl<'a> BorrowedOrOwned<'a> {
         }
     }
 
-    /// Returns the order of values.
+    /// Compares the value with another, in the order of values.
     pub(crate) fn compare(&self, other: &BorrowedOrOwned<'_>) -> Ordering
         ensures { result ≡ value_cmp self.now other.now }
     {
@@ -87,7 +87,7 @@ impl<'a> BorrowedOrOwned<'a> {
         }
     }
 
-    /// Returns how another value, such as a member of a set, compares with it.
+    /// Returns how another value, such as a member of a set, compares with this one.
     pub(crate) fn compared_by(&self, other: &Value) -> Ordering
         ensures { result ≡ value_cmp other.now self.now }
     {
@@ -97,7 +97,7 @@ impl<'a> BorrowedOrOwned<'a> {
         }
     }
 
-    /// Returns the boolean that it is, or None where it is of another kind; takes no memory.
+    /// Returns the boolean, or `None` if the value is of another kind. Does not allocate.
     pub fn as_boolean(&self) -> Option<bool>
         ensures { result ≡ boolean_in self.now }
     {
@@ -107,7 +107,7 @@ impl<'a> BorrowedOrOwned<'a> {
         }
     }
 
-    /// Returns the number that it is, or None where it is of another kind.
+    /// Returns the integer, or `None` if the value is of another kind.
     pub(crate) fn as_long(&self) -> Option<i64>
         ensures { result ≡ long_in self.now }
     {
@@ -117,7 +117,7 @@ impl<'a> BorrowedOrOwned<'a> {
         }
     }
 
-    /// Returns the value, copied where it was borrowed, or `NoMemory`.
+    /// Returns the value, copied if it was borrowed, or `NoMemory`.
     pub fn into_value(self, alloc: Global) -> Result<Value, NoMemory>
         ensures { IfOk result (λ v. v ≡ self.entry) }
     {

@@ -1,4 +1,4 @@
-//! What the functions and methods of extensions give on values.
+//! Functions and methods of extensions, on values.
 ghost use Rattle.std.specs.Prelude.{◌≡◌, not, int_lt, int_le};
 ghost use Rattle.values.specs.extensions.Network.{loopback_v4, loopback_v6, multicast_v4, multicast_v6};
 ghost use Rattle.values.specs.extensions.Decided.{told};
@@ -13,7 +13,7 @@ use crate::operands::{decimals_of, network_of, text_of};
 use grammar_core::{BinaryCall, UnaryCall};
 use values::{Decimal, IpNet, Value, one_decimal_a_text, one_network_a_text};
 
-/// Returns the decimal of a text.
+/// Returns the decimal of a string.
 fn read_decimal(text: &str) -> Result<Value, EvalFault>
     ensures { result ≡ decimal_read (decimal_text_decided text.now) }
 {
@@ -24,7 +24,7 @@ fn read_decimal(text: &str) -> Result<Value, EvalFault>
     }
 }
 
-/// Returns the address of a text.
+/// Returns the IP address of a string.
 fn read_network(text: &str) -> Result<Value, EvalFault>
     ensures { result ≡ network_read (network_text_decided text.now) }
 {
@@ -65,7 +65,7 @@ fn is_within(a: IpNet, b: IpNet) -> bool
     a.is_in_range(&b)
 }
 
-/// Returns whether the first of two decimals is less; an error stays.
+/// Returns whether the first of two decimals is less, or the error.
 fn less(numbers: Result<(Decimal, Decimal), EvalFault>) -> Result<Value, EvalFault>
     ensures { result ≡ and_then numbers (λ p. truth (int_lt p.0 p.1)) }
 {
@@ -94,7 +94,7 @@ fn greater_or_equal(numbers: Result<(Decimal, Decimal), EvalFault>) -> Result<Va
     Ok(Value::boolean(b.less_or_equal(&a)))
 }
 
-/// Returns what a call with one operand gives on a value.
+/// Returns the result of a call with one operand on a value.
 pub(crate) fn unary_call(called: UnaryCall, given: &BorrowedOrOwned<'_>) -> Result<Value, EvalFault>
     ensures { result ≡ apply_unary_call called given.now }
 {
@@ -108,7 +108,7 @@ pub(crate) fn unary_call(called: UnaryCall, given: &BorrowedOrOwned<'_>) -> Resu
     }
 }
 
-/// Returns what a call with two operands gives on values.
+/// Returns the result of a call with two operands on values.
 pub(crate) fn binary_call(
     called: BinaryCall,
     a: &BorrowedOrOwned<'_>,

@@ -1,5 +1,5 @@
-//! The forms in which a test decides what is evaluated: `if`, `&&` and `||`. What they give is told as a test too, so
-//! that no value is made of a truth that is only asked for.
+//! The expressions whose first operand decides what is evaluated: `if`, `&&` and `||`. Each has a variant that
+//! returns a `bool`, so that no value is made for a truth value that is only tested.
 ghost use Rattle.evaluator.specs.inner.Computing.{decided_world, Answers, meaning, as_test, choice, both, either};
 
 use crate::borrowed_or_owned::BorrowedOrOwned;
@@ -13,7 +13,7 @@ use grammar_core::Expr;
 use plain::Shared;
 use std::alloc::Global;
 
-/// Returns what one branch gives, by the test.
+/// Evaluates one branch, by the test.
 #[cycle(evaluate)]
 #[inline(never)]
 pub(crate) fn choice_of<'a, L: EvalEnv>(
@@ -33,7 +33,7 @@ pub(crate) fn choice_of<'a, L: EvalEnv>(
     }
 }
 
-/// Returns what one branch gives as a test, by the test.
+/// Evaluates one branch as a `bool`, by the test.
 #[cycle(evaluate)]
 #[inline(never)]
 pub(crate) fn choice_test<'a, L: EvalEnv>(
@@ -53,7 +53,7 @@ pub(crate) fn choice_test<'a, L: EvalEnv>(
     }
 }
 
-/// Returns what `&&` gives, as a test.
+/// Evaluates `&&` as a `bool`.
 #[cycle(evaluate)]
 #[inline(never)]
 pub(crate) fn both_test<'a, L: EvalEnv>(
@@ -72,7 +72,7 @@ pub(crate) fn both_test<'a, L: EvalEnv>(
     }
 }
 
-/// Returns what `||` gives, as a test.
+/// Evaluates `||` as a `bool`.
 #[cycle(evaluate)]
 #[inline(never)]
 pub(crate) fn either_test<'a, L: EvalEnv>(
@@ -92,7 +92,7 @@ pub(crate) fn either_test<'a, L: EvalEnv>(
     }
 }
 
-/// Returns what `&&` gives.
+/// Evaluates `&&`.
 #[cycle(evaluate)]
 #[inline(never)]
 pub(crate) fn both_of<'a, L: EvalEnv>(
@@ -107,7 +107,7 @@ pub(crate) fn both_of<'a, L: EvalEnv>(
     truth_of(both_test(alloc, left, right, store))
 }
 
-/// Returns what `||` gives.
+/// Evaluates `||`.
 #[cycle(evaluate)]
 #[inline(never)]
 pub(crate) fn either_of<'a, L: EvalEnv>(

@@ -26,8 +26,8 @@ use plain::{Items, Shared, Text};
 use std::alloc::Global;
 use values::{Record, Request, Value};
 
-/// Returns what an expression gives under a request, over the stored entities: its value, or the first error. It
-/// copies what stands somewhere, which [`evaluate_in`] lends; otherwise as that.
+/// Evaluates an expression under a request, over the stored entities. Like [`evaluate_in`], but copies the borrowed
+/// value.
 pub fn evaluate<'a, L: Lookup>(
     alloc: Global,
     expr: &'a Expr,
@@ -44,8 +44,8 @@ pub fn evaluate<'a, L: Lookup>(
     owned(alloc, outcome_of(alloc, expr, &asking))
 }
 
-/// Returns whether an expression gives true, as a condition does, under a request, over the stored entities. Otherwise
-/// as [`evaluate_condition`].
+/// Returns whether an expression evaluates to true, as a condition, under a request, over the stored entities.
+/// Otherwise like [`evaluate_condition`].
 pub fn evaluate_test<L: Lookup>(
     alloc: Global,
     expr: &Expr,
@@ -57,14 +57,20 @@ pub fn evaluate_test<L: Lookup>(
     evaluate_condition(alloc, expr, &RequestEnv { request, store })
 }
 
-/// Returns what an expression gives under the request that is asked, over the stored entities: its value, or the first
-/// error.
+/// Evaluates an expression under the environment's request, over its stored entities, to a value or the first error.
 ///
-/// What stands in the expression, the request or the stored entities is borrowed; memory is asked for by sets and
-/// records that are written out, by a field of such a record, and by `in`, which searches the hierarchy.
-/// Operands are evaluated from the left to the right, the fields of a record in the order in which they are written;
-/// `&&`, `||` and `if` evaluate only what decides. `NoMemory` where an allocation was refused, and only then.
-/// It recurses: its stack grows with the height of the expression, by less than two kilobytes a level.
+/// A value in the expression, the request or the stored entities is borrowed. Set and record expressions allocate,
+/// and a field of such a record; so does `in`, which searches the hierarchy. Operands are evaluated from left to
+/// right, the fields of a record in the order in which they are written; `&&`, `||` and `if` evaluate only what they
+/// need.
+///
+/// # Errors
+///
+/// - `EntityDoesNotExist`, `AttrDoesNotExist`, `TypeError`, `ArithBoundsError`, `ExtensionError`: the first error of
+///   the evaluation.
+/// - `NoMemory`: an allocation failed; possible at any point.
+///
+/// Recursive: the stack grows with the height of the expression, by less than two kilobytes a level.
 ///
 /// Source: Cedar reference guide, "Operators and functions".
 pub fn evaluate_in<'a, L: EvalEnv>(
@@ -81,8 +87,11 @@ pub fn evaluate_in<'a, L: EvalEnv>(
     outcome_of(alloc, expr, store)
 }
 
-/// Returns whether an expression gives true, as a condition does; it gives a boolean, or the answer is why not. Of a
-/// value of another kind that is `TypeError`. Otherwise as [`evaluate_in`].
+/// Returns whether an expression evaluates to true, as a condition.
+///
+/// # Errors
+///
+/// As [`evaluate_in`]; `TypeError` if the value is not a boolean.
 pub fn evaluate_condition<L: EvalEnv>(
     alloc: Global,
     expr: &Expr,
@@ -94,9 +103,9 @@ pub fn evaluate_condition<L: EvalEnv>(
     test_of(alloc, expr, store)
 }
 
-// Each arm is one call, so that a level of the recursion takes little stack and prepares no room for the outcomes that
-// other arms hold: a function begins by clearing all that it has room for. What is made of an operand's outcome is a
-// function outside the recursion (steps.rt), which reads the outcome where it stands.
+// Each arm is one call, so that a level of the recursion takes little stack and does not reserve it for the results
+// of other arms: a function clears its whole frame at entry. The code that handles an operand's result is in a
+// function outside the recursion (steps.rt), which borrows that result.
 #[cycle(evaluate)]
 pub(crate) fn outcome_of<'a, L: EvalEnv>(
     alloc: Global,
@@ -127,7 +136,7 @@ pub(crate) fn outcome_of<'a, L: EvalEnv>(
     }
 }
 
-/// Returns what an operator gives on two expressions' values.
+/// Returns the result of an operator on the values of two expressions.
 #[cycle(evaluate)]
 #[inline(never)]
 pub(crate) fn two_operands<'a, L: EvalEnv>(
@@ -145,7 +154,7 @@ pub(crate) fn two_operands<'a, L: EvalEnv>(
     second_operand(alloc, right, operator, &left, store)
 }
 
-/// Returns what a call gives on two expressions' values.
+/// Returns the result of a call on the values of two expressions.
 #[cycle(evaluate)]
 #[inline(never)]
 fn two_called<'a, L: EvalEnv>(
@@ -163,7 +172,7 @@ fn two_called<'a, L: EvalEnv>(
     second_called(alloc, right, called, &left, store)
 }
 
-/// Returns what an operator gives on an expression's value.
+/// Returns the result of an operator on the value of an expression.
 #[cycle(evaluate)]
 #[inline(never)]
 fn one_operand<'a, L: EvalEnv>(
@@ -180,7 +189,8 @@ fn one_operand<'a, L: EvalEnv>(
     on_operand(operator, &given)
 }
 
-/// Returns what an operator gives on what was given and an expression's value; where nothing was given, only why.
+/// Returns the result of an operator on the left value and the value of an expression; if the left result is an
+/// error, that error.
 #[cycle(evaluate)]
 #[inline(never)]
 fn second_operand<'a, L: EvalEnv>(
@@ -203,7 +213,7 @@ fn second_operand<'a, L: EvalEnv>(
     }
 }
 
-/// Returns what a call gives on an expression's value.
+/// Returns the result of a call on the value of an expression.
 #[cycle(evaluate)]
 #[inline(never)]
 fn one_called<'a, L: EvalEnv>(
@@ -220,7 +230,8 @@ fn one_called<'a, L: EvalEnv>(
     called_on(called, &given)
 }
 
-/// Returns what a call gives on what was given and an expression's value; where nothing was given, only why.
+/// Returns the result of a call on the left value and the value of an expression; if the left result is an error,
+/// that error.
 #[cycle(evaluate)]
 #[inline(never)]
 fn second_called<'a, L: EvalEnv>(
@@ -243,7 +254,7 @@ fn second_called<'a, L: EvalEnv>(
     }
 }
 
-/// Returns a field or an attribute of an expression's value.
+/// Returns a field or an attribute of the value of an expression.
 #[cycle(evaluate)]
 #[inline(never)]
 pub(crate) fn field_of<'a, L: EvalEnv>(
@@ -265,7 +276,7 @@ pub(crate) fn field_of<'a, L: EvalEnv>(
     }
 }
 
-/// Returns whether an expression's value has a field or an attribute.
+/// Returns whether the value of an expression has a field or an attribute.
 #[cycle(evaluate)]
 #[inline(never)]
 fn has_of<'a, L: EvalEnv>(
@@ -282,7 +293,7 @@ fn has_of<'a, L: EvalEnv>(
     has_in(store, &given, name)
 }
 
-/// Returns the set of what expressions give.
+/// Returns the set of the values of expressions.
 #[cycle(evaluate)]
 #[inline(never)]
 fn set_of<'a, L: EvalEnv>(
@@ -297,7 +308,7 @@ fn set_of<'a, L: EvalEnv>(
     set_with(evaluate_each(alloc, members, store))
 }
 
-/// Returns the record of what the expressions under names give.
+/// Returns the record of the values of named expressions.
 #[cycle(evaluate)]
 #[inline(never)]
 fn record_of<'a, L: EvalEnv>(
@@ -313,7 +324,7 @@ fn record_of<'a, L: EvalEnv>(
     record_with(evaluate_fields(alloc, fields, store))
 }
 
-/// Returns what expressions give, in order.
+/// Returns the values of expressions, in order.
 #[cycle(evaluate)]
 #[inline(never)]
 fn evaluate_each<'a, L: EvalEnv>(
@@ -333,7 +344,7 @@ fn evaluate_each<'a, L: EvalEnv>(
     Ok(values)
 }
 
-/// Returns the fields that the expressions under names give, in the order in which they are written.
+/// Returns the fields of named expressions, in the order in which they are written.
 #[cycle(evaluate)]
 #[inline(never)]
 fn evaluate_fields<'a, L: EvalEnv>(

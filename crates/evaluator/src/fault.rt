@@ -1,29 +1,29 @@
-//! Why an expression gives no value.
+//! Errors of evaluation.
 ghost use Rattle.std.specs.Prelude.{◌≡◌};
 ghost use Rattle.evaluator.specs.declared.fault.EvalFault.TheVariants.{NoMemory};
 
 use std::alloc::{AllocError, AllocFailed};
 use thiserror::Error;
 
-/// Why an expression gives no value.
+/// An error of evaluation.
 #[derive(Clone, Copy, Debug, Error)]
 pub enum EvalFault {
-    /// An attribute was asked of an entity that is not stored.
+    /// An attribute of an entity that is not stored was accessed.
     #[error("entity does not exist")]
     EntityDoesNotExist,
-    /// A record has no such field, or a stored entity no such attribute.
+    /// The record does not have this field, or the stored entity does not have this attribute.
     #[error("attribute does not exist")]
     AttrDoesNotExist,
-    /// An operand is of a kind of which this can't be asked.
+    /// The operation is not defined for an operand of this kind.
     #[error("operand of the wrong type")]
     TypeError,
-    /// A number leaves signed 64 bits.
+    /// The result of arithmetic is outside signed 64 bits.
     #[error("integer overflow")]
     ArithBoundsError,
-    /// A text is none of a decimal's, or none of an address's.
+    /// A string is not a decimal, or not an IP address.
     #[error("invalid decimal or IP address")]
     ExtensionError,
-    /// An allocation was refused.
+    /// An allocation failed.
     #[error("out of memory")]
     NoMemory,
 }

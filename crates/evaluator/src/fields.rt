@@ -15,7 +15,7 @@ use grammar_core::Variable;
 use std::alloc::Global;
 use values::{BorrowedKind, EntityUid, Kind, Record, Value};
 
-/// Returns the value that was found.
+/// Returns the value, or `AttrDoesNotExist`.
 fn found<'a>(found: Option<&'a Value>) -> Result<BorrowedOrOwned<'a>, EvalFault>
     ensures { result ≡ found_or EvalFault.AttrDoesNotExist (option_map (λ v. v.now) found.entry) }
 {
@@ -25,7 +25,7 @@ fn found<'a>(found: Option<&'a Value>) -> Result<BorrowedOrOwned<'a>, EvalFault>
     }
 }
 
-/// Returns the value that was found, copied.
+/// Returns a copy of the value, or `AttrDoesNotExist`.
 fn copy_found<'a>(alloc: Global, found: Option<&Value>) -> Result<BorrowedOrOwned<'a>, EvalFault>
     ensures { Answers result (found_or EvalFault.AttrDoesNotExist (option_map (λ v. v.now) found.entry)) }
 {
@@ -35,7 +35,7 @@ fn copy_found<'a>(alloc: Global, found: Option<&Value>) -> Result<BorrowedOrOwne
     }
 }
 
-/// Returns the value of one among the fields, where it stands; without fields it is an entity that is not stored.
+/// Returns the value of an attribute, borrowed; without fields the entity is not stored.
 fn attribute_at<'a>(fields: Option<&'a Record>, name: &str) -> Result<&'a Value, EvalFault>
     ensures { let due = attribute (option_map (λ r. r.now) fields.entry) name.now in
         MatchResult result (λ v. due ≡ Ok v.now) (λ e. due ≡ Err e) }
@@ -47,7 +47,7 @@ fn attribute_at<'a>(fields: Option<&'a Record>, name: &str) -> Result<&'a Value,
     }
 }
 
-/// Returns a value that stands somewhere; an error stays.
+/// Returns a borrowed value, or the error.
 pub(crate) fn lent<'a>(
     found: Result<&'a Value, EvalFault>,
 ) -> Result<BorrowedOrOwned<'a>, EvalFault>
@@ -70,8 +70,8 @@ fn attribute<'a, L: Lookup>(
     lent(attribute_at(store.attrs_of(uid), name))
 }
 
-/// Returns the value of a field or an attribute of what a variable stands for: most conditions ask for these, so no
-/// value is made of the variable.
+/// Returns the value of a field or an attribute of a variable. Most conditions access these, so no value is made of
+/// the variable.
 #[tactic(auto, using(crate::proofs::Variables::field_under))]
 pub(crate) fn variable_field<'a, L: EvalEnv>(
     store: &'a L,
@@ -85,7 +85,7 @@ pub(crate) fn variable_field<'a, L: EvalEnv>(
     attribute_at(store.fields_of(variable), name)
 }
 
-/// Returns the number that a field or an attribute of what a variable stands for is, or None where it is no number.
+/// Returns the integer in a field or an attribute of a variable, or `None` if its value is of another kind.
 pub(crate) fn variable_number<L: EvalEnv>(
     store: &L,
     variable: Variable,
@@ -100,7 +100,7 @@ pub(crate) fn variable_number<L: EvalEnv>(
     }
 }
 
-/// Returns whether this is among the fields; an entity that is not stored has none.
+/// Returns whether there is this attribute; an entity that is not stored has none.
 fn has_attribute(fields: Option<&Record>, name: &str) -> bool
     ensures { result ≡ has_attribute (option_map (λ r. r.now) fields.entry) name.now }
 {
@@ -110,7 +110,7 @@ fn has_attribute(fields: Option<&Record>, name: &str) -> bool
     }
 }
 
-/// Returns whether what a variable stands for has a field or an attribute.
+/// Returns whether a variable has a field or an attribute.
 #[tactic(auto, using(crate::proofs::Variables::has_under))]
 pub(crate) fn variable_has<L: EvalEnv>(store: &L, variable: Variable, name: &str) -> bool
     ensures { has_field (decided_world (L.stored store.now) (L.above store.now)) name.now
@@ -119,7 +119,7 @@ pub(crate) fn variable_has<L: EvalEnv>(store: &L, variable: Variable, name: &str
     has_attribute(store.fields_of(variable), name)
 }
 
-/// Returns the value of a field or an attribute of what is borrowed.
+/// Returns the value of a field or an attribute of a borrowed value.
 #[tactic(auto, using(crate::proofs::Conversions::conversions))]
 fn field_of_borrowed<'a, L: Lookup>(
     store: &'a L,
@@ -136,7 +136,7 @@ fn field_of_borrowed<'a, L: Lookup>(
     }
 }
 
-/// Returns the value of a field or an attribute of what was computed.
+/// Returns the value of a field or an attribute of a computed value.
 #[tactic(auto, using(crate::proofs::Conversions::conversions))]
 fn field_of_computed<'a, L: Lookup>(
     alloc: Global,
@@ -168,7 +168,7 @@ pub(crate) fn field<'a, L: Lookup>(
     }
 }
 
-/// Returns whether a field or an attribute is there.
+/// Returns whether a value has a field or an attribute.
 #[tactic(auto, using(crate::proofs::Conversions::conversions))]
 pub(crate) fn has<L: Lookup>(
     store: &L,

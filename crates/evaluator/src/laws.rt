@@ -1,11 +1,12 @@
-//! Laws about the definitions; the functions do nothing.
+//! Theorems about the definitions. The functions are no-ops.
 ghost use Rattle.evaluator.specs.Laws.{HaveOneOutcome, HaveOneOutcomeInFiniteHierarchies, NothingWantsMemory};
 ghost use Rattle.evaluator.specs.inner.Meanings.{MeaningsAreGiven};
 
 use ancestor_search::laws::paths_are_decided;
 use values::{one_decimal_a_text, one_network_a_text, sets_hold_their_members};
 
-/// What an expression computes is what it gives, and it gives nothing else, wherever a test decides who is above whom.
+/// Proves that the computed meaning of an expression is its only outcome, if a test decides the ancestor relation.
+/// No-op.
 pub(crate) fn meanings_are_given()
     ensures { MeaningsAreGiven }
 {
@@ -14,8 +15,8 @@ pub(crate) fn meanings_are_given()
     sets_hold_their_members();
 }
 
-/// Each expression gives exactly one outcome, wherever it can be decided who is above whom; so wherever finitely many
-/// entities have parents. None gives `NoMemory`, which is of the evaluator alone.
+/// Proves that each expression has exactly one outcome, if the ancestor relation is decidable, and so if finitely
+/// many entities have parents; and that no outcome is `NoMemory`, which only the evaluator returns. No-op.
 pub fn expressions_have_one_outcome()
     ensures decided { HaveOneOutcome }
     ensures finite { HaveOneOutcomeInFiniteHierarchies }

@@ -1,4 +1,4 @@
-//! The values of literals and of variables, each as an outcome, so that a level of the recursion holds no value of its
+//! The values of literals and of variables, each as a result, so that a level of the recursion holds no value of its
 //! own for them.
 ghost use Rattle.std.specs.Prelude.{◌≡◌, Ok};
 ghost use Rattle.evaluator.specs.Evaluation.{literal_value, variable_value};
@@ -9,7 +9,7 @@ use crate::question::EvalEnv;
 use grammar_core::{Literal, Variable};
 use values::{Request, ValueRef};
 
-/// Returns the value of a literal, where it stands.
+/// Returns the value of a literal, borrowed.
 fn literal_ref(literal: &Literal) -> ValueRef<'_>
     ensures { result ≡ literal_value literal.now }
 {
@@ -31,7 +31,7 @@ pub(crate) fn literal_of(literal: &Literal) -> Result<BorrowedOrOwned<'_>, EvalF
     })
 }
 
-/// Returns the part of the request that a variable stands for, where it stands.
+/// Returns the value of a variable, borrowed.
 fn variable_ref(variable: Variable, request: &Request) -> ValueRef<'_>
     ensures { result ≡ variable_value variable request.now }
 {
@@ -43,7 +43,7 @@ fn variable_ref(variable: Variable, request: &Request) -> ValueRef<'_>
     }
 }
 
-/// Returns the part of the request that a variable stands for.
+/// Returns the value of a variable.
 #[inline(never)]
 pub(crate) fn variable_of<L: EvalEnv>(
     variable: Variable,

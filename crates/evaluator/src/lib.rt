@@ -1,4 +1,4 @@
-//! What expressions evaluate to, under a request and over the stored entities.
+//! The evaluator of expressions, under a request and over the stored entities.
 #![tactic(auto)]
 
 mod borrowed_or_owned;

@@ -1,4 +1,4 @@
-//! Numbers that were given, outside the recursion: none of what is of another kind.
+//! Integer operands, outside the recursion: `None` for a value of another kind.
 ghost use Rattle.std.specs.Prelude.{◌≡◌};
 ghost use Rattle.grammar_core.specs.declared.operator.Binary.TheVariants.{Less, LessOrEqual};
 ghost use Rattle.evaluator.specs.Outcomes.{EvaluationResult, long_in};
@@ -11,14 +11,14 @@ use crate::fault::EvalFault;
 use grammar_core::Literal;
 use values::{Kind, Value};
 
-/// What two operands gave, where these are numbers.
+/// The integers in the values of two operands.
 #[derive(Clone, Copy)]
 pub(crate) struct Numbers {
     pub(crate) first: Option<i64>,
     pub(crate) second: Option<i64>,
 }
 
-/// Returns the value as a number, or None.
+/// Returns the integer in a value, or `None`.
 pub(crate) fn number_or_none(value: &Value) -> Option<i64>
     ensures { result ≡ long_in value.now }
 {
@@ -28,7 +28,7 @@ pub(crate) fn number_or_none(value: &Value) -> Option<i64>
     }
 }
 
-/// Returns the number that a literal is, or None.
+/// Returns the integer of a literal, or `None`.
 pub(crate) fn literal_number(literal: &Literal) -> Option<i64>
     ensures { result ≡ long_in (literal_value literal.now) }
 {
@@ -38,7 +38,7 @@ pub(crate) fn literal_number(literal: &Literal) -> Option<i64>
     }
 }
 
-/// Returns the number that was given, or None where what was given is no number.
+/// Returns the integer in a result, `None` for a value of another kind, or the error.
 pub(crate) fn number_in(
     given: &Result<BorrowedOrOwned<'_>, EvalFault>,
 ) -> Result<Option<i64>, EvalFault>
@@ -50,7 +50,7 @@ pub(crate) fn number_in(
     }
 }
 
-/// Returns both numbers, where both were numbers.
+/// Returns both integers; `TypeError` if one is missing.
 fn both(numbers: Numbers) -> Result<(i64, i64), EvalFault>
     ensures { result ≡ two_demanded numbers.first numbers.second }
 {
@@ -60,7 +60,7 @@ fn both(numbers: Numbers) -> Result<(i64, i64), EvalFault>
     }
 }
 
-/// Returns whether the first number is less.
+/// Returns whether the first integer is less.
 pub(crate) fn is_less(found: Result<Numbers, EvalFault>) -> Result<bool, EvalFault>
     ensures { (E : DecidedWorld) (a b : EvaluationResult) → TellNumbers found a b
         → Answers result (as_test (and_then a (λ v. and_then b (apply_binary E Less v)))) }
@@ -74,7 +74,7 @@ pub(crate) fn is_less(found: Result<Numbers, EvalFault>) -> Result<bool, EvalFau
     }
 }
 
-/// Returns whether the first number is not greater.
+/// Returns whether the first integer is not greater.
 pub(crate) fn is_less_or_equal(found: Result<Numbers, EvalFault>) -> Result<bool, EvalFault>
     ensures { (E : DecidedWorld) (a b : EvaluationResult) → TellNumbers found a b
         → Answers result (as_test (and_then a (λ v. and_then b (apply_binary E LessOrEqual v)))) }

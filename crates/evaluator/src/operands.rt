@@ -1,4 +1,4 @@
-//! What of a value is asked for: what it holds, if it is of that kind.
+//! Operands of one kind: the content of a value, or `TypeError`.
 ghost use Rattle.std.specs.Prelude.{◌≡◌, MatchResult, Ok, Err};
 ghost use Rattle.evaluator.specs.Outcomes.{boolean_in, long_in, text_in, entity_uid_in, members_in};
 ghost use Rattle.evaluator.specs.Outcomes.{decimal_in, network_in};
@@ -19,7 +19,7 @@ pub(crate) fn boolean_of(given: &BorrowedOrOwned<'_>) -> Result<bool, EvalFault>
     }
 }
 
-/// Returns the value as a number.
+/// Returns the value as an integer.
 pub(crate) fn long_of(given: &BorrowedOrOwned<'_>) -> Result<i64, EvalFault>
     ensures { result ≡ demanded (long_in given.now) }
 {
@@ -29,7 +29,7 @@ pub(crate) fn long_of(given: &BorrowedOrOwned<'_>) -> Result<i64, EvalFault>
     }
 }
 
-/// Returns the value as a text.
+/// Returns the value as a string.
 pub(crate) fn text_of<'g>(given: &'g BorrowedOrOwned<'_>) -> Result<&'g Text, EvalFault>
     ensures { MatchResult result (λ t. demanded (text_in given.now) ≡ Ok t.now)
         (λ e. demanded (text_in given.now) ≡ Err e) }
@@ -73,7 +73,7 @@ pub(crate) fn decimal_of(given: &BorrowedOrOwned<'_>) -> Result<Decimal, EvalFau
     }
 }
 
-/// Returns the value as an address.
+/// Returns the value as an IP address.
 pub(crate) fn network_of(given: &BorrowedOrOwned<'_>) -> Result<IpNet, EvalFault>
     ensures { result ≡ demanded (network_in given.now) }
 {
@@ -83,7 +83,7 @@ pub(crate) fn network_of(given: &BorrowedOrOwned<'_>) -> Result<IpNet, EvalFault
     }
 }
 
-/// Both values as numbers; one step of the caller for two that may fail.
+/// Returns both values as integers; one step for the caller, where two may fail.
 pub(crate) fn longs_of(
     a: &BorrowedOrOwned<'_>,
     b: &BorrowedOrOwned<'_>,
@@ -94,7 +94,7 @@ pub(crate) fn longs_of(
     Ok((first, long_of(b)?))
 }
 
-/// Both values as decimals.
+/// Returns both values as decimals.
 pub(crate) fn decimals_of(
     a: &BorrowedOrOwned<'_>,
     b: &BorrowedOrOwned<'_>,

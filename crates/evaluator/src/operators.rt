@@ -1,4 +1,4 @@
-//! What operators give on values.
+//! Operators, on values.
 ghost use Rattle.std.specs.Prelude.{◌≡◌, ◌⊎◌, ◌↔◌, ◌+ℤ◌, ◌-ℤ◌, ◌*ℤ◌, int_lt, int_le, IsTrue, Contains, IfOk};
 ghost use Rattle.std.specs.Prelude.{MatchResult, Ok, Err};
 ghost use Rattle.std.specs.List.{list_all, list_any};
@@ -17,7 +17,7 @@ use grammar_core::{Binary, Unary};
 use plain::NoMemory;
 use values::{BorrowedKind, EntityUid, Kind, Set, Value, sets_hold_their_members};
 
-/// Returns what an operator gives on a value.
+/// Returns the result of an operator on a value.
 pub(crate) fn unary(operator: &Unary, given: &BorrowedOrOwned<'_>) -> Result<Value, EvalFault>
     ensures { result ≡ apply_unary operator.now given.now }
 {
@@ -31,7 +31,7 @@ pub(crate) fn unary(operator: &Unary, given: &BorrowedOrOwned<'_>) -> Result<Val
     }
 }
 
-/// Returns what checked arithmetic comes to.
+/// Returns the result of checked arithmetic.
 fn number(found: Option<i64>) -> Result<Value, EvalFault>
     ensures { result ≡ number_or_fault found }
 {
@@ -41,7 +41,7 @@ fn number(found: Option<i64>) -> Result<Value, EvalFault>
     }
 }
 
-/// Returns whether the first of two numbers is less; an error stays.
+/// Returns whether the first of two integers is less, or the error.
 fn less(numbers: Result<(i64, i64), EvalFault>) -> Result<Value, EvalFault>
     ensures { result ≡ and_then numbers (λ p. truth (int_lt p.0 p.1)) }
 {
@@ -77,7 +77,7 @@ fn product(numbers: Result<(i64, i64), EvalFault>) -> Result<Value, EvalFault>
     number(a.checked_mul(b))
 }
 
-/// Returns whether `a` is `b` or below it.
+/// Returns whether `a` is `b` or a descendant of it.
 fn is_in<L: Lookup>(store: &L, a: &EntityUid, b: &EntityUid) -> Result<bool, NoMemory>
     ensures { IfOk result (λ r. r ≡ is_in (decided_world (L.stored store.now) (L.above store.now)) a.now b.now) }
 {
@@ -106,7 +106,7 @@ fn is_within(a: &EntityUid, ancestors: &[&EntityUid], b: &EntityUid) -> bool
     a.cmp(b).is_eq() || is_among(ancestors, b)
 }
 
-/// Returns whether `a` is in some member, all of which have to be entities. The ancestors of `a` are asked for once.
+/// Returns whether `a` is in some member; all members must be entities. The ancestors of `a` are looked up once.
 fn in_members<L: Lookup>(store: &L, a: &EntityUid, members: &[Value]) -> Result<bool, EvalFault>
     ensures { Answers result (in_members (decided_world (L.stored store.now) (L.above store.now)) a.now members.now) }
 {
@@ -137,7 +137,7 @@ fn in_value<L: Lookup>(
     }
 }
 
-/// Returns whether a value is a member; takes no memory, and logarithmic time.
+/// Returns whether a value is a member. Logarithmic time. Does not allocate.
 fn is_member(members: &Set, given: &BorrowedOrOwned<'_>) -> bool
     ensures { result ≡ has_member members.now given.now }
 {
@@ -148,21 +148,21 @@ fn is_member(members: &Set, given: &BorrowedOrOwned<'_>) -> bool
         .is_ok()
 }
 
-/// Returns whether each member of the second set is one of the first.
+/// Returns whether each member of the second set is a member of the first.
 fn contains_all(a: &BorrowedOrOwned<'_>, b: &BorrowedOrOwned<'_>) -> Result<Value, EvalFault>
     ensures { result ≡ sets (λ x y. list_all (has_member x) y) a.now b.now }
 {
     Ok(Value::boolean(set_of(a)?.contains_all(set_of(b)?)))
 }
 
-/// Returns whether some member of the second set is one of the first.
+/// Returns whether some member of the second set is a member of the first.
 fn contains_any(a: &BorrowedOrOwned<'_>, b: &BorrowedOrOwned<'_>) -> Result<Value, EvalFault>
     ensures { result ≡ sets (λ x y. list_any (has_member x) y) a.now b.now }
 {
     Ok(Value::boolean(set_of(a)?.contains_any(set_of(b)?)))
 }
 
-/// Returns what an operator gives on two values.
+/// Returns the result of an operator on two values.
 pub(crate) fn binary<L: Lookup>(
     store: &L,
     operator: Binary,

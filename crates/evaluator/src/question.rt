@@ -1,4 +1,4 @@
-//! What is asked: a request, with the stored entities that it is decided over.
+//! The environment of an evaluation: a request, and the stored entities.
 ghost use Rattle.std.specs.Prelude.{◌≡◌, option_map};
 ghost use Rattle.values.specs.declared.request.Request.{Request};
 ghost use Rattle.evaluator.specs.Asked.{fields_under};
@@ -9,8 +9,8 @@ use grammar_core::Variable;
 use plain::NoMemory;
 use values::{EntityUid, Record, Request};
 
-/// A request, with the stored entities that it is decided over. Whoever looked the request's entities up already gives
-/// their attributes by the variable that stands for each, so that no entity has to be found by its name.
+/// The environment of an evaluation: a request, and the stored entities. An implementation that has looked up the
+/// request's entities returns their attributes by variable, without a search by uid.
 pub trait EvalEnv: Lookup {
     /// The request.
     ghost asked: { Self → Request };
@@ -19,13 +19,13 @@ pub trait EvalEnv: Lookup {
     fn request(&self) -> &Request
         ensures { result.now ≡ asked self.now };
 
-    /// Returns the fields of what a variable stands for: the attributes of an entity, or None exactly where it is not
-    /// stored; or the fields of the context. Takes no memory.
+    /// Returns the fields of a variable: the attributes of its entity, or `None` if and only if it is not stored; or
+    /// the fields of the context. Does not allocate.
     fn fields_of(&self, variable: Variable) -> Option<&Record>
         ensures { option_map (λ r. r.now) result ≡ fields_under (Self.stored self.now) (asked self.now) variable };
 }
 
-/// A request beside the stored entities, of which nothing was looked up yet.
+/// A request with the stored entities, without any looked-up entity.
 #[derive(Drop)]
 pub struct RequestEnv<'a, L: Lookup> {
     pub request: &'a Request,

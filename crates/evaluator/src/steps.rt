@@ -1,5 +1,5 @@
-//! What forms make of what their operands gave, outside the recursion: an error stays. An outcome is read where it
-//! stands, since each function that takes one by value copies it.
+//! The steps after the operands of an expression, outside the recursion: an error is passed on. A result is borrowed,
+//! since each function that takes one by value copies it.
 ghost use Rattle.std.specs.Prelude.{◌≡◌, ◌≢◌, ◌++◌, ◌∷◌, [], List, MatchResult, Result, Ok, Err};
 ghost use Rattle.grammar_core.specs.declared.operator.Unary.TheVariants.{Not};
 ghost use Rattle.values.specs.Fields.{put};
@@ -22,7 +22,7 @@ use plain::{Text, beside};
 use std::alloc::Global;
 use values::{Record, Value};
 
-/// Returns what was computed, if it was.
+/// Returns the computed value, or the error.
 fn computed<'a>(found: Result<Value, EvalFault>) -> Result<BorrowedOrOwned<'a>, EvalFault>
     ensures { result ≡ found }
 {
@@ -32,7 +32,7 @@ fn computed<'a>(found: Result<Value, EvalFault>) -> Result<BorrowedOrOwned<'a>, 
     }
 }
 
-/// Returns what was given as a test.
+/// Returns the operand as a `bool`.
 pub(crate) fn tested(given: &Result<BorrowedOrOwned<'_>, EvalFault>) -> Result<bool, EvalFault>
     ensures { AnswersNext given.now (λ v. demanded (boolean_in v)) result }
 {
@@ -42,7 +42,7 @@ pub(crate) fn tested(given: &Result<BorrowedOrOwned<'_>, EvalFault>) -> Result<b
     }
 }
 
-/// Returns the opposite of a test; an error stays.
+/// Returns the negation, or the error.
 pub(crate) fn opposite(found: Result<bool, EvalFault>) -> Result<bool, EvalFault>
     ensures { (m : EvaluationResult) → Answers found (as_test m)
         → Answers result (as_test (and_then m (apply_unary Not))) }
@@ -50,7 +50,7 @@ pub(crate) fn opposite(found: Result<bool, EvalFault>) -> Result<bool, EvalFault
     Ok(!found?)
 }
 
-/// Returns whether what was given has a field or an attribute, as a test.
+/// Returns whether the operand has a field or an attribute, as a `bool`.
 #[inline(never)]
 pub(crate) fn has_told<L: Lookup>(
     store: &L,
@@ -66,14 +66,14 @@ pub(crate) fn has_told<L: Lookup>(
     }
 }
 
-/// Returns a truth as a value, if it was found.
+/// Returns a truth value as a value, or the error.
 pub(crate) fn truth_of<'a>(found: Result<bool, EvalFault>) -> Result<BorrowedOrOwned<'a>, EvalFault>
     ensures { result ≡ and_then found truth }
 {
     Ok(BorrowedOrOwned::computed(Value::boolean(found?)))
 }
 
-/// Returns what an operator gives on what its operand gave.
+/// Returns the result of an operator on its operand.
 #[inline(never)]
 pub(crate) fn on_operand<'a>(
     operator: &Unary,
@@ -87,7 +87,7 @@ pub(crate) fn on_operand<'a>(
     }
 }
 
-/// Returns what an operator gives on a value and what its second operand gave.
+/// Returns the result of an operator on a value and its second operand.
 #[inline(never)]
 pub(crate) fn on_operands<'a, L: Lookup>(
     store: &L,
@@ -104,7 +104,7 @@ pub(crate) fn on_operands<'a, L: Lookup>(
     }
 }
 
-/// Returns what a call gives on what its operand gave.
+/// Returns the result of a call on its operand.
 #[inline(never)]
 pub(crate) fn called_on<'a>(
     called: UnaryCall,
@@ -118,7 +118,7 @@ pub(crate) fn called_on<'a>(
     }
 }
 
-/// Returns what a call gives on a value and what its second operand gave.
+/// Returns the result of a call on a value and its second operand.
 #[inline(never)]
 pub(crate) fn called_on_two<'a>(
     called: BinaryCall,
@@ -133,7 +133,7 @@ pub(crate) fn called_on_two<'a>(
     }
 }
 
-/// Returns a field or an attribute of what was given.
+/// Returns a field or an attribute of the operand.
 #[inline(never)]
 pub(crate) fn field_in<'a, L: Lookup>(
     alloc: Global,
@@ -150,7 +150,7 @@ pub(crate) fn field_in<'a, L: Lookup>(
     }
 }
 
-/// Returns whether what was given has a field or an attribute.
+/// Returns whether the operand has a field or an attribute.
 #[inline(never)]
 pub(crate) fn has_in<'a, L: Lookup>(
     store: &L,
@@ -166,7 +166,7 @@ pub(crate) fn has_in<'a, L: Lookup>(
     }
 }
 
-/// Returns the set of what was given.
+/// Returns the set of these members, or the error.
 #[inline(never)]
 pub(crate) fn set_with<'a>(
     given: Result<Vec<Value>, EvalFault>,
@@ -179,7 +179,7 @@ pub(crate) fn set_with<'a>(
     Ok(BorrowedOrOwned::computed(Value::set(members)?))
 }
 
-/// Returns a record, if it was given.
+/// Returns the record of these fields, or the error.
 #[inline(never)]
 pub(crate) fn record_with<'a>(
     given: Result<Record, EvalFault>,
@@ -192,7 +192,7 @@ pub(crate) fn record_with<'a>(
     }
 }
 
-/// Returns the value that was given, copied where it was borrowed.
+/// Returns the value, copied if it was borrowed.
 fn value_of(
     alloc: Global,
     given: Result<BorrowedOrOwned<'_>, EvalFault>,
@@ -202,7 +202,7 @@ fn value_of(
     Ok(given?.into_value(alloc)?)
 }
 
-/// Returns what was given as a value of its own, copied where it was borrowed.
+/// Returns the value as an owned one, copied if it was borrowed.
 pub(crate) fn owned<'a>(
     alloc: Global,
     given: Result<BorrowedOrOwned<'_>, EvalFault>,
@@ -212,14 +212,14 @@ pub(crate) fn owned<'a>(
     computed(value_of(alloc, given))
 }
 
-/// Returns a name of a field of its own.
+/// Returns a copy of a field's name.
 fn copied(name: &Text) -> Result<Text, EvalFault>
     ensures { MatchResult result (λ n. n ≡ name.now) (λ e. e ≡ EvalFault.NoMemory) }
 {
     Ok(name.copy()?)
 }
 
-/// Puts what was given behind the values.
+/// Appends the value to the values.
 pub(crate) fn add_value(
     alloc: Global,
     values: &mut Vec<Value>,
@@ -232,7 +232,7 @@ pub(crate) fn add_value(
     Ok(())
 }
 
-/// Puts what was given among the fields, under this name.
+/// Puts the value into the fields, under this name.
 pub(crate) fn add_field(
     alloc: Global,
     fields: &mut Record,

@@ -1,5 +1,5 @@
-//! Tests, and the numbers that they compare, told by what they are: the forms that most conditions are made of give no
-//! value here, which would be made only to be asked for its boolean or its number.
+//! Tests, and the integers that they compare, without making values: most conditions consist of these expressions,
+//! whose values would only be made to take out the boolean or the integer.
 ghost use Rattle.evaluator.specs.inner.Computing.{decided_world, Answers, meaning, and_then, as_test, field_of};
 ghost use Rattle.evaluator.specs.inner.Computing.{has_field, apply_binary, TellsNumber, TellNumbers};
 
@@ -14,7 +14,7 @@ use grammar_core::{Binary, Expr, Unary};
 use plain::{Shared, Text};
 use std::alloc::Global;
 
-/// Returns what an expression gives as a test.
+/// Evaluates an expression as a `bool`.
 #[cycle(evaluate)]
 #[inline(never)]
 pub(crate) fn test_of<'a, L: EvalEnv>(
@@ -41,7 +41,7 @@ pub(crate) fn test_of<'a, L: EvalEnv>(
     }
 }
 
-/// Returns what an operator gives on two expressions' values, as a test.
+/// Evaluates an operator on two expressions, as a `bool`.
 #[cycle(evaluate)]
 #[inline(never)]
 fn binary_test<'a, L: EvalEnv>(
@@ -65,7 +65,7 @@ fn binary_test<'a, L: EvalEnv>(
     }
 }
 
-/// Returns whether an expression's value has a field or an attribute.
+/// Returns whether the value of an expression has a field or an attribute.
 #[cycle(evaluate)]
 #[inline(never)]
 fn has_test<'a, L: EvalEnv>(
@@ -87,7 +87,7 @@ fn has_test<'a, L: EvalEnv>(
     }
 }
 
-/// Returns the numbers that two expressions give.
+/// Returns the integers in the values of two expressions.
 #[cycle(evaluate)]
 #[inline(never)]
 fn two_numbers<'a, L: EvalEnv>(
@@ -104,7 +104,7 @@ fn two_numbers<'a, L: EvalEnv>(
     Ok(Numbers { first, second })
 }
 
-/// Returns the number that an expression gives, or None where it gives what is no number.
+/// Returns the integer in the value of an expression, or `None` if it is of another kind.
 #[cycle(evaluate)]
 #[inline(never)]
 fn number_of<'a, L: EvalEnv>(
@@ -125,7 +125,7 @@ fn number_of<'a, L: EvalEnv>(
     }
 }
 
-/// Returns the number that a field or an attribute of an expression's value is, or None where it is no number.
+/// Returns the integer in a field or an attribute of an expression's value, or `None` if it is of another kind.
 #[cycle(evaluate)]
 #[inline(never)]
 fn field_number<'a, L: EvalEnv>(

@@ -1,12 +1,13 @@
--- Defines what an attribute of an entity gives, one case a rule of the language.
--- Sources: Cedar reference guide 4.0, "Operators and functions"; cedar-spec, cedar-lean/Cedar/Spec/Evaluator.lean
+-- Defines the result of accessing an attribute of an entity, by one case for each rule of the language.
+-- Source: Cedar reference guide 4.0, "Operators and functions"; cedar-spec, cedar-lean/Cedar/Spec/Evaluator.lean
 -- (`attrsOf`, `getAttr`).
 use Rattle.std.specs.Prelude.{◌≡◌, ℕ, List, Option, Some, None, Result, Ok, Err}
 use Rattle.values.specs.Fields.{Field, find_field}
 use Rattle.values.specs.Values.{PlainValue}
 
--- `AttributeGives unstored missing stored name r` holds if r is the result of `.name` on an entity with the attributes
--- `stored`, None if it is not stored: the value; `missing` if it has none of this name; `unstored` if it is not stored.
+-- `AttributeGives unstored missing stored name r` holds if `r` is the result of `.name` on an entity with the
+-- attributes `stored`, `None` if it is not stored: the value; `missing` if it has none of this name; `unstored` if it
+-- is not stored.
 pub data AttributeGives {E : Type 0} (unstored missing : E) (stored : Option (List Field)) (name : List ℕ)
     : Result PlainValue E → Type 0 where
   attribute : {v : PlainValue} (fs : List Field) → stored ≡ Some fs → find_field name fs ≡ Some v

@@ -1,10 +1,11 @@
--- Defines what `&&` gives, one case a rule of the language.
--- Sources: Cedar reference guide 4.0, "Operators and functions"; cedar-spec, cedar-lean/Cedar/Spec/Evaluator.lean
+-- Defines the result of `&&`, by one case for each rule of the language.
+-- Source: Cedar reference guide 4.0, "Operators and functions"; cedar-spec, cedar-lean/Cedar/Spec/Evaluator.lean
 -- (`evaluate`).
 use Rattle.std.specs.Prelude.{Bool, true, false, Result, Ok, Err}
 
--- `AndGives first second r` holds if r is the result of `&&` on operands with these results, each a boolean or an error
--- (also the type error of an operand that is not a boolean). A false or erroring first operand determines r alone.
+-- `AndGives first second r` holds if `r` is the result of `&&` on operands with these results, each a boolean or an
+-- error (also the type error of an operand that is not a boolean). A false or erroring first operand determines `r`
+-- alone.
 pub data AndGives {E : Type 0} : Result Bool E → Result Bool E → Result Bool E → Type 0 where
   and_false : {second : Result Bool E} → AndGives (Ok false) second (Ok false)
   and_true : {t : Bool} → AndGives (Ok true) (Ok t) (Ok t)

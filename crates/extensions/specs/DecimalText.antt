@@ -1,14 +1,14 @@
--- The texts of decimals, each beside its number of ten-thousandths, and the canonical texts.
--- Source: Cedar reference guide 4.0, the data type decimal and the function `decimal`. The canonical text is a rule of
--- this product.
+-- Defines the strings of decimals, each with its number of ten-thousandths, and the canonical strings.
+-- Source: Cedar reference guide 4.0, the data type decimal and the function `decimal`.
+-- Rules of this product: the canonical string.
 use Rattle.std.specs.Prelude.{◌≡◌, ℕ, suc, ℤ, pos, negsuc, ◌*◌, ◌/◌, ◌%◌, ◌^◌, ◌≤◌, List, ◌++◌, length, codes}
 use Rattle.std.specs.Prelude.{FitsSigned, neg_ℤ}
 use Rattle.std.specs.Int.{w64}
 use Rattle.std.specs.Str.Parse.{IsNumeral, digits_value}
 use Rattle.std.specs.Fmt.{decimal}
 
--- One digit or more, a point, and one to four digits. They write the number of all the digits, divided by ten for each
--- digit behind the point. That is n ten-thousandths.
+-- `IsUnsignedText text n` holds if `text` is at least one digit, a point, and one to four digits, of `n`
+-- ten-thousandths: the number of all the digits, divided by ten for each digit after the point.
 pub record IsUnsignedText (text : List ℕ) (n : ℕ) : Type 0 where
   pub whole : List ℕ
   pub fraction : List ℕ
@@ -18,21 +18,22 @@ pub record IsUnsignedText (text : List ℕ) (n : ℕ) : Type 0 where
   pub short : length fraction ≤ 4
   pub value : n * 10 ^ length fraction ≡ digits_value 10 (whole ++ fraction) * 10000
 
--- such a text, or `-` and such a text
+-- `IsSignedText text z` holds if `text` is such a string, or `-` and such a string.
 pub data IsSignedText : List ℕ → ℤ → Type 0 where
   plain : {text : List ℕ} {n : ℕ} → IsUnsignedText text n → IsSignedText text (pos n)
   minus : {text : List ℕ} {n : ℕ} → IsUnsignedText text n → IsSignedText (codes "-" ++ text) (neg_ℤ (pos n))
 
--- the text of a number of ten-thousandths that fits in signed 64 bits
+-- `IsDecimalText text z` holds if `text` is a decimal of `z` ten-thousandths, which fit in signed 64 bits.
 abbrev pub IsDecimalText : List ℕ → ℤ → Type 0
 IsDecimalText text z = IsSignedText text z × FitsSigned w64 z
 
--- n ten-thousandths: the whole number, a point, and the four digits behind it
+-- `size_text n` is the string of `n` ten-thousandths: the whole number, a point, and four digits.
 abbrev pub size_text : ℕ → List ℕ
 size_text n = decimal (n / 10000) ++ codes "." ++ decimal (n / 1000 % 10) ++ decimal (n / 100 % 10)
     ++ decimal (n / 10 % 10) ++ decimal (n % 10)
 
--- The canonical text: exactly four digits behind the point, no needless leading zeros, and no `-` on zero.
+-- `decimal_text z` is the canonical string: exactly four digits after the point, no unnecessary leading zeros, and no
+-- `-` on zero.
 abbrev pub decimal_text : ℤ → List ℕ
 decimal_text (pos n) = size_text n
 decimal_text (negsuc n) = codes "-" ++ size_text (suc n)

@@ -6,5 +6,5 @@ pub mod NetworkText
 pub mod Order
 pub mod TextsDecided
 pub mod inner
--- crates below, passed on to those above
+-- Specifications of lower crates, re-exported.
 pub use Rattle.plain.specs as plain

@@ -1,7 +1,7 @@
--- The texts of IP addresses with a prefix, each beside what it writes, and the canonical texts.
+-- Defines the strings of IP addresses with a prefix, each with its network, and the canonical strings.
 -- Source: Cedar reference guide 4.0, the function `ip`; RFC 4632, section 3.1, and RFC 4291, section 2.3, for the
--- prefix. That a canonical text always has the prefix, and that an IPv6 one has all eight groups, are rules of this
--- product.
+-- prefix.
+-- Rules of this product: a canonical string always has the prefix, and an IPv6 one has all eight groups.
 use Rattle.std.specs.Prelude.{◌≡◌, ℕ, ◌≤◌, ◌/◌, ◌%◌, ◌^◌, false, ◌⊎◌, List, [], ◌++◌, codes}
 use Rattle.std.specs.Fmt.{decimal, digits}
 use Rattle.extensions.specs.declared.ip_net.Version.{Version}
@@ -9,17 +9,18 @@ use Rattle.extensions.specs.declared.ip_net.Version.TheVariants.{V4, V6}
 use Rattle.extensions.specs.AddressText.{IsIpv4Text, IsIpv6Text}
 use Rattle.extensions.specs.Network.{Network, width}
 
--- an address without a prefix
+-- `IsAddressText version text n` holds if `text` is the address `n` without a prefix.
 abbrev pub IsAddressText : Version → List ℕ → ℕ → Type 0
 IsAddressText V4 text n = IsIpv4Text text n
 IsAddressText V6 text n = IsIpv6Text text n
 
--- nothing, for all bits, or `/` and a decimal number without leading zeros
+-- `IsPrefixText bits text prefix` holds if `text` is empty, for all bits, or `/` and a decimal number without leading
+-- zeros.
 abbrev pub IsPrefixText : ℕ → List ℕ → ℕ → Type 0
 IsPrefixText bits text prefix = ((text ≡ []) × (prefix ≡ bits))
     ⊎ ((text ≡ codes "/" ++ decimal prefix) × (prefix ≤ bits))
 
--- an address and its prefix
+-- `IsNetworkText text n` holds if `text` is an address and its prefix, of the network `n`.
 pub record IsNetworkText (text : List ℕ) (n : Network) : Type 0 where
   pub address_text : List ℕ
   pub prefix_text : List ℕ
@@ -27,28 +28,28 @@ pub record IsNetworkText (text : List ℕ) (n : Network) : Type 0 where
   pub address : IsAddressText n.version address_text n.address
   pub prefix : IsPrefixText (width n.version) prefix_text n.prefix
 
--- four decimal numbers, the highest first
+-- `ipv4_text n` are four decimal numbers, the most significant first.
 abbrev pub ipv4_text : ℕ → List ℕ
 ipv4_text n =
     decimal (n / 2 ^ 24 % 256) ++ codes "." ++ decimal (n / 2 ^ 16 % 256) ++ codes "." ++ decimal (n / 2 ^ 8 % 256)
     ++ codes "."
     ++ decimal (n % 256)
 
--- four groups in lower case hexadecimal digits, the highest first
+-- `groups_text n` are four groups of lower case hexadecimal digits, the most significant first.
 abbrev pub groups_text : ℕ → List ℕ
 groups_text n =
     digits 16 false (n / 2 ^ 48) ++ codes ":" ++ digits 16 false (n / 2 ^ 32 % 65536) ++ codes ":"
     ++ digits 16 false (n / 2 ^ 16 % 65536) ++ codes ":" ++ digits 16 false (n % 65536)
 
--- eight groups
+-- `ipv6_text n` are eight such groups.
 abbrev pub ipv6_text : ℕ → List ℕ
 ipv6_text n = groups_text (n / 2 ^ 64) ++ codes ":" ++ groups_text (n % 2 ^ 64)
 
--- the canonical text of an address
+-- `address_text version n` is the canonical string of an address.
 abbrev pub address_text : Version → ℕ → List ℕ
 address_text V4 n = ipv4_text n
 address_text V6 n = ipv6_text n
 
--- and with its prefix, which is always written
+-- `network_text n` is that of a network, always with its prefix.
 abbrev pub network_text : Network → List ℕ
 network_text n = address_text n.version n.address ++ codes "/" ++ decimal n.prefix

@@ -1,5 +1,6 @@
--- The order of addresses with a prefix: by version, IPv4 first, then by the address as it was written, then by the
--- prefix. That the address is compared unmasked is a rule of this product.
+-- Defines the order of IP addresses with a prefix: by version, IPv4 first, then by the address as it was written,
+-- then by the prefix.
+-- Rules of this product: the address is compared unmasked.
 use Rattle.std.specs.Prelude.{◌≡◌, ℕ, ◌==◌, if◌then◌else◌, refl}
 use Rattle.std.specs.declared.cmp.Ordering.{Ordering}
 use Rattle.std.specs.declared.cmp.Ordering.TheVariants.{Less, Equal, Greater}
@@ -13,22 +14,23 @@ use Rattle.extensions.specs.declared.ip_net.Version.{Version}
 use Rattle.extensions.specs.declared.ip_net.Version.TheVariants.{V4, V6}
 use Rattle.extensions.specs.Network.{Network}
 
--- the version's number
+-- `version_number v` is the number of the version `v`.
 abbrev pub version_number : Version → ℕ
 version_number V4 = 4
 version_number V6 = 6
 
+-- `network_cmp a b` orders networks.
 abbrev pub network_cmp : Network → Network → Ordering
 network_cmp = then_cmp (on (λ n. version_number n.version) nat_cmp)
     (then_cmp (on (λ n. n.address) nat_cmp) (on (λ n. n.prefix) nat_cmp))
 
--- it is total,
+-- The order is total.
 pub network_cmp_total : IsTotalOrder network_cmp
 network_cmp_total =
     then_total (on_total (λ n. version_number n.version) nat_cmp_total)
     (then_total (on_total (λ n. n.address) nat_cmp_total) (on_total (λ n. n.prefix) nat_cmp_total))
 
--- the version, by its number
+-- `version_of k` is the version of the number `k`.
 abbrev pub version_of : ℕ → Version
 version_of k = if k == 4 then V4 else V6
 
@@ -50,7 +52,7 @@ both_equal Less p e = absurd (subst IsTie (sym e) tt)
 both_equal Equal p e = (refl, e)
 both_equal Greater p e = absurd (subst IsTie (sym e) tt)
 
--- and only a network itself ties with it
+-- Only equal networks compare as equal.
 pub network_cmp-IsAntisymmetric : IsAntisymmetric network_cmp
 network_cmp-IsAntisymmetric m n e =
     let first = both_equal (nat_cmp (version_number m.version) (version_number n.version)) _ e in
@@ -60,10 +62,12 @@ network_cmp-IsAntisymmetric m n e =
     let prefix = nat_cmp-IsAntisymmetric m.prefix n.prefix second.1 in
     λ i. record { version = version i; address = address i; prefix = prefix i }
 
--- A network as three numbers, from which it comes back: a crate above makes the code of its own data of it.
+-- `network_numbers n` is the network `n` as three numbers, which determine it; a crate above encodes its own data by
+-- them.
 abbrev pub network_numbers : Network → ℕ × (ℕ × ℕ)
 network_numbers n = (version_number n.version, (n.address, n.prefix))
 
+-- `network_of k` is the network that these three numbers represent.
 abbrev pub network_of : ℕ × (ℕ × ℕ) → Network
 network_of k = record { version = version_of k.0; address = k.1.0; prefix = k.1.1 }
 
@@ -71,6 +75,7 @@ pub network_of-network_numbers : (n : Network) → network_of (network_numbers n
 network_of-network_numbers n =
     λ i. record { version = version_back n.version i; address = n.address; prefix = n.prefix }
 
+-- `network_code` encodes networks by these numbers.
 abbrev pub network_code : Coded Network
 network_code = code_by (ℕ × (ℕ × ℕ)) (coded× coded_ℕ (coded× coded_ℕ coded_ℕ)) network_numbers network_of
     network_of-network_numbers

@@ -1,5 +1,5 @@
--- Whether a text is a decimal's, or an IP address's, and of which, and whether a range lies in another. What each of
--- these decides is its type; how it does so does not have to be believed.
+-- Defines decisions: whether a string is a decimal, or an IP address, and of which value, and whether a range is
+-- within another. The type of each says what it decides; how it does so is not trusted.
 use Rattle.std.specs.Prelude.{◌⊎◌, ℕ, ℤ, List, Option}
 use Rattle.extensions.specs.Decided.{Decided, found}
 use Rattle.extensions.specs.DecimalText.{IsDecimalText}
@@ -16,14 +16,14 @@ network_text_decided text = deciding.network_text_decided text
 pub within_decided : (a b : Network) → Decided (IsWithin a b)
 within_decided a b = deciding.within_decided a b
 
--- whether it lies in one of two
+-- `in_either_decided n a b` decides whether `n` is within one of `a` and `b`.
 pub in_either_decided : (n a b : Network) → Decided (IsWithin n a ⊎ IsWithin n b)
 in_either_decided n a b = deciding.in_either_decided n a b
 
--- the number of ten-thousandths of a decimal's text
+-- `decimal_of text` is the number of ten-thousandths of a decimal's string.
 abbrev pub decimal_of : List ℕ → Option ℤ
 decimal_of text = found (decimal_text_decided text)
 
--- the network of an address's text
+-- `network_of text` is the network of an address's string.
 abbrev pub network_of : List ℕ → Option Network
 network_of text = found (network_text_decided text)

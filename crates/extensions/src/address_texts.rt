@@ -1,4 +1,4 @@
-//! Texts of addresses and prefixes, read and appended.
+//! Strings of addresses and prefixes, parsed and appended.
 ghost use Rattle.std.specs.Prelude.{◌≡◌, ℕ, ◌+◌, ◌^◌, ◌<◌, ◌≤◌, ◌↔◌, ◌++◌, length};
 ghost use Rattle.std.specs.Prelude.{slice_index, IsTrue, IsNone, IfSome, string_bytes, string_len};
 ghost use Rattle.std.specs.Prelude.{string_capacity};
@@ -13,7 +13,7 @@ use crate::ip_net::Version;
 use crate::pieces::{append, append_byte, append_group};
 use std::net::{Ipv4Addr, Ipv6Addr};
 
-/// Returns the address that the text writes, without a prefix, and its version.
+/// Parses an address without a prefix; returns it with its version.
 pub(crate) fn address_of_text(text: &str) -> Option<(Version, u128)>
     ensures some { IfSome result (λ a. IsAddressText a.0 text.now a.1) }
     ensures fits { IfSome result (λ a. a.1 < 2 ^ width a.0) }
@@ -26,7 +26,7 @@ pub(crate) fn address_of_text(text: &str) -> Option<(Version, u128)>
     Some((Version::V6, address))
 }
 
-/// Returns the IPv4 address that the text writes.
+/// Parses an IPv4 address.
 fn ipv4_of_text(text: &str) -> Option<u32>
     ensures some { IfSome result (IsAddressText V4 text.now) }
     ensures none { IsNone result → (n : ℕ) → ¬ (IsAddressText V4 text.now n) }
@@ -37,7 +37,7 @@ fn ipv4_of_text(text: &str) -> Option<u32>
     }
 }
 
-/// Returns the IPv6 address that the text writes, without an embedded IPv4 address.
+/// Parses an IPv6 address, without an embedded IPv4 address.
 fn ipv6_of_text(text: &str) -> Option<u128>
     ensures some { IfSome result (IsAddressText V6 text.now) }
     ensures none { IsNone result → (n : ℕ) → ¬ (IsAddressText V6 text.now n) }
@@ -51,7 +51,7 @@ fn ipv6_of_text(text: &str) -> Option<u128>
     }
 }
 
-/// Returns the prefix that the text behind the `/` writes, of so many bits at most.
+/// Parses the prefix after the `/`, of at most so many bits.
 pub(crate) fn prefix_of_text(text: &str, bits: u8) -> Option<u8>
     ensures some { IfSome result (λ p. (text.now ≡ decimal p) × (p ≤ bits)) }
     ensures none { IsNone result → (p : ℕ) → p ≤ bits → ¬ (text.now ≡ decimal p) }
@@ -60,7 +60,7 @@ pub(crate) fn prefix_of_text(text: &str, bits: u8) -> Option<u8>
     if prefix <= bits { Some(prefix) } else { None }
 }
 
-/// Returns the number up to 255 that the text writes without leading zeros.
+/// Parses a number up to 255 without leading zeros.
 fn decimal_of_text(text: &str) -> Option<u8>
     ensures some { IfSome result (λ n. text.now ≡ decimal n) }
     ensures none { IsNone result → (n : ℕ) → n < 256 → ¬ (text.now ≡ decimal n) }
@@ -77,7 +77,7 @@ fn decimal_of_text(text: &str) -> Option<u8>
     }
 }
 
-/// Returns whether the text has more behind a leading `0`.
+/// Returns whether a string has more characters after a leading `0`.
 fn is_padded(text: &str) -> bool
     ensures { IsTrue result ↔ ((slice_index text.now 0 ≡ 48) × (1 < length text.now)) }
 {

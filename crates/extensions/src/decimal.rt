@@ -15,11 +15,11 @@ use crate::pieces::{append, append_digit, append_whole};
 use std::cmp::Ordering;
 use std::marker::Model;
 
-/// How many bytes the longest canonical text has: `-922337203685477.5808`.
+/// The bytes of the longest canonical string: `-922337203685477.5808`.
 const MOST: usize = 21;
 
-/// A number with four decimal places: a whole number of ten-thousandths, in signed 64 bits. Contracts see it as that
-/// number, by which decimals are compared and ordered.
+/// A decimal with four places: a signed 64-bit number of ten-thousandths. Contracts see that number, by which
+/// decimals are compared and ordered.
 #[derive(Clone, Copy)]
 pub struct Decimal {
     ten_thousandths: i64,
@@ -39,8 +39,8 @@ impl Model for Decimal {
 }
 
 impl Decimal {
-    /// Returns the decimal that the text writes: an optional `-`, digits, `.` and one to four digits, with nothing
-    /// around it. It is `None` for every other text, and for a number outside of signed 64 bits of ten-thousandths.
+    /// Parses a decimal: an optional `-`, digits, `.` and one to four digits, with nothing around it. Returns `None`
+    /// for any other string, and for a number outside signed 64 bits of ten-thousandths.
     pub fn parse(text: &str) -> Option<Decimal>
         ensures some { IfSome result (IsDecimalText text.now) }
         ensures none { IsNone result → (n : ℤ) → ¬ (IsDecimalText text.now n) }
@@ -59,16 +59,19 @@ impl Decimal {
         self.ten_thousandths < other.ten_thousandths
     }
 
-    /// Returns whether this number is the other or less.
+    /// Returns whether this number is at most the other.
     pub fn less_or_equal(&self, other: &Decimal) -> bool
         ensures { IsTrue result ↔ (self.now ≤ℤ other.now) }
     {
         self.ten_thousandths <= other.ten_thousandths
     }
 
-    /// Appends the canonical text: four digits behind the point, no needless leading zeros, and no `-` on zero. The
-    /// text reads back as this number. Where there is no room for the longest text and no more memory, it answers
-    /// `NoMemory` and appends nothing.
+    /// Appends the canonical string: four digits after the point, no unnecessary leading zeros, and no `-` on zero.
+    /// It parses as this number.
+    ///
+    /// # Errors
+    ///
+    /// - `NoMemory`: the string has no capacity for the longest text, and an allocation failed. Nothing is appended.
     pub fn write_to(&self, out: &mut String) -> Result<(), NoMemory>
         ensures written { OnOk result (string_bytes out.new ≡ string_bytes out.old ++ decimal_text self.now) }
         ensures unchanged { OnErr result (string_bytes out.new ≡ string_bytes out.old) }
@@ -123,7 +126,7 @@ impl Ord for Decimal {
     }
 }
 
-/// Appends a number of ten-thousandths, with four digits behind the point.
+/// Appends a number of ten-thousandths, with four digits after the point.
 fn append_size(size: u64, out: &mut String)
     requires small { size ≤ 2 ^ 63 }
     requires room { string_len out.old + 20 ≤ string_capacity out.old }
@@ -137,7 +140,7 @@ fn append_size(size: u64, out: &mut String)
     append_digit(out, (size % 10) as u32)
 }
 
-/// Returns the ten-thousandths of a text without a sign.
+/// Returns the ten-thousandths of a string without a sign.
 fn size_of_text(text: &str) -> Option<u64>
     ensures some { IfSome result (IsUnsignedText text.now) }
     ensures none { IsNone result → (n : ℕ) → IsUnsignedText text.now n → 2 ^ 64 ≤ n }
@@ -148,28 +151,28 @@ fn size_of_text(text: &str) -> Option<u64>
     joined(whole, fraction)
 }
 
-/// Returns the two parts as one number, where it is below `2^64`.
+/// Returns both parts as one number, if it is below `2^64`.
 fn joined(whole: u64, fraction: u64) -> Option<u64>
     ensures { SomeIff result (whole * 10000 + fraction < 2 ^ 64) (whole * 10000 + fraction) }
 {
     u64::try_from(u128::from(whole) * 10_000 + u128::from(fraction)).ok()
 }
 
-/// Returns the number below zero of this size, where it fits.
+/// Returns the negative number of this size, if it fits.
 fn negated(size: u64) -> Option<i64>
     ensures { SomeIff result (FitsSigned w64 (neg_ℤ (pos size))) (neg_ℤ (pos size)) }
 {
     i64::try_from(-i128::from(size)).ok()
 }
 
-/// Returns the number of this size, where it fits.
+/// Returns the number of this size, if it fits.
 fn positive(size: u64) -> Option<i64>
     ensures { SomeIff result (FitsSigned w64 (pos size)) (pos size) }
 {
     i64::try_from(size).ok()
 }
 
-/// Returns the ten-thousandths that one to four digits behind the point write.
+/// Returns the ten-thousandths of one to four digits after the point.
 fn ten_thousandths(fraction: &str) -> Option<u64>
     ensures { SomeIff result (IsNumeral 10 fraction.now × (length fraction.now ≤ 4))
         (digits_value 10 fraction.now * 10 ^ (4 - length fraction.now)) }
@@ -181,7 +184,7 @@ fn ten_thousandths(fraction: &str) -> Option<u64>
     Some(number(fraction)? * scale(places))
 }
 
-/// Returns the ten-thousandths in one of the last of so many places.
+/// Returns the ten-thousandths in one unit of the last of so many places.
 fn scale(places: usize) -> u64
     requires { places ≤ 4 }
     ensures { result ≡ 10 ^ (4 - places) }
@@ -195,7 +198,7 @@ fn scale(places: usize) -> u64
     }
 }
 
-/// Returns the number that the digits write. It is `None` for a text that isn't digits, and for `2^64` and more.
+/// Returns the number of these digits, or `None` if the string is not digits, or the number is at least `2^64`.
 fn number(text: &str) -> Option<u64>
     ensures { SomeIff result (IsNumeral 10 text.now × (digits_value 10 text.now < 2 ^ 64)) (digits_value 10 text.now) }
 {
@@ -205,17 +208,17 @@ fn number(text: &str) -> Option<u64>
     text.parse::<u64>().ok()
 }
 
-/// A text writes one decimal at most.
+/// Proves that a string is at most one decimal. No-op.
 pub fn one_decimal_a_text()
     ensures { (text : List ℕ) (y z : ℤ) → IsDecimalText text y → IsDecimalText text z → y ≡ z }
 {}
 
-/// The number of a text is found by a function, exactly where the text is a decimal's.
+/// Proves that a function computes the number of a string, if and only if the string is a decimal. No-op.
 pub fn decimal_texts_are_decided()
     ensures { (text : List ℕ) (z : ℤ) → (decimal_of text ≡ Some z) ↔ IsDecimalText text z }
 {}
 
-/// The canonical text of a decimal is a text of it.
+/// Proves that the canonical string of a decimal parses as it. No-op.
 pub fn canonical_decimal_reads_back()
     ensures { (z : ℤ) → FitsSigned w64 z → IsDecimalText (decimal_text z) z }
 {}

@@ -18,7 +18,7 @@ use crate::pieces::{append, append_byte};
 use std::cmp::Ordering;
 use std::marker::Model;
 
-/// How many bytes the longest canonical text has: eight groups of four digits, seven colons, `/` and three digits.
+/// The bytes of the longest canonical string: eight groups of four digits, seven colons, `/` and three digits.
 const MOST: usize = 43;
 
 /// The versions of the Internet Protocol.
@@ -30,8 +30,8 @@ pub enum Version {
     V6,
 }
 
-/// An address as it was written, and how many of its first bits are the prefix. Contracts see it as a `Network`. IPv4
-/// is less than IPv6; then the address decides, then the prefix.
+/// An address as it was written, and the length of its prefix in bits. Contracts see a `Network`. Ordered by version
+/// (IPv4 before IPv6), then by address, then by prefix.
 #[derive(Clone, Copy)]
 pub struct IpNet {
     version: Version,
@@ -92,7 +92,7 @@ impl Version {
         }
     }
 
-    /// Returns how many bits an address has.
+    /// Returns the number of bits of an address.
     fn width(self) -> u8
         ensures { result ≡ width self }
     {
@@ -166,8 +166,8 @@ impl IpNet {
     ghost use Rattle.extensions.specs.NetworkText.{IsNetworkText, network_text};
     ghost use Rattle.extensions.specs.declared.ip_net.Version.TheVariants.{V4, V6};
 
-    /// Returns the network that the text writes: an address, and `/` and a prefix where it isn't all bits, with nothing
-    /// around it. It is `None` for every other text.
+    /// Parses a network: an address, with `/` and a prefix unless that is all bits, and nothing around it. Returns
+    /// `None` for any other string.
     pub fn parse(text: &str) -> Option<IpNet>
         ensures some { IfSome result (IsNetworkText text.now) }
         ensures none { IsNone result → (n : Network) → ¬ (IsNetworkText text.now n) }
@@ -207,7 +207,7 @@ impl IpNet {
         self.version == Version::V6
     }
 
-    /// Returns whether the versions agree and this range lies in the other.
+    /// Returns whether the versions agree and this range is within the other.
     pub fn is_in_range(&self, other: &IpNet) -> bool
         ensures { IsTrue result ↔ IsWithin self.now other.now }
     {
@@ -230,9 +230,12 @@ impl IpNet {
         self.is_in_range(&MULTICAST_V4) || self.is_in_range(&MULTICAST_V6)
     }
 
-    /// Appends the canonical text: always with the prefix, and IPv6 as eight groups in lower case without leading
-    /// zeros. The text reads back as this network. Where there is no room for the longest text and no more memory, it
-    /// answers `NoMemory` and appends nothing.
+    /// Appends the canonical string: always with the prefix, and IPv6 as eight groups in lower case without leading
+    /// zeros. It parses as this network.
+    ///
+    /// # Errors
+    ///
+    /// - `NoMemory`: the string has no capacity for the longest text, and an allocation failed. Nothing is appended.
     pub fn write_to(&self, out: &mut String) -> Result<(), NoMemory>
         ensures written { OnOk result (string_bytes out.new ≡ string_bytes out.old ++ network_text self.now) }
         ensures unchanged { OnErr result (string_bytes out.new ≡ string_bytes out.old) }
@@ -250,7 +253,7 @@ impl IpNet {
         Ok(())
     }
 
-    /// Returns how many addresses the range has besides its least.
+    /// Returns the number of addresses in the range, minus one.
     fn others(&self) -> u128
         ensures { result + 1 ≡ size self.now }
     {
@@ -278,29 +281,29 @@ impl IpNet {
     }
 }
 
-/// The range is the addresses that agree with the network's in the bits of the prefix.
+/// Proves that the range is the addresses that agree with the network's in the bits of the prefix. No-op.
 pub fn range_is_agreement()
     ensures { (n : Network) (x : ℕ) → ((least n ≤ x) × (x ≤ greatest n)) ↔ (x / size n ≡ n.address / size n) }
 {}
 
-/// The canonical text of a network is a text of it.
+/// Proves that the canonical string of a network parses as it. No-op.
 pub fn canonical_network_reads_back()
     ensures { (n : Network) → IsNetwork n → IsNetworkText (network_text n) n }
 {}
 
-/// A text writes one network at most.
+/// Proves that a string is at most one network. No-op.
 pub fn one_network_a_text()
     ensures { (text : List ℕ) (m n : Network) → IsNetworkText text m → IsNetworkText text n → m ≡ n }
 {}
 
-/// The network of a text is found by a function, exactly where the text is an address's; and a test tells whether a
-/// range lies in another.
+/// Proves that a function computes the network of a string, if and only if the string is one; and that a test decides
+/// whether a range is within another. No-op.
 pub fn network_texts_are_decided()
     ensures texts { (text : List ℕ) (n : Network) → (network_of text ≡ Some n) ↔ IsNetworkText text n }
     ensures ranges { (a b : Network) → IsTrue (told (within_decided a b)) ↔ IsWithin a b }
 {}
 
-/// The order of networks is total, and only a network itself ties with it.
+/// Proves that the order of networks is total, and only equal networks compare as equal. No-op.
 pub fn network_order_is_exact()
     ensures total { IsTotalOrder network_cmp }
     ensures exact { (m n : Network) → network_cmp m n ≡ Equal → m ≡ n }

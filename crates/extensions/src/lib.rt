@@ -1,7 +1,8 @@
-//! The extension values of the policy language: decimals, and IP addresses with a prefix. They are read from their
-//! texts, compared, and written as their canonical texts.
+//! The extension values of the policy language: decimals, and IP addresses with a prefix. They are parsed from
+//! strings, compared, and written as canonical strings.
 //!
-//! Reading and comparing take no memory. Writing asks for the room of the longest text before it appends anything.
+//! Parsing and comparing do not allocate. Writing reserves the length of the longest string before it appends
+//! anything.
 #![tactic(auto)]
 
 mod address_texts;

@@ -1,4 +1,4 @@
-//! Pieces of a text, appended where there is room for them: they take no memory, so that nothing is half written.
+//! Pieces of a string, appended within its capacity: they do not allocate, so nothing is half written.
 ghost use Rattle.std.specs.Prelude.{◌≡◌, ◌+◌, ◌/◌, ◌%◌, ◌^◌, ◌<◌, ◌≤◌, ◌++◌, ◌∷◌, [], false, length, string_bytes};
 ghost use Rattle.std.specs.Prelude.{string_len, string_capacity};
 ghost use Rattle.std.specs.Fmt.{decimal, digits, digit_glyph};
@@ -51,7 +51,7 @@ pub(crate) fn append_digit(out: &mut String, digit: u32)
     out.push(digit).unwrap()
 }
 
-/// Appends the hexadecimal digit of a group of sixteen bits at a place, unless the group is below that place.
+/// Appends the hexadecimal digit of a sixteen-bit group at a place value, unless the group is less than that.
 fn append_place(out: &mut String, group: u32, place: u32)
     requires room { string_len out.old < string_capacity out.old }
     requires some { 0 < place }

@@ -1,4 +1,4 @@
--- Whether a text matches a pattern, as a test: every way to cut the text is tried.
+-- Defines whether a string matches a pattern, as a test that tries every way to cut the string.
 use Rattle.std.specs.Prelude.{◌≡◌, ◌↔◌, ◌⊎◌, ℕ, Bool, true, false, ◌&&◌, ◌||◌, List, [], ◌∷◌, ◌++◌, refl}
 use Rattle.std.proofs.Common.{sym, ap, ◌∙◌, subst, inl, inr}
 use Rattle.std.proofs.lemmas.Bool.{and_from, and_parts, false≢true}
@@ -10,27 +10,28 @@ use Rattle.std.specs.Str.{IsUtf8, is_utf8, bytes_eq}
 use Rattle.std.proofs.lemmas.Str.{IsUtf8-from_is_utf8, is_utf8-from_IsUtf8}
 use Rattle.grammar_core.specs.Like.{Element, literal, star, elements, IsPieceOf, IsJoined, Matches}
 
--- whether the test holds of some cut of the text in two
+-- `some_cut test text` tests whether some cut of `text` in two passes `test`.
 abbrev pub some_cut : (List ℕ → List ℕ → Bool) → List ℕ → Bool
 some_cut test [] = test [] []
 some_cut test (c ∷ cs) = test [] (c ∷ cs) || some_cut (λ piece rest. test (c ∷ piece) rest) cs
 
+-- `is_piece_of e piece` tests `IsPieceOf e piece`.
 abbrev pub is_piece_of : Element → List ℕ → Bool
 is_piece_of (literal text) piece = bytes_eq piece text
 is_piece_of star piece = is_utf8 piece
 
--- whether the text is a joining of pieces, one for each element in order
+-- `is_joined es text` tests whether `text` is a concatenation of pieces, one for each element of `es` in order.
 abbrev pub is_joined : List Element → List ℕ → Bool
 is_joined [] text = bytes_eq text []
 is_joined (e ∷ es) text = some_cut (λ piece rest. is_piece_of e piece && is_joined es rest) text
 
--- whether the text matches the pattern with these literal texts
+-- `is_match pattern text` tests whether `text` matches the pattern with these literal texts.
 abbrev pub is_match : List (List ℕ) → List ℕ → Bool
 is_match pattern text = is_joined (elements pattern) text
 
--- ## The test and the relation are the same.
+-- ## The test and the relation agree.
 
--- The text is a piece of the first element and then a joining of the others'.
+-- `Joins es text` holds if `text` is a piece of the first element, followed by a concatenation for the others.
 abbrev pub Joins : List Element → List ℕ → Type 0
 Joins [] text = text ≡ []
 Joins (e ∷ es) text = (piece : List ℕ) × (rest : List ℕ) × (text ≡ piece ++ rest) × IsPieceOf e piece × Joins es rest
@@ -56,7 +57,7 @@ joins_pieces (x ∷ xs) (p ∷ ps) text h e = (p, concat ps, e, h.0, joins_piece
 pub joins_from_joined : (es : List Element) (text : List ℕ) → IsJoined es text → Joins es text
 joins_from_joined es text h = joins_pieces es h.pieces text h.stand h.joined
 
--- a cut that passes the test
+-- `SomeCut test text` holds if some cut of `text` in two passes `test`.
 SomeCut : (List ℕ → List ℕ → Bool) → List ℕ → Type 0
 SomeCut test text = (piece : List ℕ) × (rest : List ℕ) × (text ≡ piece ++ rest) × (test piece rest ≡ true)
 
@@ -110,7 +111,7 @@ test_from_joins (x ∷ xs) text h =
     (passes_cut (λ piece rest. is_piece_of x piece && is_joined xs rest) h.0 h.1
     (and_from (is_piece_of x h.0) (is_joined xs h.1) ((piece_decided x h.0).1 h.3) (test_from_joins xs h.1 h.4)))
 
--- The test is true exactly of the texts that match.
+-- The test decides the relation.
 pub is_match-Decides : (pattern : List (List ℕ)) (text : List ℕ)
     → Decides (is_match pattern text) (Matches pattern text)
 is_match-Decides pattern text = (
@@ -118,17 +119,17 @@ is_match-Decides pattern text = (
   λ h. test_from_joins (elements pattern) text (joins_from_joined (elements pattern) text h),
 )
 
--- ## Laws
+-- ## Theorems
 
--- The test decides the relation.
+-- `IsDecided`: the test decides the relation.
 abbrev pub IsDecided : Type 0
 IsDecided = (pattern : List (List ℕ)) (text : List ℕ) → Decides (is_match pattern text) (Matches pattern text)
 
--- A pattern without a wildcard matches its literal text alone,
+-- `LiteralsMatchThemselves`: a pattern without a wildcard matches only its literal text.
 abbrev pub LiteralsMatchThemselves : Type 0
 LiteralsMatchThemselves = (literal text : List ℕ) → Matches (literal ∷ []) text ↔ (text ≡ literal)
 
--- and a single wildcard every text.
+-- `WildcardMatchesAll`: a single wildcard matches every string.
 abbrev pub WildcardMatchesAll : Type 0
 WildcardMatchesAll = (text : List ℕ) → IsUtf8 text → Matches ([] ∷ [] ∷ []) text
 

@@ -1,24 +1,25 @@
--- How high a core expression is, and how many forms it has.
+-- Defines the height of a core expression, and its number of nodes.
 use Rattle.std.specs.Prelude.{ℕ, ◌+◌, ◌≤◌, max, min, List, [], ◌∷◌, map}
 use Rattle.grammar_core.specs.declared.expr.Expr.{Expr}
 use Rattle.grammar_core.specs.declared.expr.Expr.TheOpen.{Expr-F}
 use Rattle.grammar_core.specs.declared.expr.Expr.TheFolds.{fold-Expr}
 use Rattle.grammar_core.specs.declared.expr.Named.{Named}
 
--- the greatest of these, 0 of none
+-- `greatest ns` is the greatest of `ns`, 0 for none.
 abbrev pub greatest : List ℕ → ℕ
 greatest [] = 0
 greatest (n ∷ ns) = max n (greatest ns)
 
--- all of these together
+-- `total ns` is the sum of `ns`.
 abbrev pub total : List ℕ → ℕ
 total [] = 0
 total (n ∷ ns) = n + total ns
 
+-- `values_of fields` are the values of named fields.
 abbrev pub values_of : {X : Type 0} → List (Named X) → List X
 values_of fields = map (λ f. f.value) fields
 
--- the height of a form over parts of these heights
+-- `height_step e` is the height of a node over operands of these heights.
 abbrev pub height_step : Expr-F ℕ → ℕ
 height_step (Expr-F.Literal literal) = 1
 height_step (Expr-F.Variable variable) = 1
@@ -34,11 +35,11 @@ height_step (Expr-F.Record fields) = greatest (values_of fields) + 1
 height_step (Expr-F.UnaryCall called operand) = operand + 1
 height_step (Expr-F.BinaryCall called left right) = max left right + 1
 
--- the longest way down: 1 of a leaf
+-- `height e` is the height of `e`; a leaf has height 1.
 abbrev pub height : Expr → ℕ
 height = fold-Expr ℕ height_step
 
--- the forms of a form over parts of so many
+-- `forms_step e` is the number of nodes of a node over operands of so many.
 abbrev pub forms_step : Expr-F ℕ → ℕ
 forms_step (Expr-F.Literal literal) = 1
 forms_step (Expr-F.Variable variable) = 1
@@ -54,21 +55,22 @@ forms_step (Expr-F.Record fields) = total (values_of fields) + 1
 forms_step (Expr-F.UnaryCall called operand) = operand + 1
 forms_step (Expr-F.BinaryCall called left right) = left + right + 1
 
--- the number of its forms, itself among them
+-- `forms e` is the number of nodes of `e`, itself included.
 abbrev pub forms : Expr → ℕ
 forms = fold-Expr ℕ forms_step
 
--- a number as a `u32` has it: the greatest `u32` stands for all greater ones
+-- `capped n` is `n` as a saturated `u32`.
 abbrev pub capped : ℕ → ℕ
 capped n = min n 4294967295
 
--- What a policy's expression may be at most: a rule of this product. `1 == 2` has height 2 and three forms, and each
--- further `!` before it adds one to both: a thousand high at most, and a million forms in all.
+-- `most_height` and `most_forms` are the limits on a policy's expression, a rule of this product. `1 == 2` has height
+-- 2 and three nodes, and each further `!` before it adds one to both.
 abbrev pub most_height : ℕ
 most_height = 1_000
 
 abbrev pub most_forms : ℕ
 most_forms = 1_000_000
 
+-- `IsSmall expr` holds if `expr` is within these limits.
 abbrev pub IsSmall : Expr → Type 0
 IsSmall expr = (height expr ≤ most_height) × (forms expr ≤ most_forms)

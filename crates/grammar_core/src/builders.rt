@@ -1,4 +1,4 @@
-//! Expressions from their parts. Each takes its parts whatever it answers.
+//! Builders of expressions. Each takes its parts, on an error too.
 ghost use Rattle.std.specs.Prelude.{◌≡◌, IfOk};
 
 use crate::expr::Expr;
@@ -9,7 +9,7 @@ use std::alloc::Global;
 use values::TypeName;
 
 impl Expr {
-    /// `if test then consequent else alternative`, or `NoMemory`.
+    /// Returns `if test then consequent else alternative`, or `NoMemory`.
     pub fn if_then_else(
         alloc: Global,
         test: Expr,
@@ -22,7 +22,7 @@ impl Expr {
         Ok(Expr::If(test, consequent, alternative))
     }
 
-    /// `left && right`, or `NoMemory`.
+    /// Returns `left && right`, or `NoMemory`.
     pub fn and(alloc: Global, left: Expr, right: Expr) -> Result<Expr, NoMemory>
         ensures { IfOk result (λ expr. expr ≡ Expr.And left right) }
     {
@@ -30,7 +30,7 @@ impl Expr {
         Ok(Expr::And(left, right))
     }
 
-    /// `left || right`, or `NoMemory`.
+    /// Returns `left || right`, or `NoMemory`.
     pub fn or(alloc: Global, left: Expr, right: Expr) -> Result<Expr, NoMemory>
         ensures { IfOk result (λ expr. expr ≡ Expr.Or left right) }
     {
@@ -58,14 +58,14 @@ impl Expr {
         Ok(Expr::Binary(operator, left, right))
     }
 
-    /// `owner.name`, or `NoMemory`.
+    /// Returns `owner.name`, or `NoMemory`.
     pub fn field(alloc: Global, owner: Expr, name: Text) -> Result<Expr, NoMemory>
         ensures { IfOk result (λ expr. expr ≡ Expr.Field owner name) }
     {
         Ok(Expr::Field(Shared::new(alloc, owner)?, name))
     }
 
-    /// `owner has name`, or `NoMemory`.
+    /// Returns `owner has name`, or `NoMemory`.
     pub fn has(alloc: Global, owner: Expr, name: Text) -> Result<Expr, NoMemory>
         ensures { IfOk result (λ expr. expr ≡ Expr.Has owner name) }
     {
@@ -92,7 +92,7 @@ impl Expr {
         Ok(Expr::BinaryCall(called, left, right))
     }
 
-    /// `left != right`, which is `!(left == right)`, or `NoMemory`.
+    /// Returns `left != right`, which is `!(left == right)`, or `NoMemory`.
     pub fn not_equal(alloc: Global, left: Expr, right: Expr) -> Result<Expr, NoMemory>
         ensures { IfOk result (λ expr. expr ≡ Expr.Unary Unary.Not (Expr.Binary Binary.Equal left right)) }
     {
@@ -100,7 +100,7 @@ impl Expr {
         Expr::unary(alloc, Unary::Not, equal)
     }
 
-    /// `left > right`, which is `!(left <= right)`, or `NoMemory`.
+    /// Returns `left > right`, which is `!(left <= right)`, or `NoMemory`.
     pub fn greater(alloc: Global, left: Expr, right: Expr) -> Result<Expr, NoMemory>
         ensures { IfOk result (λ expr. expr ≡ Expr.Unary Unary.Not (Expr.Binary Binary.LessOrEqual left right)) }
     {
@@ -108,7 +108,7 @@ impl Expr {
         Expr::unary(alloc, Unary::Not, less_or_equal)
     }
 
-    /// `left >= right`, which is `!(left < right)`, or `NoMemory`.
+    /// Returns `left >= right`, which is `!(left < right)`, or `NoMemory`.
     pub fn greater_or_equal(alloc: Global, left: Expr, right: Expr) -> Result<Expr, NoMemory>
         ensures { IfOk result (λ expr. expr ≡ Expr.Unary Unary.Not (Expr.Binary Binary.Less left right)) }
     {
@@ -116,8 +116,8 @@ impl Expr {
         Expr::unary(alloc, Unary::Not, less)
     }
 
-    /// `operand is type_name in ancestor`, which is `operand is type_name && operand in ancestor`, or `NoMemory`. The
-    /// operand, which stands twice in it, is kept once.
+    /// Returns `operand is type_name in ancestor`, which is `operand is type_name && operand in ancestor`, or
+    /// `NoMemory`. The operand occurs twice in it, and is shared.
     pub fn is_in(
         alloc: Global,
         operand: Expr,

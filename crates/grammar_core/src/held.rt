@@ -1,19 +1,19 @@
-//! Operands in memory of their own. Each function is generic, so that what is let go where memory is refused is
-//! one step, and not one a form.
+//! Operands on the heap. Each function is generic, so that the drop after a failed allocation is one step and not one
+//! for each variant.
 
 ghost use Rattle.std.specs.Prelude.{◌≡◌, IfOk};
 
 use plain::{NoMemory, Shared};
 use std::alloc::Global;
 
-/// Two values, each in one place.
+/// Returns two values, each shared.
 pub(crate) fn two<T: Drop>(alloc: Global, a: T, b: T) -> Result<(Shared<T>, Shared<T>), NoMemory>
     ensures { IfOk result (λ all. all ≡ (a, b)) }
 {
     Ok((Shared::new(alloc, a)?, Shared::new(alloc, b)?))
 }
 
-/// Three values, each in one place.
+/// Returns three values, each shared.
 pub(crate) fn three<T: Drop>(
     alloc: Global,
     a: T,
@@ -29,7 +29,7 @@ pub(crate) fn three<T: Drop>(
     ))
 }
 
-/// Returns a value in two places, kept once, and another in one.
+/// Returns `a` shared twice, and `b` shared.
 pub(crate) fn twice<T: Drop>(
     alloc: Global,
     a: T,

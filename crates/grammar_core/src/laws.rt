@@ -1,8 +1,8 @@
-//! Laws of the definitions.
+//! Theorems about the definitions.
 ghost use Rattle.grammar_core.specs.LikeTest.{IsDecided, LiteralsMatchThemselves, WildcardMatchesAll};
 
-/// Proves that the test decides which texts match a pattern, that a pattern without a wildcard matches its literal text
-/// alone, and a single wildcard every text: it does nothing, and its clauses are laws of the definitions.
+/// Proves that the test decides which strings match a pattern, that a pattern without a wildcard matches only its
+/// literal text, and that a single wildcard matches every string. No-op.
 pub fn patterns_are_decided()
     ensures decided { IsDecided }
     ensures alone { LiteralsMatchThemselves }

@@ -2,28 +2,28 @@
 use plain::Text;
 use values::EntityUid;
 
-/// A value that is written out in a policy (Cedar reference guide, "Supported data types").
+/// A literal value of a policy (Cedar reference guide, "Supported data types").
 #[derive(Drop)]
 pub enum Literal {
     /// `true` or `false`.
     Boolean(bool),
-    /// A whole number of signed 64 bits.
+    /// A signed 64-bit integer.
     Long(i64),
     /// The value of a string.
     Text(Text),
-    /// The entity of this name.
+    /// The entity of this uid.
     Entity(EntityUid),
 }
 
 /// A part of the request (Cedar reference guide, "Grammar": `VAR`).
 #[derive(Clone, Copy)]
 pub enum Variable {
-    /// Who asks.
+    /// The principal of the request.
     Principal,
-    /// What is to be done.
+    /// The action of the request.
     Action,
-    /// What it is to be done on.
+    /// The resource of the request.
     Resource,
-    /// The record that the request brings along.
+    /// The context of the request, a record.
     Context,
 }

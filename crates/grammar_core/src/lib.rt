@@ -1,6 +1,6 @@
-//! Core expressions: what the conditions of policies are made of once their text is read and rewritten.
+//! Core expressions: the conditions of policies once their text is parsed and rewritten.
 //!
-//! Contracts see an expression as plain data, so that `≡` on it says that two expressions are equal, form for form.
+//! Contracts see an expression as an algebraic data type: `≡` on it is structural equality.
 #![tactic(auto)]
 
 mod builders;

@@ -1,4 +1,4 @@
-//! What is done with operands (Cedar reference guide, "Operators and functions").
+//! Operators, functions and methods (Cedar reference guide, "Operators and functions").
 
 use crate::pattern::Pattern;
 use values::TypeName;
@@ -10,7 +10,7 @@ pub enum Unary {
     Not,
     /// `-`.
     Negate,
-    /// `like`: whether a text matches the pattern.
+    /// `like`: whether a string matches the pattern.
     Like(Pattern),
     /// `is`: whether an entity is of the type.
     Is(TypeName),
@@ -21,7 +21,7 @@ pub enum Unary {
 pub enum Binary {
     /// `==`.
     Equal,
-    /// `in`: whether an entity is another one or below it, or is so for some member of a set.
+    /// `in`: whether an entity is another one or a descendant of it, or is so for some member of a set.
     In,
     /// `<`.
     Less,
@@ -44,9 +44,9 @@ pub enum Binary {
 /// A function or a method of an extension that has one operand. A method's receiver is its operand.
 #[derive(Clone, Copy)]
 pub enum UnaryCall {
-    /// `ip`: the address that a text stands for.
+    /// `ip`: parses an IP address.
     Ip,
-    /// `decimal`: the decimal that a text stands for.
+    /// `decimal`: parses a decimal.
     Decimal,
     /// `isIpv4`.
     IsIpv4,

@@ -7,14 +7,14 @@ use plain::{Items, Text};
 use std::marker::Model;
 
 /// A pattern of `like`: literal texts with a wildcard between each two. Contracts see the list of the literal texts,
-/// one more than there are wildcards; so each pattern has one form.
+/// which has one more than there are wildcards; so each pattern has one form.
 ///
 /// Source: Cedar reference guide, "Operators: like".
 #[derive(Drop)]
 pub struct Pattern {
-    /// The texts that a wildcard follows.
+    /// The literal texts that are followed by a wildcard.
     before: Items<Text>,
-    /// The text behind the last wildcard, or the only one.
+    /// The literal text after the last wildcard, or the only one.
     last: Text,
 }
 
@@ -27,7 +27,7 @@ impl Model for Pattern {
 }
 
 impl Pattern {
-    /// Returns the pattern with these literal texts, a wildcard between each two; takes no memory.
+    /// Returns the pattern with these literal texts, a wildcard between each two. Does not allocate.
     pub fn from_literals(literals: Vec<Text>) -> Pattern
         requires { 0 < length literals.items }
         ensures { result ≡ literals.items }
@@ -40,24 +40,24 @@ impl Pattern {
         }
     }
 
-    /// Returns the literal texts that a wildcard follows, in order, and the one behind the last wildcard, or the only
-    /// one; takes no memory.
+    /// Returns the literal texts that are followed by a wildcard, in order, and the last one. Does not allocate.
     pub fn literals(&self) -> (&[Text], &Text)
         ensures { result.0.now ++ result.1.now ∷ [] ≡ self.now }
     {
         (self.before.as_slice(), &self.last)
     }
 
-    /// Returns whether two patterns are equal, literal text by literal text; takes no memory.
+    /// Returns whether two patterns are equal. Does not allocate.
     pub fn same(&self, other: &Pattern) -> bool
         ensures { IsTrue result ↔ (self.now ≡ other.now) }
     {
         same_texts(&self.before, &other.before) && self.last.same(&other.last)
     }
 
-    /// Returns whether the text is a joining of pieces, one for each element of the pattern in order: a literal text's
-    /// piece equals it, a wildcard's is any text. Takes no memory, and time of at most the length of the pattern by
-    /// that of the text.
+    /// Returns whether a string matches the pattern: it is a concatenation of pieces, one for each element of the
+    /// pattern in order, where a literal's piece equals it and a wildcard's is any string.
+    ///
+    /// Does not allocate. Takes time at most proportional to the product of the lengths of pattern and string.
     pub fn matches(&self, text: &str) -> bool
         ensures like { IsTrue result ↔ Matches self.now text.now }
         ensures test { result ≡ is_match self.now text.now }
@@ -69,8 +69,8 @@ impl Pattern {
     }
 }
 
-/// Returns whether the text begins with the first literal, and what is behind it matches a wildcard before each of the
-/// others.
+/// Returns whether a string begins with the first literal, and the rest matches a wildcard before each of the other
+/// literals.
 fn first_matches(first: &Text, middle: &[Text], last: &Text, text: &str) -> bool
     ensures { IsTrue result ↔ Joins (literal first.now ∷ behind_stars (middle.now ++ last.now ∷ [])) text.now }
 {
@@ -80,10 +80,10 @@ fn first_matches(first: &Text, middle: &[Text], last: &Text, text: &str) -> bool
     }
 }
 
-/// Returns whether the text matches a wildcard before each of the literals, the last of which ends it.
+/// Returns whether a string matches a wildcard before each of the literals, and ends with the last.
 ///
-/// Each literal but the last is taken where it stands first: what is left is then longest, and the next wildcard may
-/// take what an earlier place would have left over. So no choice is ever taken back.
+/// Each literal but the last is matched at its first occurrence. That leaves the longest rest, and the next wildcard
+/// may match whatever a later occurrence would have skipped. So the search never backtracks.
 fn others_match(middle: &[Text], last: &str, text: &str) -> bool
     ensures { IsTrue result ↔ Joins (behind_stars (middle.now ++ last.now ∷ [])) text.now }
 {
@@ -97,7 +97,7 @@ fn others_match(middle: &[Text], last: &str, text: &str) -> bool
     rest.ends_with(last)
 }
 
-/// Returns whether two lists have equal texts, place by place.
+/// Returns whether two lists have equal strings, index by index.
 fn same_texts(ones: &Items<Text>, twos: &Items<Text>) -> bool
     ensures { IsTrue result ↔ (ones.now ≡ twos.now) }
 {

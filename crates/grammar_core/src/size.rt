@@ -1,8 +1,8 @@
-//! How large the expression of a policy may be. It is counted on the syntax tree, before any core expression is made:
-//! `height`, `forms` and `IsSmall` of specs/Size say what is counted.
+//! Limits on the size of a policy's expression. The size is computed on the syntax tree, before any core expression
+//! is built; `height`, `forms` and `IsSmall` of specs/Size define it.
 
-/// The greatest height that the expression of a policy may have.
+/// The greatest height of a policy's expression.
 pub const HEIGHT_MAX: u32 = 1_000;
 
-/// The greatest number of forms that the expression of a policy may have.
+/// The greatest number of nodes of a policy's expression.
 pub const FORMS_MAX: u32 = 1_000_000;

@@ -1,10 +1,11 @@
--- What a tree is made of: tokens that are spelled in the text.
+-- Defines that a tree is made of tokens that are spelled in the text.
 use Rattle.std.specs.Prelude.{ℕ, List}
 use Rattle.std.specs.List.{AllByRecursion}
 use Rattle.grammar_trees.specs.grammar_tokens.declared.token.Token.{Token}
 use Rattle.grammar_trees.specs.grammar_tokens.Lexing.{IsSpelledIn}
 
--- Something is made of tokens that are spelled in the text.
+-- `IsBuiltFrom text WellFormed` holds if something is made, as `WellFormed` says, of tokens that are spelled in
+-- `text`.
 pub record IsBuiltFrom (text : List ℕ) (WellFormed : List Token → Type 0) : Type 0 where
   pub tokens : List Token
   pub spelled : AllByRecursion (IsSpelledIn text) tokens

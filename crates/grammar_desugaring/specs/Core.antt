@@ -1,6 +1,5 @@
--- The core expression that a syntax tree stands for, with the text in which its tokens stand. One line for each form
--- of tree.
--- Of a tree that has faults it says nothing of use: such a tree is refused.
+-- Defines the core expression of a syntax tree, with the text in which its tokens stand, by one line for each form of
+-- tree. It says nothing useful of a tree with errors, which is rejected.
 -- Source: Cedar reference guide 4.0, "Grammar specification for Cedar policy syntax" and "Operators and functions".
 -- Operators of one level group to the left.
 use Rattle.std.specs.Prelude.{ℕ, ℤ, false, List, [], ◌∷◌, map, Option, Some, None}
@@ -33,23 +32,24 @@ use Rattle.grammar_desugaring.specs.Numbers.{positive, negative}
 use Rattle.grammar_desugaring.specs.Strings.{value_of, pattern_of}
 use Rattle.grammar_desugaring.specs.Meaning.{variable_of, sign_of, path_name, uid_of, name_of}
 
--- what a tree stands for, and what it stands for behind a minus
+-- A `Meaning` is the expression of a tree by itself, and after a minus.
 pub record Meaning : Type 0 where
   pub alone : Expr
   pub negated : Expr
 
+-- `long n` is the literal of the number `n`.
 abbrev pub long : ℤ → Expr
 long n = core.Literal (literal.Long n)
 
--- a minus before a number joins it
+-- `number digits`: a minus before a number belongs to it.
 abbrev pub number : List ℕ → Meaning
 number digits = record { alone = long (positive digits); negated = long (negative digits) }
 
--- before anything else it is an operator
+-- `plain e`: before anything else a minus is an operator.
 abbrev pub plain : Expr → Meaning
 plain e = record { alone = e; negated = core.Unary Negate e }
 
--- `!=`, `>` and `>=` are the negations of `==`, `<=` and `<`
+-- `compared operator a b` is a comparison: `!=`, `>` and `>=` are the negations of `==`, `<=` and `<`.
 abbrev pub compared : Comparison → Expr → Expr → Expr
 compared is.Less a b = core.Binary Less a b
 compared is.LessOrEqual a b = core.Binary LessOrEqual a b
@@ -59,43 +59,45 @@ compared is.Equal a b = core.Binary Equal a b
 compared is.NotEqual a b = core.Unary Not (core.Binary Equal a b)
 compared is.In a b = core.Binary In a b
 
--- in place of a call that is refused
+-- `no_call` is the placeholder for a call that is rejected.
 abbrev pub no_call : Expr
 no_call = core.Literal (literal.Boolean false)
 
--- a function is known by a single word
+-- `function_at text first more` is the function of a Path: only a single word names one.
 abbrev pub function_at : List ℕ → Token → List Token → Option UnaryCall
 function_at text first [] = function_of (spelling_of text first)
 function_at text first (word ∷ more) = None
 
+-- `function text path` is the function of a Path.
 abbrev pub function : List ℕ → PathTree → Option UnaryCall
 function text path = function_at text path.first path.more
 
--- a call of a function
+-- `called function arguments` is a call of a function.
 abbrev pub called : Option UnaryCall → List Expr → Expr
 called (Some call) (a ∷ []) = core.UnaryCall call a
 called _ _ = no_call
 
--- a call of a method
+-- `method_called method receiver arguments` is a call of a method.
 abbrev pub method_called : Option Method → Expr → List Expr → Expr
 method_called (Some (method.Alone call)) receiver [] = core.UnaryCall call receiver
 method_called (Some (method.Operator operator)) receiver (a ∷ []) = core.Binary operator receiver a
 method_called (Some (method.WithArgument call)) receiver (a ∷ []) = core.BinaryCall call receiver a
 method_called _ _ _ = no_call
 
--- an access to what stands before it; `e["f"]` is `e.f`
+-- `accessed text e access` is an access to `e`; `e["f"]` is `e.f`.
 abbrev pub accessed : List ℕ → Expr → Access (List Expr) → Expr
 accessed text e (access.Field key) = core.Field e (name_of text key)
 accessed text e (access.Method name arguments) = method_called (method_of (spelling_of text name)) e arguments
 
--- one more term
+-- `added left term` is a sum with one more term.
 abbrev pub added : Expr → Term Expr → Expr
 added left term = core.Binary (sign_of term.sign) left term.operand
 
+-- `field text entry` is the named value of a record's entry.
 abbrev pub field : List ℕ → Entry Expr → Named Expr
 field text entry = record { name = name_of text entry.key; value = entry.value }
 
--- the parts of a list, each with what is inside replaced
+-- The parts of a list, each with its expression mapped by `f`.
 module _ {A B : Type 0} (f : A → B) where
   abbrev pub in_term : Term A → Term B
   in_term term = record { sign = term.sign; operand = f term.operand }
@@ -110,6 +112,7 @@ module _ {A B : Type 0} (f : A → B) where
 abbrev by_itself : Meaning → Expr
 by_itself m = m.alone
 
+-- `core_step text x` is the meaning of a tree over parts with these meanings.
 abbrev pub core_step : List ℕ → tree Meaning → Meaning
 core_step text (tree.Boolean value) = plain (core.Literal (literal.Boolean value))
 core_step text (tree.Number t) = number (spelling_of text t)
@@ -135,30 +138,33 @@ core_step text (tree.And a more) = plain (fold core.And a.alone (map by_itself m
 core_step text (tree.Or a more) = plain (fold core.Or a.alone (map by_itself more))
 core_step text (tree.If a b c) = plain (core.If a.alone b.alone c.alone)
 
+-- `meaning text x` is the meaning of the tree `x`.
 abbrev pub meaning : List ℕ → ExprTree → Meaning
 meaning text = fold-ExprTree Meaning (core_step text)
 
--- the core expression that a tree stands for
+-- `core_of text x` is the core expression of the tree `x`.
 abbrev pub core_of : List ℕ → ExprTree → Expr
 core_of text x = (meaning text x).alone
 
--- and behind a minus
+-- `negated text x` is that of `x` after a minus.
 abbrev pub negated : List ℕ → ExprTree → Expr
 negated text x = (meaning text x).negated
 
--- ## The same for what the code goes over
+-- ## The same for the loops of the code
 
--- how the operands of a chain are joined
+-- `joined_by chain a b` are two operands of a chain, joined.
 abbrev pub joined_by : Chain → Expr → Expr → Expr
 joined_by chain.Product = core.Binary Multiply
 joined_by (chain.Sum sign) = core.Binary (sign_of sign)
 joined_by chain.And = core.And
 joined_by chain.Or = core.Or
 
+-- `single_of es` is the argument, if there is exactly one.
 abbrev pub single_of : List Expr → Option Expr
 single_of (a ∷ []) = Some a
 single_of _ = None
 
+-- `called_with method receiver a` is a call of a method with one argument.
 abbrev pub called_with : Method → Expr → Expr → Expr
 called_with (method.Alone call) receiver a = no_call
 called_with (method.Operator operator) receiver a = core.Binary operator receiver a

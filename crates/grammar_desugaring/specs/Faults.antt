@@ -1,5 +1,5 @@
--- The faults of a syntax tree, with the text in which its tokens stand: its own and those of its parts.
--- Source: Cedar reference guide 4.0, "Data types: Long", "Data types: Record", "Operators and functions". The places
+-- Defines the errors of a syntax tree, with the text in which its tokens stand: its own and those of its parts.
+-- Source: Cedar reference guide 4.0, "Data types: Long", "Data types: Record", "Operators and functions". The offsets
 -- are a rule of this product.
 use Rattle.std.specs.Prelude.{ℕ, Bool, List, [], ◌∷◌, ◌++◌, map, length, Option, Some, None, nat_eq, if◌then◌else◌}
 use Rattle.std.specs.List.{flat_map}
@@ -20,35 +20,37 @@ use Rattle.grammar_desugaring.specs.Meaning.{name_of, place_of}
 use Rattle.grammar_desugaring.specs.Core.{function, in_access}
 use Rattle.grammar_desugaring.specs.Repeats.{NameAt, repeat_faults}
 
--- the faults of a tree by itself, and behind a minus
+-- A `Faulty` has the errors of a tree by itself, and after a minus.
 pub record Faulty : Type 0 where
   pub alone : List DesugarFault
   pub negated : List DesugarFault
 
+-- `either_way faults` are these errors, with or without a minus.
 abbrev pub either_way : List DesugarFault → Faulty
 either_way faults = record { alone = faults; negated = faults }
 
--- A number is out of range at its token, whether a minus joins it or not.
+-- `range within t` is the error of a number at the token `t`, unless it is in range.
 abbrev pub range : Bool → Token → List DesugarFault
 range within t = if within then [] else NumberRange t.start ∷ []
 
--- A call of a name that takes so many arguments, if it is known.
+-- `call_faults at takes count` is the error of a call with `count` arguments at offset `at`, of a name that takes so
+-- many, if it is known.
 abbrev pub call_faults : ℕ → Option ℕ → ℕ → List DesugarFault
 call_faults at None count = UnknownCall at ∷ []
 call_faults at (Some takes) count = if nat_eq count takes then [] else Arity at ∷ []
 
--- of a function at the first byte of its name
+-- `function_faults text path count` is that of a function, at the first byte of its name.
 abbrev pub function_faults : List ℕ → PathTree → ℕ → List DesugarFault
 function_faults text path count = call_faults path.first.start (function_takes (function text path)) count
 
--- of a method at its name; the accesses' arguments have the faults that they are given
+-- `access_faults text access` are those of an access: of a method at its name, and of its arguments.
 abbrev pub access_faults : List ℕ → Access (List (List DesugarFault)) → List DesugarFault
 access_faults text (access.Field key) = []
 access_faults text (access.Method name arguments) =
     call_faults name.start (method_takes (method_of (spelling_of text name))) (length arguments)
     ++ flat_map (λ faults. faults) arguments
 
--- a key of a record where it stands
+-- `key_of text entry` is the key of a record's entry, with its offset.
 abbrev pub key_of : List ℕ → {A : Type 0} → Entry A → NameAt
 key_of text entry = record { name = name_of text entry.key; at = place_of entry.key }
 
@@ -58,6 +60,7 @@ by_itself f = f.alone
 abbrev in_all : List Faulty → List DesugarFault
 in_all = flat_map by_itself
 
+-- `fault_step text x` are the errors of a tree over parts with these errors.
 abbrev pub fault_step : List ℕ → tree Faulty → Faulty
 fault_step text (tree.Boolean value) = either_way []
 fault_step text (tree.Number t) =
@@ -86,13 +89,14 @@ fault_step text (tree.And a more) = either_way (a.alone ++ in_all more)
 fault_step text (tree.Or a more) = either_way (a.alone ++ in_all more)
 fault_step text (tree.If a b c) = either_way (a.alone ++ (b.alone ++ c.alone))
 
+-- `fault_meaning text x` are the errors of the tree `x`.
 abbrev pub fault_meaning : List ℕ → ExprTree → Faulty
 fault_meaning text = fold-ExprTree Faulty (fault_step text)
 
--- the faults of a tree
+-- `faults_of text x` are the errors of the tree `x`.
 abbrev pub faults_of : List ℕ → ExprTree → List DesugarFault
 faults_of text x = (fault_meaning text x).alone
 
--- and behind a minus
+-- `negated_faults text x` are those of `x` after a minus.
 abbrev pub negated_faults : List ℕ → ExprTree → List DesugarFault
 negated_faults text x = (fault_meaning text x).negated

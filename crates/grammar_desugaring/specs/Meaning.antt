@@ -1,4 +1,4 @@
--- What the tokens of a tree stand for.
+-- Defines the meaning of the tokens of a tree.
 use Rattle.std.specs.Prelude.{ℕ, List, map}
 use Rattle.plain.specs.Words.{joined_path}
 use Rattle.values.specs.declared.entity_uid.EntityUid.{EntityUid}
@@ -17,31 +17,32 @@ use Rattle.grammar_trees.specs.declared.tree.Variable as tree
 use Rattle.grammar_trees.specs.declared.tree.Variable.TheVariants as word
 use Rattle.grammar_desugaring.specs.Strings.{value_of}
 
+-- `variable_of word` is the variable of a keyword.
 abbrev pub variable_of : tree.Variable → Variable
 variable_of word.Principal = Principal
 variable_of word.Action = Action
 variable_of word.Resource = Resource
 variable_of word.Context = Context
 
--- the operator before a further term of a sum
+-- `sign_of sign` is the operator before a further term of a sum.
 abbrev pub sign_of : Sign → Binary
 sign_of Plus = Add
 sign_of Minus = Subtract
 
--- the name that a Path is: its words with `::` between each two, without blanks and comments
+-- `path_name text path` is the name of a Path: its words with `::` between each two, without whitespace and comments.
 abbrev pub path_name : List ℕ → PathTree → List ℕ
 path_name text path = joined_path (spelling_of text path.first) (map (spelling_of text) path.more)
 
--- a uid is its type's name and its string's value
+-- `uid_of text tree` is the uid with its type's name and its string's value.
 abbrev pub uid_of : List ℕ → UidTree → EntityUid
 uid_of text tree = record { type_name = path_name text tree.path; id = value_of (spelling_of text tree.id) }
 
--- a key or a field's name: a word, or the value of a string
+-- `name_of text key` is the name of a key or a field: a word, or the value of a string.
 abbrev pub name_of : List ℕ → KeyTree → List ℕ
 name_of text (Word word) = spelling_of text word
 name_of text (Quoted quoted) = value_of (spelling_of text quoted)
 
--- where it stands
+-- `place_of key` is its byte offset.
 abbrev pub place_of : KeyTree → ℕ
 place_of (Word word) = word.start
 place_of (Quoted quoted) = quoted.start

@@ -1,4 +1,4 @@
--- The functions and methods that can be called, and what they take.
+-- Defines the functions and methods that can be called, and how many arguments they take.
 -- Source: Cedar reference guide 4.0, "Operators and functions", and the extensions "decimal" and "ipaddr".
 use Rattle.std.specs.Prelude.{ℕ, List, [], ◌∷◌, Option, Some, None, codes, if◌then◌else◌}
 use Rattle.std.specs.Str.{bytes_eq}
@@ -9,13 +9,13 @@ use Rattle.grammar_core.specs.declared.operator.Binary.TheVariants as operator
 use Rattle.grammar_desugaring.specs.declared.names.Method.{Method}
 use Rattle.grammar_desugaring.specs.declared.names.Method.TheVariants as method
 
--- a function by its name
+-- `function_of name` is the function of this name.
 abbrev pub function_of : List ℕ → Option UnaryCall
 function_of name =
     if bytes_eq name (codes "ip") then Some unary.Ip
     else (if bytes_eq name (codes "decimal") then Some unary.Decimal else None)
 
--- a name and the method that it is
+-- A `NamedMethod` is a name, and its method.
 pub record NamedMethod : Type 0 where
   pub name : List ℕ
   pub method : Method
@@ -23,6 +23,7 @@ pub record NamedMethod : Type 0 where
 abbrev named : List ℕ → Method → NamedMethod
 named name method = record { name = name; method = method }
 
+-- `methods` are the methods, by their names.
 abbrev pub methods : List NamedMethod
 methods = named (codes "contains") (method.Operator operator.Contains)
     ∷ named (codes "containsAll") (method.Operator operator.ContainsAll)
@@ -36,15 +37,16 @@ methods = named (codes "contains") (method.Operator operator.Contains)
     ∷ named (codes "isLoopback") (method.Alone unary.IsLoopback)
     ∷ named (codes "isMulticast") (method.Alone unary.IsMulticast) ∷ []
 
+-- `listed table name` is the method of this name in a table.
 abbrev pub listed : List NamedMethod → List ℕ → Option Method
 listed [] name = None
 listed (known ∷ more) name = if bytes_eq name known.name then Some known.method else listed more name
 
--- a method by its name
+-- `method_of name` is the method of this name.
 abbrev pub method_of : List ℕ → Option Method
 method_of name = listed methods name
 
--- how many arguments they take, where they are known
+-- `function_takes`, `takes` and `method_takes` are the numbers of arguments of known functions and methods.
 abbrev pub function_takes : Option UnaryCall → Option ℕ
 function_takes None = None
 function_takes (Some call) = Some 1

@@ -1,21 +1,21 @@
--- Numbers as their digits write them. Source: Cedar reference guide 4.0, "Data types: Long": whole numbers of signed
--- 64 bits.
+-- Defines numbers by their digits.
+-- Source: Cedar reference guide 4.0, "Data types: Long": whole numbers of signed 64 bits.
 use Prim.Native.Char.{code}
 use Rattle.std.specs.Prelude.{ℕ, Bool, ◌+◌, ◌-◌, ◌*◌, ◌^◌, ℤ, pos, neg_ℤ, List, if◌then◌else◌, nat_lt, nat_le}
 use Rattle.std.specs.List.{fold}
 
--- the number that the digits write
+-- `written digits` is the number of these digits.
 abbrev pub written : List ℕ → ℕ
 written digits = fold (λ n digit. 10 * n + (digit - code "0")) 0 digits
 
--- whether it is a number by itself, and behind the minus that joins it
+-- `fits` and `fits_negated` test whether it is in range by itself, and after a minus, which belongs to it.
 abbrev pub fits : List ℕ → Bool
 fits digits = nat_lt (written digits) (2 ^ 63)
 
 abbrev pub fits_negated : List ℕ → Bool
 fits_negated digits = nat_le (written digits) (2 ^ 63)
 
--- the number by itself, and behind the minus that joins it; 0 where it is out of range, which is refused
+-- `positive` and `negative` are the number by itself, and after a minus; 0 if it is out of range, which is an error.
 abbrev pub positive : List ℕ → ℤ
 positive digits = if fits digits then pos (written digits) else pos 0
 

@@ -1,33 +1,35 @@
--- Where a fault stands, and which of several is told: a rule of this product.
+-- Defines the offset of an error, and which of several errors is reported: a rule of this product.
 use Rattle.std.specs.Prelude.{◌≡◌, ℕ, ◌≤◌, if◌then◌else◌, nat_lt, List, [], ◌∷◌, ◌++◌, Option, Some, None, Contains}
 use Rattle.grammar_desugaring.specs.declared.fault.DesugarFault.{DesugarFault}
 use Rattle.grammar_desugaring.specs.declared.fault.DesugarFault.TheVariants.{NumberRange, UnknownCall, Arity}
 use Rattle.grammar_desugaring.specs.declared.fault.DesugarFault.TheVariants.{RepeatedKey}
 
--- the byte at which it is told
+-- `at f` is the byte offset of the error `f`.
 abbrev pub at : DesugarFault → ℕ
 at (NumberRange place) = place
 at (UnknownCall place) = place
 at (Arity place) = place
 at (RepeatedKey place) = place
 
--- the one at the lesser place, the first at one place
+-- `earlier e f` is the one at the lesser offset, `e` if they are equal.
 abbrev pub earlier : DesugarFault → DesugarFault → DesugarFault
 earlier e f = if nat_lt (at f) (at e) then f else e
 
+-- `earlier_of a b` is the earlier of the errors that are present.
 abbrev pub earlier_of : Option DesugarFault → Option DesugarFault → Option DesugarFault
 earlier_of None other = other
 earlier_of (Some e) None = Some e
 earlier_of (Some e) (Some f) = Some (earlier e f)
 
--- the one at the least place
+-- `least faults` is the first of `faults` at the least offset.
 abbrev pub least : List DesugarFault → Option DesugarFault
 least [] = None
 least (fault ∷ faults) = earlier_of (Some fault) (least faults)
 
--- ## Laws
+-- ## Theorems
 
--- It is one of them, and none is told at a lesser place; where there are some, one is told.
+-- `IsLeastOf faults fault` holds if `fault` is one of `faults`, and none has a lesser offset. `LeastIsLeast`:
+-- `least faults` is so. `NoneOfNone`: if it is `None`, there are no errors.
 pub record IsLeastOf (faults : List DesugarFault) (fault : DesugarFault) : Type 0 where
   pub here : Contains faults fault
   pub first : (other : DesugarFault) → Contains faults other → at fault ≤ at other
@@ -38,6 +40,6 @@ LeastIsLeast = (faults : List DesugarFault) (fault : DesugarFault) → least fau
 abbrev pub NoneOfNone : Type 0
 NoneOfNone = (faults : List DesugarFault) → least faults ≡ None → faults ≡ []
 
--- Of faults and further ones it is the earlier of the two that are told.
+-- `LeastOfBoth`: of two lists of errors together, it is the earlier of their least errors.
 abbrev pub LeastOfBoth : Type 0
 LeastOfBoth = (faults more : List DesugarFault) → least (faults ++ more) ≡ earlier_of (least faults) (least more)

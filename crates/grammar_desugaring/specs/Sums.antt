@@ -1,4 +1,4 @@
--- Measures put together.
+-- Defines how measures are combined.
 use Rattle.std.specs.Prelude.{◌≡◌, ℕ, ◌+◌, ◌++◌, max, List, length, Option, Some, None}
 use Rattle.std.specs.List.{fold}
 use Rattle.grammar_trees.specs.grammar_tokens.Lexing.{spelling_of}
@@ -21,35 +21,36 @@ use Rattle.grammar_desugaring.specs.Names.{method_of, method_takes}
 use Rattle.grammar_desugaring.specs.Faults.{call_faults, function_faults}
 use Rattle.grammar_desugaring.specs.Measured.{measure, of, measured}
 
--- of nothing, and of a form without operands
+-- `nothing` is the measure of no expression; `leaf fault` that of a node without operands.
 abbrev pub nothing : Measure
 nothing = measure 0 0 None
 
 abbrev pub leaf : Option DesugarFault → Measure
 leaf fault = measure 1 1 fault
 
--- of a form over these
+-- `above j` is the measure of a node over one operand of the measure `j`.
 abbrev pub above : Measure → Measure
 above j = measure (j.height + 1) (j.forms + 1) j.fault
 
--- of two side by side
+-- `beside i j` is that of two expressions side by side; `paired i j` that of a node over both.
 abbrev pub beside : Measure → Measure → Measure
 beside i j = measure (max i.height j.height) (i.forms + j.forms) (earlier_of i.fault j.fault)
 
 abbrev pub paired : Measure → Measure → Measure
 paired i j = above (beside i j)
 
--- of a call with these operands that may have a fault of its own
+-- `called fault operands` is that of a call with these operands, which may have an error of its own.
 abbrev pub called : Option DesugarFault → Measure → Measure
 called None operands = above operands
 called (Some fault) operands = leaf operands.fault
 
+-- `with_fault fault j` is the measure `j` with one more error.
 abbrev pub with_fault : Option DesugarFault → Measure → Measure
 with_fault fault j = record { height = j.height; forms = j.forms; fault = earlier_of fault j.fault }
 
--- ## Laws
+-- ## Theorems
 
--- What is told of a literal, of a form over one and of `&&`, by what is told of the parts.
+-- The measures of a literal, of a unary operator and of `&&`, by those of their parts.
 abbrev pub LiteralIsLeaf : Type 0
 LiteralIsLeaf = (value : Literal) (faults : List DesugarFault) → of (core.Literal value) faults ≡ leaf (least faults)
 
@@ -61,25 +62,25 @@ abbrev pub AndIsPaired : Type 0
 AndIsPaired = (a b : Expr) (faults more : List DesugarFault) →
     of (core.And a b) (faults ++ more) ≡ paired (of a faults) (of b more)
 
--- ## Of lists of trees
+-- ## Lists of trees
 
--- of trees side by side
+-- `measured_all text xs` is the measure of trees side by side.
 abbrev pub measured_all : List ℕ → List ExprTree → Measure
 measured_all text xs = fold (λ j x. beside j (measured text x)) nothing xs
 
--- of a chain of operands, the first of which is measured
+-- `measured_chain text j xs` is that of a chain of operands, the first with the measure `j`.
 abbrev pub measured_chain : List ℕ → Measure → List ExprTree → Measure
 measured_chain text = fold (λ j x. paired j (measured text x))
 
--- of one term more
+-- `measured_term text j term` is that with one more term.
 abbrev pub measured_term : List ℕ → Measure → Term ExprTree → Measure
 measured_term text j term = paired j (measured text term.operand)
 
--- of one entry more
+-- `measured_entry text j entry` is that with one more entry.
 abbrev pub measured_entry : List ℕ → Measure → Entry ExprTree → Measure
 measured_entry text j entry = beside j (measured text entry.value)
 
--- of a comparison
+-- `measured_compared operator i j` is that of a comparison.
 abbrev pub measured_compared : Comparison → Measure → Measure → Measure
 measured_compared is.Less i j = paired i j
 measured_compared is.LessOrEqual i j = paired i j
@@ -89,13 +90,13 @@ measured_compared is.Equal i j = paired i j
 measured_compared is.NotEqual i j = above (paired i j)
 measured_compared is.In i j = paired i j
 
--- of a function's call
+-- `measured_call text path arguments` is that of a function call.
 abbrev pub measured_call : List ℕ → PathTree → List ExprTree → Measure
 measured_call text path arguments =
     let fault = least (function_faults text path (length arguments)) in
     called fault (with_fault fault (measured_all text arguments))
 
--- of an access to what is measured
+-- `measured_access text j access` is that of an access to an expression with the measure `j`.
 abbrev pub measured_access : List ℕ → Measure → Access (List ExprTree) → Measure
 measured_access text j (access.Field key) = above j
 measured_access text j (access.Method name arguments) =

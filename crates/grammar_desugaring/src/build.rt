@@ -1,4 +1,4 @@
-//! The core expression that a tree stands for.
+//! The core expression of a tree.
 ghost use Rattle.std.specs.Prelude.{◌≡◌, IfOk, map};
 ghost use Rattle.std.specs.List.{AllByRecursion, fold};
 ghost use Rattle.grammar_desugaring.specs.Core as spec;
@@ -22,7 +22,7 @@ use grammar_trees::{Access, Entry, ExprTree, Term, spelling};
 use plain::{Boxed, Items, NoMemory};
 use std::alloc::Global;
 
-/// Returns the core expression of a tree; of one that has faults some expression.
+/// Returns the core expression of a tree; for a tree with errors, some expression.
 #[cycle(build)]
 pub(crate) fn build_tree(alloc: Global, text: &str, tree: &ExprTree) -> Result<Expr, NoMemory>
     requires { WellFormed text.now tree.now }
@@ -69,7 +69,7 @@ pub(crate) fn build_tree(alloc: Global, text: &str, tree: &ExprTree) -> Result<E
     }
 }
 
-/// Returns a tree behind a minus, which joins a number.
+/// Returns the core expression of a tree after a minus, which belongs to a number.
 #[cycle(build)]
 fn build_behind_minus(alloc: Global, text: &str, tree: &ExprTree) -> Result<Expr, NoMemory>
     requires { WellFormed text.now tree.now }
@@ -125,7 +125,7 @@ fn build_entries(
     Ok(Items::from_vec(row))
 }
 
-/// Returns a chain of operands.
+/// Returns the expression of a chain of operands.
 #[cycle(build)]
 fn build_chain(
     alloc: Global,
@@ -146,7 +146,7 @@ fn build_chain(
     Ok(left)
 }
 
-/// Returns a sum.
+/// Returns the expression of a sum.
 #[cycle(build)]
 fn build_terms(
     alloc: Global,
@@ -167,7 +167,7 @@ fn build_terms(
     Ok(left)
 }
 
-/// Returns what is reached by accesses.
+/// Returns the expression of accesses.
 #[cycle(build)]
 fn build_accesses(
     alloc: Global,

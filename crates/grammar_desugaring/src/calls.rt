@@ -9,14 +9,14 @@ use grammar_core::{Expr, Literal, UnaryCall};
 use plain::{Items, NoMemory, beside};
 use std::alloc::Global;
 
-/// Returns what stands in place of a call of these parts that is refused.
+/// Returns the placeholder for a call that is rejected, and drops its parts.
 fn no_call<T: Drop, U: Drop>(_part: T, _other: U) -> Expr
     ensures { result ≡ spec.no_call }
 {
     Expr::Literal(Literal::Boolean(false))
 }
 
-/// Returns the only argument.
+/// Returns the argument, if there is exactly one.
 fn single(arguments: Items<Expr>) -> Option<Expr>
     ensures { result ≡ spec.single_of arguments }
 {
@@ -58,7 +58,7 @@ fn call_with(
     }
 }
 
-/// Returns a call of a method that takes no argument.
+/// Returns a call of a method without arguments.
 fn call_alone(
     alloc: Global,
     called: UnaryCall,
@@ -93,7 +93,7 @@ fn call_method(
     }
 }
 
-/// Returns a call of a method, with the row of arguments that was made.
+/// Returns a call of a method, given the list of its arguments.
 pub(crate) fn call_with_row(
     alloc: Global,
     method: Option<Method>,

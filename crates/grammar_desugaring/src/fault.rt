@@ -1,10 +1,10 @@
-//! Why a tree has no core expression.
+//! Errors of desugaring.
 ghost use Rattle.std.specs.Prelude.{◌≡◌};
 ghost use Rattle.grammar_desugaring.specs.Refused as spec;
 
 use thiserror::Error;
 
-/// Why a tree has no core expression. Each place is a byte's, counted from 0.
+/// Why a tree does not have a core expression. Each offset is that of a byte, counted from 0.
 #[derive(Clone, Copy, Debug, Error)]
 pub enum DesugarFault {
     /// The number at this token is outside signed 64 bits.
@@ -13,16 +13,16 @@ pub enum DesugarFault {
     /// No function or method has this name.
     #[error("policy 13: unknown function or method at byte {0}")]
     UnknownCall(usize),
-    /// The function or method of this name takes another count of arguments.
+    /// The function or method of this name takes another number of arguments.
     #[error("policy 14: wrong number of arguments at byte {0}")]
     Arity(usize),
-    /// This key stands further left in the same record.
+    /// This key occurs earlier in the same record.
     #[error("policy 15: repeated key at byte {0}")]
     RepeatedKey(usize),
 }
 
 impl DesugarFault {
-    /// Where it stands.
+    /// Returns the byte offset of the error.
     fn at(self) -> usize
         ensures { result ≡ spec.at self }
     {
@@ -35,7 +35,7 @@ impl DesugarFault {
     }
 }
 
-/// Returns the one at the lesser place, where there is one; the first where they are at one place.
+/// Returns the error at the lesser offset, if there is one; the first if the offsets are equal.
 pub fn earlier_of(one: Option<DesugarFault>, other: Option<DesugarFault>) -> Option<DesugarFault>
     ensures { result ≡ spec.earlier_of one other }
 {

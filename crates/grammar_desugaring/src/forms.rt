@@ -1,4 +1,4 @@
-//! Core expressions from their operands.
+//! Core expressions, from their operands.
 ghost use Rattle.std.specs.Prelude.{◌≡◌, IfOk};
 ghost use Rattle.grammar_trees.specs.grammar_tokens.Lexing.{spelling_of};
 ghost use Rattle.grammar_core.specs.declared.operator.Unary.TheVariants as unary;
@@ -22,13 +22,13 @@ use std::alloc::Global;
 #[derive(Clone, Copy)]
 pub(crate) enum Chain {
     Product,
-    /// The sign of the further term.
+    /// The sign of the next term.
     Sum(Sign),
     And,
     Or,
 }
 
-/// `owner.name`
+/// Returns `owner.name`.
 pub(crate) fn field(alloc: Global, text: &str, owner: Expr, key: KeyTree) -> Result<Expr, NoMemory>
     requires { KeyIn text.now key }
     ensures { IfOk result (λ e. e ≡ core.Field owner (name_of text.entry.now key)) }
@@ -37,7 +37,7 @@ pub(crate) fn field(alloc: Global, text: &str, owner: Expr, key: KeyTree) -> Res
     Expr::field(alloc, owner, name)
 }
 
-/// `owner has name`
+/// Returns `owner has name`.
 pub(crate) fn has(
     alloc: Global,
     text: &str,
@@ -51,7 +51,7 @@ pub(crate) fn has(
     Expr::has(alloc, owner, name)
 }
 
-/// `operand like pattern`
+/// Returns `operand like pattern`.
 pub(crate) fn like(
     alloc: Global,
     text: &str,
@@ -66,7 +66,7 @@ pub(crate) fn like(
     Expr::unary(alloc, Unary::Like(pattern), operand)
 }
 
-/// `operand is path`
+/// Returns `operand is path`.
 pub(crate) fn is(
     alloc: Global,
     text: &str,
@@ -80,7 +80,7 @@ pub(crate) fn is(
     Expr::unary(alloc, Unary::Is(type_name), operand)
 }
 
-/// `operand is path in ancestor`
+/// Returns `operand is path in ancestor`.
 pub(crate) fn is_in(
     alloc: Global,
     text: &str,
@@ -111,7 +111,7 @@ pub(crate) fn apply(
     Expr::unary(alloc, operator, operand)
 }
 
-/// `if test then consequent else alternative`
+/// Returns `if test then consequent else alternative`.
 pub(crate) fn if_then_else(
     alloc: Global,
     test: Result<Expr, NoMemory>,
@@ -125,14 +125,14 @@ pub(crate) fn if_then_else(
     Expr::if_then_else(alloc, test, consequent, alternative)
 }
 
-/// `[members]`
+/// Returns `[members]`.
 pub(crate) fn set(members: Result<Items<Expr>, NoMemory>) -> Result<Expr, NoMemory>
     ensures { IfOk result (λ e. Gave members (λ es. e ≡ core.Set es)) }
 {
     Ok(Expr::Set(members?))
 }
 
-/// `name: value`
+/// Returns the field `name: value`.
 pub(crate) fn named(
     name: Result<Text, NoMemory>,
     value: Result<Expr, NoMemory>,
@@ -144,7 +144,7 @@ pub(crate) fn named(
     Ok(Named { name, value })
 }
 
-/// `{fields}`
+/// Returns `{fields}`.
 pub(crate) fn record(fields: Result<Items<Named<Expr>>, NoMemory>) -> Result<Expr, NoMemory>
     ensures { IfOk result (λ e. Gave fields (λ fs. e ≡ core.Record fs)) }
 {
@@ -171,7 +171,7 @@ pub(crate) fn compare(
     }
 }
 
-/// Two operands of a chain.
+/// Returns two operands of a chain, joined.
 fn join(alloc: Global, chain: Chain, left: Expr, right: Expr) -> Result<Expr, NoMemory>
     ensures { IfOk result (λ e. e ≡ spec.joined_by chain left right) }
 {
@@ -183,7 +183,7 @@ fn join(alloc: Global, chain: Chain, left: Expr, right: Expr) -> Result<Expr, No
     }
 }
 
-/// Returns a chain with what was made as its next operand.
+/// Returns a chain, joined with its next operand.
 pub(crate) fn join_next(
     alloc: Global,
     chain: Chain,

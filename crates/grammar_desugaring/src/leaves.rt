@@ -1,4 +1,4 @@
-//! Core expressions that a single token makes, or a uid.
+//! Core expressions of a single token, or a uid.
 ghost use Rattle.std.specs.Prelude.{◌≡◌, IfOk};
 ghost use Rattle.grammar_trees.specs.grammar_tokens.declared.token.TokenKind.TheVariants as k;
 ghost use Rattle.grammar_trees.specs.grammar_tokens.Lexing.{spelling_of};
@@ -36,7 +36,7 @@ pub(crate) fn variable(word: grammar_trees::Variable) -> Expr
     }
 }
 
-/// Returns a number by itself.
+/// Returns the literal of a number by itself.
 pub(crate) fn number_literal(text: &str, token: Token) -> Expr
     requires { TokenIn text.now (only k.Number) token }
     ensures { result ≡ spec.long (positive (spelling_of text.now token)) }
@@ -44,7 +44,7 @@ pub(crate) fn number_literal(text: &str, token: Token) -> Expr
     Expr::Literal(Literal::Long(numbers::positive(spelling(text, token).as_bytes())))
 }
 
-/// Returns a number that a minus joins.
+/// Returns the literal of a number after a minus, which belongs to it.
 pub(crate) fn negated_literal(text: &str, token: Token) -> Expr
     requires { TokenIn text.now (only k.Number) token }
     ensures { result ≡ spec.long (negative (spelling_of text.now token)) }

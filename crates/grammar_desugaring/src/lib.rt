@@ -1,5 +1,5 @@
-//! From the syntax tree of an expression to its core expression: numbers in range, known calls with their count of
-//! arguments, keys that differ, and core operators alone.
+//! Desugaring of syntax trees of expressions into core expressions: numbers in range, known calls with the right
+//! number of arguments, distinct keys, and core operators only.
 #![tactic(auto)]
 
 mod build;

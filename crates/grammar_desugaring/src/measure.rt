@@ -1,23 +1,22 @@
-//! How large a core expression is, and its fault, told before it is built.
+//! The size of a core expression and its error, computed before it is built.
 ghost use Rattle.std.specs.Prelude.{◌≡◌};
 ghost use Rattle.grammar_desugaring.specs.Sums as spec;
 
 use crate::fault::{DesugarFault, earlier_of};
 
-/// The size of a core expression, and the fault at the least place of what it comes from. The greatest `u32` stands
-/// for all greater numbers.
+/// The size of a core expression, and the error at the least offset of its tree. Sizes are saturated `u32`s.
 #[derive(Clone, Copy)]
 pub struct Measure {
-    /// The longest way down, which is 1 for a leaf.
+    /// The height; 1 for a leaf.
     pub height: u32,
-    /// The number of forms.
+    /// The number of nodes.
     pub forms: u32,
-    /// The fault at the least place; without one there is a core expression.
+    /// The error at the least offset; without one there is a core expression.
     pub fault: Option<DesugarFault>,
 }
 
 impl Measure {
-    /// Of no expression.
+    /// Returns the measure of no expression.
     pub(crate) fn nothing() -> Measure
         ensures { result ≡ spec.nothing }
     {
@@ -28,7 +27,7 @@ impl Measure {
         }
     }
 
-    /// Of an expression without operands.
+    /// Returns the measure of an expression without operands.
     pub(crate) fn leaf(fault: Option<DesugarFault>) -> Measure
         ensures { result ≡ spec.leaf fault }
     {
@@ -39,7 +38,7 @@ impl Measure {
         }
     }
 
-    /// Of a form over what is measured.
+    /// Returns the measure of a node over one operand.
     pub fn above(self) -> Measure
         ensures { result ≡ spec.above self }
     {
@@ -50,7 +49,7 @@ impl Measure {
         }
     }
 
-    /// Of two side by side.
+    /// Returns the measure of two expressions side by side.
     pub(crate) fn beside(self, other: Measure) -> Measure
         ensures { result ≡ spec.beside self other }
     {
@@ -61,14 +60,14 @@ impl Measure {
         }
     }
 
-    /// Of a form over two. Of two faults at one place the first one's is told.
+    /// Returns the measure of a node over two operands. Of two errors at one offset, the first is kept.
     pub fn paired(self, other: Measure) -> Measure
         ensures { result ≡ spec.paired self other }
     {
         self.beside(other).above()
     }
 
-    /// Of a call with these operands that may have a fault of its own.
+    /// Returns the measure of a call with these operands that may have an error of its own.
     pub(crate) fn called(self, fault: Option<DesugarFault>) -> Measure
         ensures { result ≡ spec.called fault self }
     {
@@ -78,7 +77,7 @@ impl Measure {
         }
     }
 
-    /// With one more fault.
+    /// Returns the measure with one more error.
     pub(crate) fn with_fault(self, fault: Option<DesugarFault>) -> Measure
         ensures { result ≡ spec.with_fault fault self }
     {

@@ -1,5 +1,5 @@
-//! Whether a tree has a core expression, and how large that is: told without building it. Memory is taken for the
-//! keys of records alone.
+//! Whether a tree has a core expression, and its size, computed without building it. Allocates only for the keys of
+//! records.
 ghost use Rattle.std.specs.Prelude.{◌≡◌, IfOk};
 ghost use Rattle.std.specs.List.{AllByRecursion, fold};
 ghost use Rattle.grammar_trees.specs.grammar_tokens.declared.token.TokenKind.TheVariants as k;
@@ -29,13 +29,13 @@ use grammar_trees::{Access, Comparison, Entry, ExprTree, PathTree, Term, Token, 
 use plain::{Boxed, Items, NoMemory};
 use std::alloc::Global;
 
-/// What is told, but for want of memory.
+/// A measure, or `NoMemory`.
 type Told = Result<Measure, NoMemory>;
 
-/// What is told of two.
+/// Two measures, or `NoMemory`.
 type BothTold = Result<(Measure, Measure), NoMemory>;
 
-/// Returns the fault of a number that is out of range.
+/// Returns the error of a number that is out of range.
 fn range_fault(within: bool, token: Token) -> Option<DesugarFault>
     ensures { result ≡ least (range within token) }
 {
@@ -46,7 +46,7 @@ fn range_fault(within: bool, token: Token) -> Option<DesugarFault>
     }
 }
 
-/// Of a number by itself.
+/// Returns the measure of a number by itself.
 fn measure_number(text: &str, token: Token) -> Measure
     requires { TokenIn text.now (only k.Number) token }
     ensures { result ≡ spec.leaf (least (range (number.fits (spelling_of text.now token)) token)) }
@@ -55,7 +55,7 @@ fn measure_number(text: &str, token: Token) -> Measure
     Measure::leaf(range_fault(fits(digits), token))
 }
 
-/// Of a number that a minus joins.
+/// Returns the measure of a number after a minus, which belongs to it.
 fn measure_negated_number(text: &str, token: Token) -> Measure
     requires { TokenIn text.now (only k.Number) token }
     ensures { result ≡ spec.leaf (least (range (number.fits_negated (spelling_of text.now token)) token)) }
@@ -64,7 +64,7 @@ fn measure_negated_number(text: &str, token: Token) -> Measure
     Measure::leaf(range_fault(fits_negated(digits), token))
 }
 
-/// Returns the fault of a call with so many arguments, by what it takes, if it is known.
+/// Returns the error of a call with so many arguments, given how many a known name takes.
 fn call_fault(at: usize, takes: Option<usize>, count: usize) -> Option<DesugarFault>
     ensures { result ≡ least (call_faults at takes count) }
 {
@@ -80,7 +80,7 @@ fn call_fault(at: usize, takes: Option<usize>, count: usize) -> Option<DesugarFa
     }
 }
 
-/// Returns the function that a Path is.
+/// Returns the function that a Path names.
 pub(crate) fn function_at(text: &str, path: &PathTree) -> Option<UnaryCall>
     requires { PathIn text.now path.now }
     ensures { result ≡ function text.now path.now }
@@ -91,7 +91,7 @@ pub(crate) fn function_at(text: &str, path: &PathTree) -> Option<UnaryCall>
     }
 }
 
-/// Returns the fault of a function's call.
+/// Returns the error of a function call.
 fn function_fault(text: &str, path: &PathTree, count: usize) -> Option<DesugarFault>
     requires { PathIn text.now path.now }
     ensures { result ≡ least (function_faults text.now path.now count) }
@@ -103,7 +103,7 @@ fn function_fault(text: &str, path: &PathTree, count: usize) -> Option<DesugarFa
     call_fault(path.first.start, takes, count)
 }
 
-/// Returns the fault of a method's call.
+/// Returns the error of a method call.
 fn method_fault(text: &str, name: Token, count: usize) -> Option<DesugarFault>
     requires { TokenIn text.now identifiers name }
     ensures { result ≡ least (call_faults name.start (method_takes (method_of (spelling_of text.now name))) count) }
@@ -115,7 +115,7 @@ fn method_fault(text: &str, name: Token, count: usize) -> Option<DesugarFault>
     call_fault(name.start, takes, count)
 }
 
-/// Of a comparison: a negated one is a form more.
+/// Returns the measure of a comparison: a negated one has one more node.
 fn measure_comparison(operator: Comparison, left: Measure, right: Measure) -> Measure
     ensures { result ≡ spec.measured_compared operator left right }
 {
@@ -126,21 +126,21 @@ fn measure_comparison(operator: Comparison, left: Measure, right: Measure) -> Me
     }
 }
 
-/// Of a form over what is measured.
+/// Returns the measure of a node over one operand.
 fn above(operand: Told) -> Told
     ensures { IfOk result (λ j. Gave operand (λ i. j ≡ spec.above i)) }
 {
     Ok(operand?.above())
 }
 
-/// Of a function's call, of its arguments and the fault of the call itself.
+/// Returns the measure of a function call, from its arguments and its own error.
 fn call(fault: Option<DesugarFault>, arguments: Told) -> Told
     ensures { IfOk result (λ j. Gave arguments (λ i. j ≡ spec.called fault (spec.with_fault fault i))) }
 {
     Ok(arguments?.with_fault(fault).called(fault))
 }
 
-/// Of a record, of its entries and the fault of its keys.
+/// Returns the measure of a record, from its entries and the error of its keys.
 fn record(fault: Result<Option<DesugarFault>, NoMemory>, entries: Told) -> Told
     ensures { IfOk result (λ j. Gave fault (λ o. Gave entries (λ i. j ≡ spec.above (spec.with_fault o i)))) }
 {
@@ -148,7 +148,7 @@ fn record(fault: Result<Option<DesugarFault>, NoMemory>, entries: Told) -> Told
     Ok(entries?.with_fault(fault).above())
 }
 
-/// `left operator right`
+/// Returns the measure of `left operator right`.
 fn compare(operator: Comparison, operands: BothTold) -> Told
     ensures { IfOk result (λ j. Gave operands (λ pair. j ≡ spec.measured_compared operator pair.0 pair.1)) }
 {
@@ -156,7 +156,7 @@ fn compare(operator: Comparison, operands: BothTold) -> Told
     Ok(measure_comparison(operator, left, right))
 }
 
-/// `operand is path in ancestor`, in which the operand stands twice.
+/// Returns the measure of `operand is path in ancestor`, in which the operand occurs twice.
 fn is_in(operands: BothTold) -> Told
     ensures { IfOk result
         (λ j. Gave operands (λ pair. j ≡ spec.paired (spec.above pair.0) (spec.paired pair.0 pair.1))) }
@@ -165,7 +165,7 @@ fn is_in(operands: BothTold) -> Told
     Ok(operand.above().paired(operand.paired(ancestor)))
 }
 
-/// `if test then consequent else alternative`
+/// Returns the measure of `if test then consequent else alternative`.
 fn if_then_else(test: Told, consequent: Told, alternative: Told) -> Told
     ensures { IfOk result (λ j. Gave test (λ i. Gave consequent
         (λ k. Gave alternative (λ l. j ≡ spec.above (spec.beside i (spec.beside k l)))))) }
@@ -175,7 +175,7 @@ fn if_then_else(test: Told, consequent: Told, alternative: Told) -> Told
     Ok(test.beside(consequent.beside(alternative?)).above())
 }
 
-/// Returns what is told of a tree.
+/// Returns the measure of a tree.
 #[cycle(measuring)]
 pub(crate) fn measure_tree(alloc: Global, text: &str, tree: &ExprTree) -> Told
     requires { WellFormed text.now tree.now }
@@ -220,7 +220,7 @@ pub(crate) fn measure_tree(alloc: Global, text: &str, tree: &ExprTree) -> Told
     }
 }
 
-/// Of a tree behind a minus, which joins a number.
+/// Returns the measure of a tree after a minus, which belongs to a number.
 #[cycle(measuring)]
 fn measure_behind_minus(alloc: Global, text: &str, tree: &ExprTree) -> Told
     requires { WellFormed text.now tree.now }
@@ -232,7 +232,7 @@ fn measure_behind_minus(alloc: Global, text: &str, tree: &ExprTree) -> Told
     }
 }
 
-/// Of two trees, each by itself.
+/// Returns the measures of two trees.
 #[cycle(measuring)]
 fn measure_both(
     alloc: Global,
@@ -272,7 +272,7 @@ fn measure_entries(alloc: Global, text: &str, entries: &[Entry<ExprTree>]) -> To
     Ok(row)
 }
 
-/// Of a chain of operands.
+/// Returns the measure of a chain of operands.
 #[cycle(measuring)]
 fn measure_chain(alloc: Global, text: &str, more: &Items<ExprTree>, first: &Boxed<ExprTree>) -> Told
     requires { WellFormed text.now first.now × AllWellFormed text.now more.now }
@@ -286,7 +286,7 @@ fn measure_chain(alloc: Global, text: &str, more: &Items<ExprTree>, first: &Boxe
     Ok(left)
 }
 
-/// Of a sum.
+/// Returns the measure of a sum.
 #[cycle(measuring)]
 fn measure_terms(
     alloc: Global,
@@ -305,7 +305,7 @@ fn measure_terms(
     Ok(left)
 }
 
-/// Of what is reached by accesses.
+/// Returns the measure of accesses.
 #[cycle(measuring)]
 fn measure_accesses(
     alloc: Global,

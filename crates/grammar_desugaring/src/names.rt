@@ -1,10 +1,10 @@
-//! The functions and methods that can be called by name.
+//! The names of functions and methods.
 ghost use Rattle.std.specs.Prelude.{◌≡◌};
 ghost use Rattle.grammar_desugaring.specs.Names.{function_of, method_of, takes};
 
 use grammar_core::{Binary, BinaryCall, UnaryCall};
 
-/// What a method's name stands for.
+/// The meaning of a method's name.
 #[derive(Clone, Copy)]
 pub(crate) enum Method {
     /// A call without arguments.
@@ -48,7 +48,7 @@ pub(crate) fn method_named(name: &str) -> Option<Method>
 }
 
 impl Method {
-    /// Returns how many arguments it takes.
+    /// Returns how many arguments the method takes.
     pub(crate) fn takes(self) -> usize
         ensures { result ≡ takes self }
     {

@@ -1,10 +1,10 @@
-//! What was made, or refused for want of memory, put together.
+//! Results of building parts, combined.
 ghost use Rattle.std.specs.Prelude.{◌≡◌, ◌++◌, ◌∷◌, [], IfOk};
 ghost use Rattle.grammar_desugaring.specs.inner.Giving.{Gave};
 
 use plain::NoMemory;
 
-/// Both of two. Generic, so that what is let go where one is missing is one step, and not one a form.
+/// Returns both values, or `NoMemory`. Generic, so that the drop is one step and not one for each variant.
 pub(crate) fn both<A: Drop, B: Drop>(
     left: Result<A, NoMemory>,
     right: Result<B, NoMemory>,
@@ -16,7 +16,7 @@ pub(crate) fn both<A: Drop, B: Drop>(
     Ok((left, right))
 }
 
-/// All of three.
+/// Returns all three values, or `NoMemory`.
 pub(crate) fn all_three<A: Drop, B: Drop, C: Drop>(
     first: Result<A, NoMemory>,
     second: Result<B, NoMemory>,
@@ -31,7 +31,7 @@ pub(crate) fn all_three<A: Drop, B: Drop, C: Drop>(
     Ok((first, second, third))
 }
 
-/// Puts what was made behind the row.
+/// Appends a built value to a list.
 pub(crate) fn add<T: Drop>(row: &mut Vec<T>, made: Result<T, NoMemory>) -> Result<(), NoMemory>
     ensures { IfOk result (λ done. Gave made (λ x. row.new.items ≡ row.old.items ++ x ∷ [])) }
 {

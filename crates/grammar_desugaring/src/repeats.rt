@@ -1,4 +1,4 @@
-//! Names that stand a second time, as faults.
+//! Duplicate names, as errors.
 ghost use Rattle.std.specs.Prelude.{◌≡◌, IfOk, map};
 ghost use Rattle.std.specs.List.{AllByRecursion};
 ghost use Rattle.grammar_desugaring.specs.inner.WellFormed.{WellFormedEntry};
@@ -13,14 +13,14 @@ use grammar_trees::{Entry, ExprTree, NameAt, least_place};
 use plain::{NoMemory, Text};
 use std::alloc::Global;
 
-/// A key of a record, and the byte at which it stands.
+/// A key of a record, with its byte offset.
 #[derive(Drop)]
 pub(crate) struct Key {
     name: Text,
     at: usize,
 }
 
-/// Returns a place at which a name stands again, as a fault.
+/// Returns the offset of a duplicate as an error.
 fn fault_at(place: Option<usize>) -> Option<DesugarFault>
     ensures { result ≡ repeat_fault place }
 {
@@ -30,8 +30,9 @@ fn fault_at(place: Option<usize>) -> Option<DesugarFault>
     }
 }
 
-/// Returns the fault of a name that stands again, the one at the least place. It takes time of n log n for n names; the
-/// only error is `NoMemory`.
+/// Returns the error of a duplicate name, the one at the least offset.
+///
+/// O(n log n). The only error is `NoMemory`.
 #[tactic(auto, using(crate::proofs::Again::fault_told))]
 pub fn first_duplicate(
     alloc: Global,
@@ -59,7 +60,7 @@ fn keys_of(alloc: Global, text: &str, entries: &[Entry<ExprTree>]) -> Result<Vec
     Ok(keys)
 }
 
-/// Returns the same, lent.
+/// Returns the keys, borrowed.
 fn names_of<'a>(alloc: Global, keys: &'a [Key]) -> Result<Vec<NameAt<'a>>, NoMemory>
     ensures { IfOk result (λ marks. abstract_names marks.items ≡ map held keys.entry.now) }
 {
@@ -73,7 +74,7 @@ fn names_of<'a>(alloc: Global, keys: &'a [Key]) -> Result<Vec<NameAt<'a>>, NoMem
     Ok(marks)
 }
 
-/// Returns the fault of a record's key that stands again, the one at the least place.
+/// Returns the error of a record's duplicate key, the one at the least offset.
 pub(crate) fn repeated_key(
     alloc: Global,
     text: &str,

@@ -1,4 +1,4 @@
-//! A whole tree: what is told of it, and then its core expression.
+//! Whole trees: their measure, and their core expression.
 ghost use Rattle.std.specs.Prelude.{◌≡◌, [], IfOk};
 ghost use Rattle.grammar_trees.specs.WellFormed.{WellFormedExpr, WellFormedPath};
 ghost use Rattle.grammar_desugaring.specs.BuiltFrom.{IsBuiltFrom};
@@ -17,9 +17,11 @@ use plain::NoMemory;
 use std::alloc::Global;
 use values::TypeName;
 
-/// Returns what is told of a tree before anything is built: how large its core expression is, and its fault at the
-/// least place. Takes memory for the keys of records alone, and time in proportion to the tree but for these, of which
-/// n take n log n. The only error is `NoMemory`.
+/// Returns the measure of a tree before anything is built: the size of its core expression, and its error at the
+/// least offset.
+///
+/// Allocates only for the keys of records. Takes time proportional to the tree, except for n keys, which take n log
+/// n. The only error is `NoMemory`.
 pub fn measure_expr(alloc: Global, text: &str, tree: &ExprTree) -> Result<Measure, NoMemory>
     requires { IsBuiltFrom text.now (λ tokens. WellFormedExpr tokens tree.now) }
     ensures { IfOk result (λ measure. measure ≡ measured text.now tree.now) }
@@ -27,7 +29,7 @@ pub fn measure_expr(alloc: Global, text: &str, tree: &ExprTree) -> Result<Measur
     measure_tree(alloc, text, tree)
 }
 
-/// Returns the core expression that a tree without faults stands for. The only error is `NoMemory`.
+/// Returns the core expression of a tree without errors. The only error is `NoMemory`.
 ///
 /// Source: Cedar reference guide 4.0, "Grammar specification for Cedar policy syntax" and "Operators and functions".
 pub fn build_expr(alloc: Global, text: &str, tree: &ExprTree) -> Result<Expr, NoMemory>
@@ -38,7 +40,7 @@ pub fn build_expr(alloc: Global, text: &str, tree: &ExprTree) -> Result<Expr, No
     build_tree(alloc, text, tree)
 }
 
-/// Returns the type name that a path is. The only error is `NoMemory`.
+/// Returns the type name of a path. The only error is `NoMemory`.
 pub fn type_name(alloc: Global, text: &str, path: &PathTree) -> Result<TypeName, NoMemory>
     requires { IsBuiltFrom text.now (λ tokens. WellFormedPath tokens path.now) }
     ensures { IfOk result (λ name. name ≡ path_name text.now path.now) }

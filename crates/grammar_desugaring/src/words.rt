@@ -1,4 +1,4 @@
-//! What the tokens of a tree stand for.
+//! The meaning of the tokens of a tree.
 ghost use Rattle.std.specs.Prelude.{◌≡◌, ◌∷◌, IfOk, map};
 ghost use Rattle.plain.specs.Words.{AreIdents};
 ghost use Rattle.grammar_trees.specs.grammar_tokens.Lexing.{spelling_of};
@@ -34,7 +34,7 @@ pub(crate) fn string(alloc: Global, text: &str, token: Token) -> Result<Text, No
     decode_string(alloc, text, token)
 }
 
-/// Returns a string as a pattern.
+/// Returns the pattern of a string.
 pub(crate) fn pattern(alloc: Global, text: &str, token: Token) -> Result<Pattern, NoMemory>
     requires { TokenIn text.now patterns token }
     ensures { IfOk result (λ pattern. pattern ≡ pattern_of (spelling_of text.now token)) }
@@ -43,7 +43,7 @@ pub(crate) fn pattern(alloc: Global, text: &str, token: Token) -> Result<Pattern
     Ok(Pattern::from_literals(literals))
 }
 
-/// Returns a key or a field's name: a word, or the value of a string.
+/// Returns the name of a key or a field: a word, or the value of a string.
 pub(crate) fn name(alloc: Global, text: &str, key: KeyTree) -> Result<Text, NoMemory>
     requires { KeyIn text.now key }
     ensures { IfOk result (λ name. name ≡ name_of text.now key) }
@@ -54,7 +54,7 @@ pub(crate) fn name(alloc: Global, text: &str, key: KeyTree) -> Result<Text, NoMe
     }
 }
 
-/// Where a key stands.
+/// Returns the byte offset of a key.
 pub(crate) fn place(key: KeyTree) -> usize
     ensures { result ≡ place_of key }
 {
@@ -80,7 +80,7 @@ fn words_of<'a>(alloc: Global, text: &'a str, path: &PathTree) -> Result<Vec<&'a
     Ok(words)
 }
 
-/// Returns the type name that a path of one word is, as most are: it takes memory for the name alone.
+/// Returns the type name of a path of one word, as most are. Allocates only for the name.
 fn word_type(alloc: Global, text: &str, word: Token) -> Result<TypeName, NoMemory>
     requires { TokenIn text.now identifiers word }
     ensures { IfOk result (λ name. name ≡ spelling_of text.now word) }
@@ -88,7 +88,7 @@ fn word_type(alloc: Global, text: &str, word: Token) -> Result<TypeName, NoMemor
     TypeName::from_words(alloc, &[spelling(text, word)])
 }
 
-/// Returns the type name that a path of several words is.
+/// Returns the type name of a path of several words.
 fn joined_type(alloc: Global, text: &str, path: &PathTree) -> Result<TypeName, NoMemory>
     requires { PathIn text.now path.now }
     ensures { IfOk result (λ name. name ≡ path_name text.now path.now) }
@@ -97,7 +97,7 @@ fn joined_type(alloc: Global, text: &str, path: &PathTree) -> Result<TypeName, N
     TypeName::from_words(alloc, &words)
 }
 
-/// Returns the type name that a path is.
+/// Returns the type name of a path.
 pub(crate) fn path_type(alloc: Global, text: &str, path: &PathTree) -> Result<TypeName, NoMemory>
     requires { PathIn text.now path.now }
     ensures { IfOk result (λ name. name ≡ path_name text.now path.now) }

@@ -1,6 +1,8 @@
--- The grammar of expressions, over tokens: which trees a list of tokens derives. One definition for each production.
--- Source: Cedar reference guide 4.0, "Grammar specification for Cedar policy syntax". Rules of this product: a
--- variable's word with `::` or `(` behind it is a Path, and expressions nest at most so deep.
+-- Defines the grammar of expressions, over tokens: which trees a list of tokens derives, by one definition for each
+-- production.
+-- Source: Cedar reference guide 4.0, "Grammar specification for Cedar policy syntax".
+-- Rules of this product: a variable's word followed by `::` or `(` is a Path, and the nesting of expressions is
+-- limited.
 use Rattle.std.specs.Prelude.{◌≡◌, ℕ, zero, suc, Bool, true, false, List, [], ◌∷◌, Option, Some, None, is_some}
 use Rattle.grammar_trees.specs.grammar_tokens.declared.token.TokenKind.{TokenKind}
 use Rattle.grammar_trees.specs.grammar_tokens.declared.token.TokenKind.TheVariants as k
@@ -28,13 +30,13 @@ use Rattle.grammar_trees.specs.grammar_tokens.Lang.{never}
 use Rattle.grammar_trees.specs.grammar_tokens.Lang.{at_any, gate}
 use Rattle.grammar_trees.specs.grammar_tokens.Grammar.{identifiers, path, uid}
 
--- ## Tokens that stand for something by their kind alone
+-- ## Tokens whose kind is all their meaning
 
--- a token, as what its kind stands for
+-- `symbol meaning`: a token, as the meaning of its kind
 abbrev pub symbol : {A : Type 0} → (TokenKind → Option A) → Lang A
 symbol meaning ts a = (t : Token) × (ts ≡ t ∷ []) × (meaning t.kind ≡ Some a)
 
--- the kinds that stand for something
+-- `known meaning` are the kinds that have a meaning.
 abbrev pub known : {A : Type 0} → (TokenKind → Option A) → Kinds
 known meaning kind = is_some (meaning kind)
 
@@ -69,6 +71,7 @@ comparison_of k.NotEqual = Some comparison.NotEqual
 comparison_of k.In = Some comparison.In
 comparison_of _ = None
 
+-- `booleans`, `signs` and `comparisons` are the kinds of these tokens.
 abbrev pub booleans : Kinds
 booleans = known boolean_of
 
@@ -80,22 +83,24 @@ comparisons = known comparison_of
 
 -- ## Sets of kinds
 
--- what a Key begins with
+-- `keys` are the kinds of the first token of a Key.
 abbrev pub keys : Kinds
 keys k.Text = true
 keys kind = identifiers kind
 
 -- ## Productions
 
--- an expression with what stands behind it, or alone where nothing does
+-- `joined make x more` is `x` with the pieces `more` after it, or `x` itself if there are none.
 abbrev pub joined : {A : Type 0} → (ExprTree → List A → ExprTree) → ExprTree → List A → ExprTree
 joined make x [] = x
 joined make x (next ∷ more) = make x (next ∷ more)
 
+-- `accessed name arguments` is an access by a dot: a method if there are arguments, else a field.
 abbrev pub accessed : Token → Option (List ExprTree) → Access (List ExprTree)
 accessed name None = access.Field (Word name)
 accessed name (Some arguments) = access.Method name arguments
 
+-- `is_in x type_name y` is `x is T`, or `x is T in y`.
 abbrev pub is_in : ExprTree → PathTree → Option ExprTree → ExprTree
 is_in x type_name None = tree.Is x type_name
 is_in x type_name (Some y) = tree.IsIn x type_name y
@@ -123,7 +128,7 @@ indexed = do
   one k.RBracket
   empty (access.Field (Quoted name))
 
--- whether one more level of nesting may be opened, and the expressions of that level
+-- `may`: whether one more level of nesting may be opened; `inner`: the expressions of that level
 module _ (may : Bool) (inner : Lang ExprTree) where
   -- Arguments = [ Expr { "," Expr } ]
   abbrev pub arguments : Lang (List ExprTree)
@@ -208,7 +213,7 @@ module _ (may : Bool) (inner : Lang ExprTree) where
   abbrev pub member : Lang ExprTree
   member = chain primary (dotted or indexed) tree.Member
 
-  -- so many of a sign at most, and a Member
+  -- at most so many of a sign, and a Member
   abbrev pub signed : TokenKind → (ExprTree → ExprTree) → ℕ → Lang ExprTree
   signed sign make zero = member
   signed sign make (suc n) = (do one sign; x ← signed sign make n; empty (make x)) or member
@@ -295,20 +300,22 @@ module _ (may : Bool) (inner : Lang ExprTree) where
   abbrev pub level : Lang ExprTree
   level = gate may conditional or disjunction
 
+-- `is_positive n` tests whether one more level of nesting may be opened.
 abbrev pub is_positive : ℕ → Bool
 is_positive zero = false
 is_positive (suc n) = true
 
--- Expr, with so many levels of nesting at most: its own, and one more for what stands in parentheses, brackets, braces
--- or call arguments, and for each part of an `if`.
+-- `expr levels`: Expr, with at most so many levels of nesting: its own, and one more inside parentheses, brackets,
+-- braces or call arguments, and in each part of an `if`.
 unfoldable pub expr : ℕ → Lang ExprTree
 expr zero = never
 expr (suc levels) = level (is_positive levels) (expr levels)
 
--- The most levels: `1` has one and `(1)` two, so an expression may stand in 63 pairs of parentheses, and in no more.
+-- `nesting_limit` is the most levels: `1` has one and `(1)` two, so an expression may be in at most 63 pairs of
+-- parentheses.
 abbrev pub nesting_limit : ℕ
 nesting_limit = 64
 
--- Expr, however deep it nests
+-- `any_expr`: Expr, without a limit of nesting
 abbrev pub any_expr : Lang ExprTree
 any_expr = at_any expr

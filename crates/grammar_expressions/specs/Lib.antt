@@ -1,6 +1,6 @@
 pub mod ExpressionReading
 pub mod Expressions
 pub mod inner
--- crates below, passed on to those above
+-- Specifications of lower crates, re-exported.
 pub use Rattle.grammar_trees.specs as grammar_trees
 pub use Rattle.grammar_trees.specs.grammar_tokens

@@ -14,8 +14,8 @@ use grammar_trees::{Cursor, ExprTree, StopCause, TokenKind};
 use plain::{Boxed, beside};
 use std::alloc::Global;
 
-/// The most levels that expressions nest: an expression's own, and one more for what stands in
-/// parentheses, brackets, braces or call arguments, and for each part of an `if`.
+/// The most levels of nesting of an expression: its own, and one more inside parentheses, brackets, braces or call
+/// arguments, and in each part of an `if`.
 pub const NESTING_LIMIT: usize = 64;
 
 impl<F: Fn(Global, &mut Cursor<'_>, usize) -> Result<ExprTree, StopCause>> Reader<F> {
@@ -107,9 +107,11 @@ impl<F: Fn(Global, &mut Cursor<'_>, usize) -> Result<ExprTree, StopCause>> Reade
     }
 }
 
-/// Returns an expression with so many levels of nesting at most, its own being one, from the front of the tokens and as
-/// many of them as it takes. The tokens that are left afterwards begin behind it, or with the one at which reading
-/// halts: that is too deep where more levels would go on with it.
+/// Parses an expression with at most `levels` levels of nesting, its own included, from the front of the tokens and
+/// as long as possible.
+///
+/// The remaining tokens begin after it, or with the one at which parsing stops: with `TooDeep` if more levels would
+/// go on with it.
 pub fn expr(alloc: Global, tokens: &mut Cursor<'_>, levels: usize) -> Result<ExprTree, StopCause>
     ensures reads { 0 < levels → ReadsFrontWithin (grammar.expr levels) grammar.any_expr
         tokens.old.rest.now result tokens.new.rest.now }

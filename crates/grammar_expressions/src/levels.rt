@@ -1,4 +1,4 @@
-//! Levels of operators: an operand, and behind it as many pieces as begin with a token of a set.
+//! Levels of operators: an operand, followed by pieces as long as one begins with a token of a set.
 
 ghost use Rattle.std.specs.Prelude.{◌≡◌, List, IfOk};
 ghost use Rattle.grammar_trees.specs.grammar_tokens.ParsesTo.{ParsesTo};
@@ -11,12 +11,12 @@ use grammar_trees::{Cursor, ExprTree, KindSet, StopCause, read_many};
 use plain::{Boxed, Items, beside};
 use std::alloc::{AllocError, Global};
 
-/// A level of operators, each proved once as a chain.
+/// A level of operators, whose proof is shared by all levels.
 pub(crate) trait Level {
-    /// What may stand behind the first operand, again and again.
+    /// What may follow the first operand, repeatedly.
     type Piece: Drop;
 
-    /// Whether it may be asked to read.
+    /// The condition under which the parsers may be called.
     ghost can_read: { Self → Type 0 };
 
     ghost operands: { Self → Parser trees.ExprTree };
@@ -33,12 +33,12 @@ pub(crate) trait Level {
         requires { can_read self.now }
         ensures { ParsesTo (pieces self.now tokens.old.rest.now) result tokens.new.rest.now };
 
-    /// Returns the tree of an operand and the pieces behind it.
+    /// Returns the tree of an operand and the pieces after it.
     fn join(first: Boxed<ExprTree>, more: Items<Self::Piece>) -> ExprTree
         ensures { result ≡ joins first more };
 }
 
-/// Returns the pieces behind an operand, which begin with a token of the set.
+/// Parses the pieces after an operand, which begin with a token of the set.
 fn pieces<L: Level, S: KindSet>(
     alloc: Global,
     tokens: &mut Cursor<'_>,
@@ -51,7 +51,7 @@ fn pieces<L: Level, S: KindSet>(
     read_many(alloc, tokens, set, |tokens| level.piece(tokens))
 }
 
-/// Returns the tree of an operand and the pieces behind it; without any, the operand itself.
+/// Returns the tree of an operand and the pieces after it; without pieces, the operand itself.
 fn join<L: Level>(
     alloc: Global,
     first: ExprTree,
@@ -65,7 +65,7 @@ fn join<L: Level>(
     }
 }
 
-/// Returns an operand that was read, and the pieces behind it, which begin with a token of the set.
+/// Parses the pieces after a parsed operand, which begin with a token of the set.
 fn chain_on<L: Level, S: KindSet>(
     alloc: Global,
     tokens: &mut Cursor<'_>,
@@ -81,8 +81,8 @@ fn chain_on<L: Level, S: KindSet>(
     Ok(join::<L>(alloc, first, more)?)
 }
 
-/// Returns an operand and the pieces behind it, which begin with a token of the set. An operand that none follows, as
-/// most, goes on as it was read, without a list of pieces.
+/// Parses an operand and the pieces after it, which begin with a token of the set. An operand without pieces, as
+/// most, is returned as it is, without a list.
 pub(crate) fn chain<L: Level, S: KindSet>(
     alloc: Global,
     tokens: &mut Cursor<'_>,

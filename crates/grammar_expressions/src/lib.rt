@@ -1,7 +1,7 @@
 //! The grammar of expressions, over their tokens.
 //!
-//! A list of tokens is read exactly where the grammar derives it, and as the one tree that it
-//! derives; else it is refused at the first token with which nothing goes on.
+//! A list of tokens is parsed if and only if the grammar derives it, into the one tree that it derives; otherwise it
+//! is rejected at the first token with which nothing goes on.
 #![tactic(auto)]
 
 mod expression;

@@ -1,4 +1,4 @@
-//! Accesses and operators, from the one that binds most.
+//! Accesses and operators, from the highest precedence.
 
 ghost use Rattle.std.specs.Prelude.{◌≡◌, IfOk};
 ghost use Rattle.grammar_expressions.specs.ExpressionReading as spec;
@@ -20,7 +20,7 @@ use grammar_trees::{
 use plain::{Boxed, Items};
 use std::alloc::{AllocError, Global};
 
-/// What stands up to four times before a Member.
+/// An operator that may occur up to four times before a Member.
 #[derive(Clone, Copy)]
 pub(crate) enum Prefix {
     /// `!`
@@ -111,7 +111,7 @@ impl<F: Fn(Global, &mut Cursor<'_>, usize) -> Result<ExprTree, StopCause>> Reade
         chain(self.alloc, tokens, &Members(self), TokenSet::AccessStarts)
     }
 
-    /// So many of a prefix at most, and a Member.
+    /// At most `most` of a prefix, and a Member.
     fn signed(&self, tokens: &mut Cursor<'_>, sign: Prefix, most: u8) -> Result<ExprTree, StopCause>
         requires { Nests self.now.levels (F.pre self.now.expr) (F.post self.now.expr) }
         ensures { ParsesTo (spec.signed (is_positive self.now.levels) (spec.expr self.now.levels)
@@ -195,7 +195,7 @@ impl<F: Fn(Global, &mut Cursor<'_>, usize) -> Result<ExprTree, StopCause>> Reade
     }
 }
 
-/// Accesses, behind a Primary.
+/// Accesses, after a Primary.
 #[derive(Drop)]
 struct Members<'r, F>(&'r Reader<F>);
 
@@ -230,7 +230,7 @@ impl<F: Fn(Global, &mut Cursor<'_>, usize) -> Result<ExprTree, StopCause>> Level
     }
 }
 
-/// Factors, behind a Unary.
+/// Factors, after a Unary.
 #[derive(Drop)]
 struct Products<'r, F>(&'r Reader<F>);
 
@@ -263,7 +263,7 @@ impl<F: Fn(Global, &mut Cursor<'_>, usize) -> Result<ExprTree, StopCause>> Level
     }
 }
 
-/// ("+" | "-") Product, behind a Product.
+/// ("+" | "-") Product, after a Product.
 #[derive(Drop)]
 struct Sums<'r, F>(&'r Reader<F>);
 
@@ -321,7 +321,7 @@ impl<F: Fn(Global, &mut Cursor<'_>, usize) -> Result<ExprTree, StopCause>> Relat
     }
 }
 
-/// "&&" Relation, behind a Relation.
+/// "&&" Relation, after a Relation.
 #[derive(Drop)]
 struct Conjunctions<'r, F>(&'r Reader<F>);
 
@@ -354,7 +354,7 @@ impl<F: Fn(Global, &mut Cursor<'_>, usize) -> Result<ExprTree, StopCause>> Level
     }
 }
 
-/// "||" And, behind an And.
+/// "||" And, after an And.
 #[derive(Drop)]
 struct Disjunctions<'r, F>(&'r Reader<F>);
 

@@ -1,4 +1,4 @@
-//! Primaries: literals, names, calls, and what stands in brackets.
+//! Primaries: literals, names, calls, and expressions in brackets.
 
 ghost use Rattle.std.specs.Prelude.{◌≡◌, IfErr};
 ghost use Rattle.grammar_expressions.specs.ExpressionReading as spec;
@@ -60,7 +60,7 @@ pub(crate) fn indexed(tokens: &mut Cursor<'_>) -> Result<Access<Items<ExprTree>>
     Ok(Access::Field(KeyTree::Quoted(name)))
 }
 
-/// Returns the variable that a Path of one word is, if it is one.
+/// Returns the variable that a Path of one word names.
 fn variable_at(path: &PathTree) -> Option<Variable>
     ensures { result ≡ spec.variable_at path.now.first path.now.more }
 {
@@ -70,7 +70,7 @@ fn variable_at(path: &PathTree) -> Option<Variable>
     }
 }
 
-/// Returns a Path that no argument follows: the word of a variable, or nothing.
+/// Returns a Path without arguments: a variable, or an error.
 #[tactic(auto, unfolding(crate::specs::ExpressionReading::alone))]
 fn alone(tokens: &Cursor<'_>, path: PathTree) -> Result<ExprTree, StopCause>
     ensures reads { ParsesTo (spec.alone path tokens.now.rest.now) result tokens.now.rest.now }
@@ -82,8 +82,8 @@ fn alone(tokens: &Cursor<'_>, path: PathTree) -> Result<ExprTree, StopCause>
     }
 }
 
-/// Reads expressions that may open so many levels of nesting. The reader of the expressions one
-/// level deeper is a parameter, so that each production is proved by itself.
+/// A parser of expressions that may open so many levels of nesting. The parser of the expressions one level deeper is
+/// a parameter, so that each production is proved by itself.
 #[derive(Drop)]
 pub(crate) struct Reader<F> {
     pub(crate) alloc: Global,
@@ -93,7 +93,7 @@ pub(crate) struct Reader<F> {
 }
 
 impl<F: Fn(Global, &mut Cursor<'_>, usize) -> Result<ExprTree, StopCause>> Reader<F> {
-    /// Returns an expression one level deeper.
+    /// Parses an expression one level deeper.
     pub(crate) fn inner(&self, tokens: &mut Cursor<'_>) -> Result<ExprTree, StopCause>
         requires { Nests self.now.levels (F.pre self.now.expr) (F.post self.now.expr) }
         ensures { ParsesTo (spec.expr self.now.levels tokens.old.rest.now) result tokens.new.rest.now }
@@ -101,7 +101,7 @@ impl<F: Fn(Global, &mut Cursor<'_>, usize) -> Result<ExprTree, StopCause>> Reade
         (self.expr)(self.alloc, tokens, self.levels)
     }
 
-    /// Returns an expression one level deeper, in memory of its own.
+    /// Parses an expression one level deeper, into a box.
     pub(crate) fn boxed_inner(&self, tokens: &mut Cursor<'_>) -> Result<Boxed<ExprTree>, StopCause>
         requires { Nests self.now.levels (F.pre self.now.expr) (F.post self.now.expr) }
         ensures { ParsesTo (spec.expr self.now.levels tokens.old.rest.now) result tokens.new.rest.now }

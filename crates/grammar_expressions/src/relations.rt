@@ -1,4 +1,4 @@
-//! Relations: what stands behind a Sum is read first, and then joined to it.
+//! Relations: what follows a Sum is parsed first, and then joined to it.
 
 ghost use Rattle.std.specs.Prelude.{◌≡◌, IfOk};
 ghost use Rattle.grammar_expressions.specs.ExpressionReading as spec;
@@ -16,7 +16,7 @@ use grammar_trees::{
 use plain::{Boxed, beside};
 use std::alloc::{AllocError, Global};
 
-/// What may stand behind the first Sum of a relation.
+/// What may follow the first Sum of a relation.
 #[derive(Drop)]
 pub(crate) enum Tail {
     /// A comparison, and the other operand.
@@ -25,7 +25,7 @@ pub(crate) enum Tail {
     Has(KeyTree),
     /// `like`, and the pattern.
     Like(Token),
-    /// `is`, the type, and what stands behind `in`.
+    /// `is`, the type, and the operand of `in`.
     Is(PathTree, Option<Boxed<ExprTree>>),
 }
 
@@ -76,7 +76,7 @@ fn relate(alloc: Global, x: ExprTree, tail: Option<Tail>) -> Result<ExprTree, Al
 }
 
 impl<F: Fn(Global, &mut Cursor<'_>, usize) -> Result<ExprTree, StopCause>> Reader<F> {
-    /// Returns a Sum in memory of its own.
+    /// Parses a Sum, into a box.
     fn boxed_sum(&self, tokens: &mut Cursor<'_>) -> Result<Boxed<ExprTree>, StopCause>
         requires { Nests self.now.levels (F.pre self.now.expr) (F.post self.now.expr) }
         ensures { ParsesTo (spec.sum (is_positive self.now.levels) (spec.expr self.now.levels) tokens.old.rest.now)
@@ -180,7 +180,7 @@ impl<F: Fn(Global, &mut Cursor<'_>, usize) -> Result<ExprTree, StopCause>> Reade
         Ok(relate(self.alloc, x, tail)?)
     }
 
-    /// Returns a relation, of its first Sum and what stands behind it.
+    /// Parses what follows a Sum, and returns the relation of both.
     pub(crate) fn related(
         &self,
         tokens: &mut Cursor<'_>,

@@ -1,4 +1,4 @@
-//! Tokens that stand for something by their kind alone.
+//! Tokens whose kind is all their meaning.
 
 ghost use Rattle.std.specs.Prelude.{◌≡◌, IfErr, Option};
 ghost use Rattle.grammar_trees.specs.grammar_tokens.declared.token.TokenKind as kinds;
@@ -9,11 +9,11 @@ ghost use Rattle.grammar_expressions.specs.ExpressionReading as spec;
 
 use grammar_trees::{Comparison, Cursor, Sign, StopCause, TokenKind, Variable};
 
-/// What tokens of some kinds stand for, each by its kind alone.
+/// The meanings of tokens of some kinds.
 pub trait Symbol: Copy {
     ghost meaning: { kinds.TokenKind → Option Self };
 
-    /// Returns what a token of this kind stands for, where it stands for something.
+    /// Returns the meaning of tokens of this kind, if they have one.
     fn of(kind: TokenKind) -> Option<Self>
         ensures { result ≡ meaning kind };
 }
@@ -73,7 +73,9 @@ impl Symbol for Comparison {
     }
 }
 
-/// Returns what the next token stands for, which has to be something of this type; else none is taken.
+/// Parses a token that has a meaning of this type; otherwise consumes nothing.
+///
+/// The only error is `Unexpected`.
 #[tactic(auto, unfolding(crate::specs::ExpressionReading::symbol))]
 pub fn take_symbol<S: Symbol>(tokens: &mut Cursor<'_>) -> Result<S, StopCause>
     ensures reads { ParsesTo (spec.symbol S.meaning tokens.old.rest.now) result tokens.new.rest.now }

@@ -1,16 +1,16 @@
-//! The kinds of tokens that readers of expressions ask for.
+//! The sets of token kinds that the parsers of expressions use.
 ghost use Rattle.grammar_expressions.specs.inner.Included.{included as of_expressions};
 
 use grammar_trees::{KindSet, TokenKind};
 
-/// What readers of expressions ask for.
+/// A set of token kinds.
 #[derive(Clone, Copy)]
 pub(crate) enum TokenSet {
     /// `true` and `false`.
     Booleans,
-    /// An identifier or a quoted text.
+    /// An identifier or a string.
     Keys,
-    /// Quoted texts, with `\*` or without.
+    /// Strings, with or without `\*`.
     Patterns,
     /// `+` and `-`.
     Signs,
@@ -18,9 +18,9 @@ pub(crate) enum TokenSet {
     Comparisons,
     /// `(`, `[` and `{`.
     Openers,
-    /// What an access begins with: `.` and `[`.
+    /// The first tokens of an access: `.` and `[`.
     AccessStarts,
-    /// What an expression begins with.
+    /// The first tokens of an expression.
     ExpressionStarts,
 }
 

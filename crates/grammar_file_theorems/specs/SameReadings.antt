@@ -1,5 +1,5 @@
--- That the text of a policy says by itself what it says in its file.
--- A rule of this product: what stands around a policy in its file takes no part in what it means, but for its name.
+-- Defines the theorem that the text of a policy means the same by itself as in its file.
+-- Rules of this product: what surrounds a policy in its file does not affect its meaning, except for its name.
 use Rattle.std.specs.Prelude.{◌≡◌, ℕ, List}
 use Rattle.std.specs.List.{AllZip}
 use Rattle.std.specs.Str.{IsUtf8}
@@ -7,11 +7,12 @@ use Rattle.policy_grammar.specs.declared.policy.Policy.{Policy}
 use Rattle.policy_grammar.specs.PolicyText.{IsPolicyFile, IsPolicyText}
 use Rattle.grammar_files.specs.Cuts.{AreTextsOf}
 
--- The text is read as this policy, if it is read as a policy at all: one that is too long by itself is not.
+-- `ReadsAs text policy` holds if `text` is parsed as `policy`, if it is parsed as a policy at all: one that is too
+-- long by itself is not.
 abbrev pub ReadsAs : List ℕ → Policy → Type 0
 ReadsAs text policy = (read : Policy) → IsPolicyText text read → read ≡ policy
 
--- So is each text of a file's policies, of the policy in its place.
+-- `EachReadsAsInItsFile`: each text of a file's policies is parsed as the policy at its index.
 abbrev pub EachReadsAsInItsFile : Type 0
 EachReadsAsInItsFile = (text : List ℕ) (names : List (List ℕ)) (policies : List Policy) (texts : List (List ℕ))
     → IsUtf8 text → IsPolicyFile text names policies → AreTextsOf text texts → AllZip ReadsAs texts policies

@@ -1,4 +1,4 @@
-//! That the text of each policy of a file, read by itself, is the policy that it is in the file.
+//! The theorem that the text of each policy of a file, parsed by itself, is the same policy as in the file.
 #![tactic(auto)]
 
 mod laws;

@@ -1,8 +1,9 @@
--- The texts of the policies in a file, each on its own.
+-- Defines the texts of the policies in a file, each by itself.
 --
 -- Source: Cedar reference guide 4.0, "Grammar specification for Cedar policy syntax": a policy ends with `;`, and no
--- other token of it is one. Rules of this product: what stands in front of a policy is of its text, comments too, but
--- for the white space before the first of it; what stands behind the last `;` is of no policy's.
+-- other token of it is one.
+-- Rules of this product: what precedes a policy belongs to its text, comments included, without the whitespace before
+-- the first of it; what follows the last `;` belongs to no policy.
 use Rattle.std.specs.Prelude.{◌≡◌, ℕ, Bool, true, false, List, [], ◌∷◌, ◌++◌, length, map, drop, slice_range}
 use Rattle.std.specs.Prelude.{if◌then◌else◌}
 use Rattle.std.specs.List.{AllByRecursion, AllZip, concat}
@@ -15,33 +16,35 @@ use Rattle.grammar_policies.specs.grammar_tokens.Lexing.{IsLexed}
 use Rattle.grammar_policies.specs.declared.tree.PolicyTree.{PolicyTree}
 use Rattle.grammar_policies.specs.Grammar.{policies, policy}
 
--- `;`, which ends a policy
+-- `is_end k` tests for `;`, which ends a policy.
 abbrev pub is_end : TokenKind → Bool
 is_end k.Semicolon = true
 is_end _ = false
 
--- the parts of the text from this place on, one up to each token that ends a policy, and with it
+-- `parts_from text from ts` are the parts of `text` from the byte `from` on, each up to and including a token of `ts`
+-- that ends a policy.
 abbrev pub parts_from : List ℕ → ℕ → List Token → List (List ℕ)
 parts_from text from [] = []
 parts_from text from (t ∷ ts) =
     if is_end t.kind then slice_range text from t.end ∷ parts_from text t.end ts else parts_from text from ts
 
--- where the last of these ends
+-- `left_from from ts` is the byte at which the last of these parts ends.
 abbrev pub left_from : ℕ → List Token → ℕ
 left_from from [] = from
 left_from from (t ∷ ts) = if is_end t.kind then left_from t.end ts else left_from from ts
 
--- the texts of the policies of a text with these tokens
+-- `policy_texts text ts` are the texts of the policies of `text`, whose tokens are `ts`.
 abbrev pub policy_texts : List ℕ → List Token → List (List ℕ)
 policy_texts text ts = map trim_start (parts_from text 0 ts)
 
--- the text has tokens, and these are the texts of its policies
+-- `AreTextsOf text texts` holds if `text` has tokens, and `texts` are the texts of its policies.
 abbrev pub AreTextsOf : List ℕ → List (List ℕ) → Type 0
 AreTextsOf text texts = (ts : List Token) × IsLexed text ts × (texts ≡ policy_texts text ts)
 
--- ## Laws
+-- ## Theorems
 
--- By itself a text has tokens, of which the last ends a policy and stands at the text's end, and no other ends one.
+-- `StandsAlone text` holds if `text` by itself has tokens, of which the last ends a policy, at the end of `text`, and
+-- no other does.
 pub record StandsAlone (text : List ℕ) : Type 0 where
   pub before : List Token
   pub last : Token
@@ -50,40 +53,40 @@ pub record StandsAlone (text : List ℕ) : Type 0 where
   pub ends : is_end last.kind ≡ true
   pub at_end : last.end ≡ length text
 
--- Each text of a policy does so.
+-- `EachStandsAlone`: each text of a policy does so.
 abbrev pub EachStandsAlone : Type 0
 EachStandsAlone = (text : List ℕ) (ts : List Token) → IsUtf8 text → IsLexed text ts
     → AllByRecursion StandsAlone (policy_texts text ts)
 
--- The text is its parts, one behind the other, and what is left of it.
+-- `PartsJoin`: a text is the concatenation of its parts, and of the rest.
 abbrev pub PartsJoin : Type 0
 PartsJoin = (text : List ℕ) (ts : List Token) → IsLexed text ts
     → text ≡ concat (parts_from text 0 ts) ++ drop (left_from 0 ts) text
 
--- the part is white space and this text, which begins with none
+-- `IsSpaced part text` holds if `part` is whitespace followed by `text`, which does not begin with whitespace.
 pub record IsSpaced (part text : List ℕ) : Type 0 where
   pub space : List ℕ
   pub is_space : NoCharPasses is_not_whitespace space
   pub whole : part ≡ space ++ text
 
--- Each text of a policy is its part, but for the white space in front.
+-- `EachIsSpaced`: each text of a policy is its part without leading whitespace.
 abbrev pub EachIsSpaced : Type 0
 EachIsSpaced = (text : List ℕ) (ts : List Token) → IsUtf8 text → IsLexed text ts
     → AllZip IsSpaced (parts_from text 0 ts) (policy_texts text ts)
 
--- A text that is derived as policies has as many.
+-- `AreAsManyAsPolicies`: a text that is derived as policies has as many texts.
 abbrev pub AreAsManyAsPolicies : Type 0
 AreAsManyAsPolicies = (levels : ℕ) (text : List ℕ) (ts : List Token) (trees : List PolicyTree) (texts : List (List ℕ))
     → IsLexed text ts → policies levels ts trees → AreTextsOf text texts → length texts ≡ length trees
 
--- By itself a text has tokens that derive a policy.
+-- `DerivesPolicy levels text` holds if `text` by itself has tokens that derive a policy.
 pub record DerivesPolicy (levels : ℕ) (text : List ℕ) : Type 0 where
   pub tokens : List Token
   pub lexed : IsLexed text tokens
   pub tree : PolicyTree
   pub derived : policy levels tokens tree
 
--- Each text of a file that is derived as policies does so: none of them is refused for its grammar.
+-- `EachDerivesPolicy`: each text of a file that is derived as policies does so; none has a syntax error.
 abbrev pub EachDerivesPolicy : Type 0
 EachDerivesPolicy = (levels : ℕ) (text : List ℕ) (ts : List Token) (trees : List PolicyTree) → IsUtf8 text
     → IsLexed text ts → policies levels ts trees → AllByRecursion (DerivesPolicy levels) (policy_texts text ts)

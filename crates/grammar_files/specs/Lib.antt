@@ -1,5 +1,5 @@
 pub mod Cuts
--- crates below, passed on to those above
+-- Specifications of lower crates, re-exported.
 pub use Rattle.grammar_policies.specs as grammar_policies
 pub use Rattle.grammar_policies.specs.grammar_expressions
 pub use Rattle.grammar_policies.specs.grammar_trees

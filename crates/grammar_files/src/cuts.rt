@@ -1,4 +1,4 @@
-//! A file's text, cut into the texts of its policies.
+//! The texts of the policies in a file.
 ghost use Rattle.std.specs.Prelude.{◌≡◌, IfOk, IfErr, map};
 ghost use Rattle.std.specs.List.{AllByRecursion};
 ghost use Rattle.grammar_policies.specs.grammar_tokens.Lexing.{IsLexed, IsSpelledIn, AreInOrder, IsFault};
@@ -15,7 +15,7 @@ fn is_end(kind: TokenKind) -> bool
     matches!(kind, TokenKind::Semicolon)
 }
 
-/// Returns the parts of a text that end with the tokens which end a policy, without the white space in front of each.
+/// Returns the parts of a text up to and including each token that ends a policy, without leading whitespace.
 fn cut<'t>(alloc: Global, text: &'t str, tokens: &[Token]) -> Result<Vec<&'t str>, NoMemory>
     requires spelled { AllByRecursion (IsSpelledIn text.now) tokens.now }
     requires ordered { AreInOrder 0 tokens.now }
@@ -33,12 +33,17 @@ fn cut<'t>(alloc: Global, text: &'t str, tokens: &[Token]) -> Result<Vec<&'t str
     Ok(texts)
 }
 
-/// Returns the text of each policy of a file, in the file's order, as it stands there.
+/// Returns the text of each policy of a file, in order, as slices of the file.
 ///
-/// A policy's text ends with its `;`, and begins where the one before ended, with the first character that is no white
-/// space: a comment in front of a policy is of its text. What stands behind the last `;` is of none. Nothing is read
-/// but tokens, so of a text that is no file of policies these are texts too. Takes time in proportion to the text, and
-/// memory for its tokens. `BadToken` tells the first byte at which no token begins.
+/// A policy's text ends with its `;`, and begins where the previous one ended, at the first character that is not
+/// whitespace: comments before a policy belong to its text. Text after the last `;` belongs to none. Only tokens are
+/// read, so a text that is not a file of policies has such texts too. Takes time proportional to the text, and memory
+/// for its tokens.
+///
+/// # Errors
+///
+/// - `BadToken`: the first byte at which no token starts.
+/// - `NoMemory`: an allocation failed; possible at any point.
 pub fn policy_texts<'t>(alloc: Global, text: &'t str) -> Result<Vec<&'t str>, LexFault>
     ensures cut { IfOk result (λ texts. AreTextsOf text.now (map (λ t. t.now) texts.items)) }
     ensures fault { IfErr result (λ fault. IsFault fault text.now) }

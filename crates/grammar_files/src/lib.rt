@@ -1,4 +1,4 @@
-//! The texts of the policies in a file, each on its own.
+//! The texts of the policies in a file, each by itself.
 #![tactic(auto)]
 
 mod cuts;

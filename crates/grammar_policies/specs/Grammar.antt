@@ -1,6 +1,8 @@
--- The grammar of policies, over tokens: which trees a list of tokens derives. One definition for each production.
--- Source: Cedar reference guide 4.0, "Grammar specification for Cedar policy syntax". Rules of this product: `__cedar`
--- is reserved too, and so is no Ident; an annotation's value may be missing, with its parentheses or between them.
+-- Defines the grammar of policies, over tokens: which trees a list of tokens derives, by one definition for each
+-- production.
+-- Source: Cedar reference guide 4.0, "Grammar specification for Cedar policy syntax".
+-- Rules of this product: `__cedar` is reserved too, and so is not an Ident; an annotation's value may be missing,
+-- with its parentheses or between them.
 use Rattle.std.specs.Prelude.{ℕ, true, false, ◌||◌, List, [], ◌∷◌, Option, Some, None}
 use Rattle.grammar_expressions.specs.grammar_tokens.declared.token.TokenKind.{TokenKind}
 use Rattle.grammar_expressions.specs.grammar_tokens.declared.token.TokenKind.TheVariants as k
@@ -121,7 +123,7 @@ condition_word_of _ = None
 abbrev pub condition_words : Kinds
 condition_words = known condition_word_of
 
--- by the levels of nesting that an expression may have
+-- `levels`: the levels of nesting that an expression may have
 module _ (levels : ℕ) where
   -- Condition = ("when" | "unless") "{" Expr "}"
   abbrev pub condition : Lang Condition

@@ -1,4 +1,4 @@
--- What a tree is made of: tokens of the text, each of the kind that its place asks for.
+-- Defines well-formed trees of policies: made of tokens of the text, each of a kind that its position allows.
 use Rattle.std.specs.Prelude.{List, Option, Some, None}
 use Rattle.std.specs.List.{AllByRecursion}
 use Rattle.grammar_expressions.specs.grammar_tokens.declared.token.TokenKind.TheVariants as k
@@ -16,14 +16,17 @@ pub use Rattle.grammar_expressions.specs.grammar_trees.WellFormed.{WellFormedTok
 pub use Rattle.grammar_expressions.specs.grammar_trees.WellFormed.{WellFormedExpr}
 use Rattle.grammar_policies.specs.Grammar.{words, effects}
 
+-- `WellFormedValue ts o` holds if the annotation's value `o`, if there is one, is a String of `ts`.
 abbrev pub WellFormedValue : List Token → Option Token → Type 0
 WellFormedValue ts None = Unit {0}
 WellFormedValue ts (Some t) = WellFormedToken (only k.Text) ts t
 
+-- `WellFormedAnnotation ts a` holds if the annotation `a` is made of tokens of `ts`.
 abbrev pub WellFormedAnnotation : List Token → Annotation → Type 0
 WellFormedAnnotation ts a = WellFormedToken (only k.At) ts a.at × WellFormedToken words ts a.key
     × WellFormedValue ts a.value
 
+-- `WellFormedPart ts part` holds if the scope's part on the principal or resource is made of tokens of `ts`.
 abbrev pub WellFormedPart : List Token → PartTree → Type 0
 WellFormedPart ts part.Any = Unit {0}
 WellFormedPart ts (part.Equal u) = WellFormedUid ts u
@@ -31,15 +34,18 @@ WellFormedPart ts (part.In u) = WellFormedUid ts u
 WellFormedPart ts (part.Is p) = WellFormedPath ts p
 WellFormedPart ts (part.IsIn p u) = WellFormedPath ts p × WellFormedUid ts u
 
+-- `WellFormedAction ts part` holds if the scope's part on the action is made of tokens of `ts`.
 abbrev pub WellFormedAction : List Token → ActionTree → Type 0
 WellFormedAction ts action.Any = Unit {0}
 WellFormedAction ts (action.Equal u) = WellFormedUid ts u
 WellFormedAction ts (action.In u) = WellFormedUid ts u
 WellFormedAction ts (action.InList us) = AllByRecursion (WellFormedUid ts) us
 
+-- `WellFormedCondition ts c` holds if the condition `c` is made of tokens of `ts`.
 abbrev pub WellFormedCondition : List Token → Condition → Type 0
 WellFormedCondition ts c = WellFormedExpr ts c.expression
 
+-- `WellFormedPolicy ts p` holds if the policy `p` is made of tokens of `ts`.
 pub record WellFormedPolicy (ts : List Token) (p : PolicyTree) : Type 0 where
   pub annotations : AllByRecursion (WellFormedAnnotation ts) p.annotations
   pub effect : WellFormedToken effects ts p.effect
@@ -48,8 +54,8 @@ pub record WellFormedPolicy (ts : List Token) (p : PolicyTree) : Type 0 where
   pub resource : WellFormedPart ts p.resource
   pub conditions : AllByRecursion (WellFormedCondition ts) p.conditions
 
--- ## Laws
+-- ## Theorems
 
--- What tokens derive is made of them.
+-- `IsMadeOfTokens L Holds` holds if each tree that tokens derive in `L` is made of them, as `Holds` says.
 abbrev pub IsMadeOfTokens : {A : Type 0} → Lang A → (List Token → A → Type 0) → Type 0
 IsMadeOfTokens L Holds = (ts : List Token) (x : _) → L ts x → Holds ts x

@@ -1,4 +1,4 @@
-//! Laws of the definitions.
+//! Theorems about the definitions.
 ghost use Rattle.std.specs.List.{AllByRecursion};
 ghost use Rattle.grammar_policies.specs.Grammar.{policy, policies, uid};
 ghost use Rattle.grammar_policies.specs.WellFormed.{IsMadeOfTokens, WellFormedPolicy, WellFormedUid};
@@ -7,8 +7,8 @@ ghost use Rattle.grammar_expressions.specs.grammar_tokens.Lang.{at_any};
 ghost use Rattle.grammar_expressions.specs.grammar_tokens.Reads.{HasOneTree, HasOneAnswer, HasOneAnswerWithin};
 ghost use Rattle.grammar_expressions.specs.grammar_tokens.Reads.{OpensNextLevel};
 
-/// Proves that a list of tokens comes to one tree or one refusal, and that a token which is too deep opens the first
-/// level past the limit: it does nothing, and its clauses are laws of the definitions.
+/// Proves that a list of tokens has exactly one result, a tree or an error, and that a token which is too deep opens
+/// the first level past the limit. No-op.
 pub fn reading_is_unique()
     ensures one_policy { HasOneTree (policy nesting_limit) }
     ensures one_list { HasOneTree (policies nesting_limit) }
@@ -20,8 +20,7 @@ pub fn reading_is_unique()
     ensures list_too_deep { OpensNextLevel policies nesting_limit }
 {}
 
-/// Proves that a tree is made of the tokens that derive it, each of a kind that its place asks for: it does nothing,
-/// and its clauses are laws of the definitions.
+/// Proves that a tree is made of the tokens that derive it, each of a kind that its position allows. No-op.
 pub fn trees_stand_in_tokens()
     ensures policy { IsMadeOfTokens (policy nesting_limit) WellFormedPolicy }
     ensures list { IsMadeOfTokens (policies nesting_limit) (λ ts. AllByRecursion (WellFormedPolicy ts)) }

@@ -101,7 +101,7 @@ fn scope_tail(alloc: Global, tokens: &mut Cursor<'_>) -> Result<Items<Condition>
     Ok(conditions)
 }
 
-/// Returns what stands behind a policy's scope, with what stands before.
+/// Parses the rest of a policy after its scope, and returns the policy.
 #[tactic(auto, using(crate::proofs::ScopeTail::tail_then))]
 fn policy_of(
     alloc: Global,
@@ -139,7 +139,7 @@ pub(crate) fn policy(alloc: Global, tokens: &mut Cursor<'_>) -> Result<PolicyTre
     policy_of(alloc, tokens, annotations, effect, found)
 }
 
-/// Returns a file: any number of policies.
+/// Parses a file: any number of policies.
 #[tactic(auto, unfolding(crate::specs::inner::Parsing::policies))]
 pub(crate) fn policies(
     alloc: Global,

@@ -1,18 +1,18 @@
-//! The kinds of tokens that readers of policies ask for.
+//! The sets of token kinds that the parsers of policies use.
 ghost use Rattle.grammar_policies.specs.inner.Included.{included as of_policies};
 
 use grammar_expressions::{KindSet, TokenKind};
 
-/// What readers of policies ask for.
+/// A set of token kinds.
 #[derive(Clone, Copy)]
 pub(crate) enum PolicySet {
-    /// What names an annotation: any word, reserved or not.
+    /// The name of an annotation: any word, reserved or not.
     Words,
     /// `permit` and `forbid`.
     Effects,
     /// `when` and `unless`.
     ConditionWords,
-    /// What a policy begins with.
+    /// The first tokens of a policy.
     PolicyStarts,
 }
 

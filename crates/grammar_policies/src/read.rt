@@ -1,4 +1,4 @@
-//! Whole lists of tokens.
+//! Parsers of whole lists of tokens.
 
 ghost use Rattle.std.specs.Prelude.{IfOk};
 ghost use Rattle.std.specs.List.{AllByRecursion};
@@ -13,7 +13,7 @@ use crate::tree::PolicyTree;
 use grammar_expressions::{Cursor, SyntaxFault, Token, UidTree, read_to_end, uid};
 use std::alloc::Global;
 
-/// Returns the policy that the tokens are, or the first token with which no policy goes on.
+/// Parses a policy; an error has the index of the first token with which no policy goes on.
 pub fn read_policy(alloc: Global, tokens: &[Token]) -> Result<PolicyTree, SyntaxFault>
     ensures reads { ReadsWithin (grammar.policy nesting_limit) (at_any grammar.policy) tokens.now result }
     ensures stands { IfOk result (WellFormedPolicy tokens.now) }
@@ -23,8 +23,9 @@ pub fn read_policy(alloc: Global, tokens: &[Token]) -> Result<PolicyTree, Syntax
     read_to_end(tokens, &cursor, read)
 }
 
-/// Returns the policies that the tokens are, in their order, or the first token with which no list of policies goes on.
-/// Takes time and memory in proportion to the tokens.
+/// Parses a list of policies; an error has the index of the first token with which no list goes on.
+///
+/// Takes time and memory proportional to the tokens.
 pub fn read_policies(alloc: Global, tokens: &[Token]) -> Result<Vec<PolicyTree>, SyntaxFault>
     ensures reads { ReadsWithin (grammar.policies nesting_limit) (at_any grammar.policies)
         tokens.now (with_items result) }
@@ -37,7 +38,7 @@ pub fn read_policies(alloc: Global, tokens: &[Token]) -> Result<Vec<PolicyTree>,
     Ok(found)
 }
 
-/// Returns the uid that the tokens are, or the first token with which no uid goes on.
+/// Parses a uid; an error has the index of the first token with which no uid goes on.
 pub fn read_uid(alloc: Global, tokens: &[Token]) -> Result<UidTree, SyntaxFault>
     ensures reads { Reads grammar.uid tokens.now result }
     ensures stands { IfOk result (WellFormedUid tokens.now) }

@@ -59,7 +59,7 @@ fn entity_constraint(alloc: Global, tokens: &mut Cursor<'_>) -> Result<PartTree,
     Ok(PartTree::Any)
 }
 
-/// Returns the variable and its constraint: Principal or Resource.
+/// Parses a variable and its constraint: Principal or Resource.
 #[tactic(auto, unfolding(crate::specs::inner::Parsing::entity_part))]
 fn entity_part(
     alloc: Global,

@@ -1,4 +1,4 @@
-//! Tokens that stand for something by their kind alone.
+//! Tokens whose kind is all their meaning.
 
 ghost use Rattle.grammar_policies.specs.Grammar.{condition_word_of};
 

@@ -1,4 +1,4 @@
-//! Policies as they are written.
+//! Syntax trees of policies.
 use grammar_expressions::{ExprTree, PathTree, Token, UidTree};
 use plain::Items;
 
@@ -9,11 +9,11 @@ pub struct Annotation {
     pub at: Token,
     /// An identifier or a reserved word.
     pub key: Token,
-    /// Quoted; None where there are no parentheses, or empty ones.
+    /// A string; `None` if there are no parentheses, or empty ones.
     pub value: Option<Token>,
 }
 
-/// What a scope demands of the principal or of the resource.
+/// The constraint of a scope on the principal or the resource.
 #[derive(Drop)]
 pub enum PartTree {
     Any,
@@ -23,7 +23,7 @@ pub enum PartTree {
     IsIn(PathTree, UidTree),
 }
 
-/// What a scope demands of the action.
+/// The constraint of a scope on the action.
 #[derive(Drop)]
 pub enum ActionTree {
     Any,
@@ -40,7 +40,7 @@ pub(crate) struct ScopeTree {
     pub(crate) resource: PartTree,
 }
 
-/// The word before a condition, which says how its expression is asked.
+/// The keyword of a condition.
 #[derive(Clone, Copy, PartialEq, Eq)]
 pub enum ConditionWord {
     /// `when`
@@ -56,7 +56,7 @@ pub struct Condition {
     pub expression: ExprTree,
 }
 
-/// What a policy is written as.
+/// The syntax tree of a policy.
 #[derive(Drop)]
 pub struct PolicyTree {
     pub annotations: Items<Annotation>,
@@ -65,6 +65,6 @@ pub struct PolicyTree {
     pub principal: PartTree,
     pub action: ActionTree,
     pub resource: PartTree,
-    /// In their order.
+    /// The conditions, in order.
     pub conditions: Items<Condition>,
 }

@@ -1,6 +1,7 @@
--- The grammar of names, over tokens: which trees a list of tokens derives. One definition for each production.
--- Source: Cedar reference guide 4.0, "Grammar specification for Cedar policy syntax". Rules of this product: `__cedar`
--- is reserved too, and so is no Ident.
+-- Defines the grammar of names, over tokens: which trees a list of tokens derives, by one definition for each
+-- production.
+-- Source: Cedar reference guide 4.0, "Grammar specification for Cedar policy syntax".
+-- Rules of this product: `__cedar` is reserved too, and so is not an Ident.
 use Rattle.grammar_tokens.specs.declared.token.TokenKind.TheVariants as k
 use Rattle.grammar_tokens.specs.Idents.{is_ident}
 use Rattle.grammar_tokens.specs.declared.tree.PathTree.{PathTree}
@@ -8,18 +9,18 @@ use Rattle.grammar_tokens.specs.declared.tree.UidTree.{UidTree}
 use Rattle.grammar_tokens.specs.Kinds.{Kinds}
 use Rattle.grammar_tokens.specs.Lang.{Lang, of, one, empty, ◌>>=◌, ◌>>◌, many}
 
--- Ident: a word that isn't reserved
+-- `identifiers`: Ident, a word that is not reserved.
 abbrev pub identifiers : Kinds
 identifiers = is_ident
 
--- Path = Ident { "::" Ident }
+-- `path`: Path = Ident { "::" Ident }
 abbrev pub path : Lang PathTree
 path = do
   first ← of identifiers
   more ← many (one k.Colons >> of identifiers)
   empty (record { first = first; more = more })
 
--- Uid = Path "::" String
+-- `uid`: Uid = Path "::" String
 abbrev pub uid : Lang UidTree
 uid = do
   type_name ← path

@@ -1,4 +1,4 @@
--- Which kinds of tokens are identifiers, and which are reserved words.
+-- Defines which kinds of tokens are identifiers, and which are reserved words.
 -- Source: Cedar reference guide 4.0, "Grammar specification for Cedar policy syntax": IDENT and RESERVED; `permit`,
 -- `when`, `principal` and the like are identifiers too, and may stand in a Path.
 use Rattle.std.specs.Prelude.{◌≡◌, ◌↔◌, ℕ, Bool, true, false, List}
@@ -11,7 +11,7 @@ use Rattle.grammar_tokens.specs.declared.token.TokenKind.TheVariants.{Action}
 use Rattle.grammar_tokens.specs.declared.token.TokenKind.TheVariants.{Resource, Context}
 use Rattle.grammar_tokens.specs.Lexing.{IsToken}
 
--- the kinds of tokens that are identifiers
+-- `is_ident k` tests whether tokens of kind `k` are identifiers.
 abbrev pub is_ident : TokenKind → Bool
 is_ident Ident = true
 is_ident Permit = true
@@ -24,7 +24,7 @@ is_ident Resource = true
 is_ident Context = true
 is_ident other = false
 
--- the kinds of tokens that are reserved words
+-- `is_reserved k` tests whether tokens of kind `k` are reserved words.
 abbrev pub is_reserved : TokenKind → Bool
 is_reserved True = true
 is_reserved False = true
@@ -38,14 +38,14 @@ is_reserved Has = true
 is_reserved Cedar = true
 is_reserved other = false
 
--- A token is of such a kind exactly where it is spelled as an identifier,
+-- `IdentsByKind`: a token has an identifier's kind if and only if its text is an identifier.
 abbrev pub IdentsByKind : Type 0
 IdentsByKind = (k : TokenKind) (w : List ℕ) → IsToken k w → (is_ident k ≡ true) ↔ IsIdent w
 
--- or as a reserved word;
+-- `ReservedByKind`: a token has a reserved word's kind if and only if its text is a reserved word.
 abbrev pub ReservedByKind : Type 0
 ReservedByKind = (k : TokenKind) (w : List ℕ) → IsToken k w → (is_reserved k ≡ true) ↔ IsReserved w
 
--- and each identifier is the spelling of a token.
+-- `IdentsAreTokens`: each identifier is the text of a token of an identifier's kind.
 abbrev pub IdentsAreTokens : Type 0
 IdentsAreTokens = (w : List ℕ) → IsIdent w → (k : TokenKind) × IsToken k w × (is_ident k ≡ true)

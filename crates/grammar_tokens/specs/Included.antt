@@ -1,4 +1,4 @@
--- The kinds of each set of tokens that readers of names ask for.
+-- Defines the kinds in each set of tokens that the parsers of names use.
 use Rattle.grammar_tokens.specs.declared.kind_sets.NameSet.{NameSet}
 use Rattle.grammar_tokens.specs.declared.kind_sets.NameSet.TheVariants as set
 use Rattle.grammar_tokens.specs.Kinds.{Kinds}
@@ -6,6 +6,7 @@ use Rattle.grammar_tokens.specs.Grammar.{identifiers}
 use Rattle.grammar_tokens.specs.Reads.{is_slot}
 use Rattle.grammar_tokens.specs.Parsing.{pieces}
 
+-- `included set` are the kinds of `set`.
 abbrev pub included : NameSet → Kinds
 included set.Identifiers = identifiers
 included set.Pieces = pieces

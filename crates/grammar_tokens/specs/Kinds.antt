@@ -1,20 +1,21 @@
--- Sets of kinds of tokens.
+-- Defines sets of token kinds.
 use Rattle.std.specs.Prelude.{ℕ, Bool, ◌==◌}
 use Rattle.grammar_tokens.specs.declared.token.TokenKind.{TokenKind}
 use Rattle.grammar_tokens.specs.contracts.token.TokenKind.{the_type}
 use denote.Enum.Declared.{tag_of}
 
--- a set of kinds
+-- `Kinds` are sets of token kinds, as tests.
 abbrev pub Kinds : Type 0
 Kinds = TokenKind → Bool
 
--- The place of a kind among the kinds, by which the derived `==` compares.
+-- `number_of k` is the index of the kind `k`, by which the derived `==` compares.
 abbrev pub number_of : TokenKind → ℕ
 number_of k = tag_of the_type k
 
+-- `same_kind a b` tests whether two kinds are equal.
 unfoldable pub same_kind : TokenKind → TokenKind → Bool
 same_kind a b = number_of a == number_of b
 
--- this kind alone
+-- `only k` is the set of the kind `k`.
 abbrev pub only : TokenKind → Kinds
 only k = λ other. same_kind other k

@@ -1,13 +1,13 @@
--- What the tokens of a policy text are.
+-- Defines the tokens of a policy text.
 --
 -- Source: Cedar reference guide 4.0, "Grammar specification for Cedar policy syntax" (IDENT, RESERVED, INT, STR,
--- WHITESPC, COMMENT and the marks of the productions). The escapes in strings are those of string literals in Rust, as
--- the guide says, and `\*` ("Operators: like"). Rules of this product: white space is what Unicode calls White_Space; a
--- comment ends before a line feed or a carriage return; a line end may stand in a string; the longest token is taken;
--- `__cedar` is reserved.
+-- WHITESPC, COMMENT and the marks of the productions). The escapes in strings are those of string literals in Rust,
+-- as the guide says, and `\*` ("Operators: like").
+-- Rules of this product: white space is what Unicode calls White_Space; a comment ends before a line feed or a
+-- carriage return; a line end may stand in a string; the longest token is taken; `__cedar` is reserved.
 --
--- A text is the list of its bytes in UTF-8, and a place is a number of bytes from the text's start. `codes "if"` is the
--- list of the numbers of these characters, and `code "i"` the number of this one.
+-- A text is the list of its bytes in UTF-8, and an offset is a number of bytes from its start. `codes "if"` is the
+-- list of the code points of these characters, and `code "i"` that of this one.
 use Prim.Native.Char.{code}
 use Rattle.std.specs.Prelude.{◌≡◌, ◌≢◌, ℕ, ◌+◌, ◌-◌, ◌*◌, ◌≤◌, ◌<◌, Bool, true, false, not, ◌==◌, ◌||◌, nat_eq, nat_lt}
 use Rattle.std.specs.Prelude.{if◌then◌else◌, List, [], ◌∷◌, ◌++◌, length, take, drop, Option, Some, None, codes}
@@ -37,7 +37,7 @@ use Rattle.grammar_tokens.specs.declared.lex_fault.LexFault.TheVariants.{NoMemor
 
 -- ## Tokens with one spelling
 
--- a spelling and the kind of token that it is
+-- An `Entry` is a spelling and its kind of token.
 pub record Entry : Type 0 where
   pub spelling : List ℕ
   pub kind : TokenKind
@@ -45,23 +45,23 @@ pub record Entry : Type 0 where
 abbrev entry : List ℕ → TokenKind → Entry
 entry s k = record { spelling = s; kind = k }
 
--- spellings, each with its kind
+-- `entries ss ks` are the spellings `ss`, each with its kind of `ks`.
 abbrev entries : List (List ℕ) → List TokenKind → List Entry
 entries [] ks = []
 entries (s ∷ ss) [] = []
 entries (s ∷ ss) (k ∷ ks) = entry s k ∷ entries ss ks
 
--- the reserved words, which are no identifiers
+-- `reserved` are the reserved words, which are not identifiers.
 abbrev pub reserved : List Entry
 reserved = entries reserved_words (True ∷ False ∷ If ∷ Then ∷ Else ∷ In ∷ Is ∷ Like ∷ Has ∷ Cedar ∷ [])
 
--- identifiers that are words of the grammar too
+-- `named` are the identifiers that are keywords too.
 abbrev pub named : List Entry
 named = entry (codes "permit") Permit ∷ entry (codes "forbid") Forbid ∷ entry (codes "when") When
     ∷ entry (codes "unless") Unless ∷ entry (codes "principal") Principal ∷ entry (codes "action") Action
     ∷ entry (codes "resource") Resource ∷ entry (codes "context") Context ∷ []
 
--- the marks of one byte
+-- `singles` are the punctuation marks of one byte.
 abbrev pub singles : List Entry
 singles = entry (codes "@") At ∷ entry (codes "(") LParen ∷ entry (codes ")") RParen ∷ entry (codes "{") LBrace
     ∷ entry (codes "}") RBrace ∷ entry (codes "[") LBracket ∷ entry (codes "]") RBracket ∷ entry (codes ",") Comma
@@ -69,38 +69,38 @@ singles = entry (codes "@") At ∷ entry (codes "(") LParen ∷ entry (codes ")"
     ∷ entry (codes ">") Greater ∷ entry (codes "+") Plus ∷ entry (codes "-") Minus ∷ entry (codes "*") Star
     ∷ entry (codes "!") Not ∷ []
 
--- the marks of two bytes
+-- `pairs` are the punctuation marks of two bytes.
 abbrev pub pairs : List Entry
 pairs = entry (codes "::") Colons ∷ entry (codes "==") Equal ∷ entry (codes "!=") NotEqual
     ∷ entry (codes "<=") LessEqual ∷ entry (codes ">=") GreaterEqual ∷ entry (codes "&&") And ∷ entry (codes "||") Or
     ∷ []
 
--- the slots of templates
+-- `slots` are the slots of templates.
 abbrev pub slots : List Entry
 slots = entry (codes "?principal") PrincipalSlot ∷ entry (codes "?resource") ResourceSlot ∷ []
 
--- the kind that a table gives a spelling
+-- `listed table w` is the kind of the spelling `w` in `table`.
 abbrev pub listed : List Entry → List ℕ → Option TokenKind
 listed [] w = None
 listed (e ∷ table) w = if bytes_eq e.spelling w then Some e.kind else listed table w
 
 -- ## Words and numbers
 
--- the first that is there
+-- `or_else a b` is `a`, or `b` if `a` is `None`.
 abbrev pub or_else : Option TokenKind → Option TokenKind → Option TokenKind
 or_else None other = other
 or_else (Some k) other = Some k
 
--- of a word that no table has: an identifier
+-- `or_ident k` is the kind `k`, or `Ident` for `None`.
 abbrev pub or_ident : Option TokenKind → TokenKind
 or_ident None = Ident
 or_ident (Some k) = k
 
--- the kind of a word: reserved, a word of the grammar, or another identifier
+-- `kind_of_word w` is the kind of the word `w`: reserved, a keyword, or another identifier.
 unfoldable pub kind_of_word : List ℕ → TokenKind
 kind_of_word w = or_ident (or_else (listed reserved w) (listed named w))
 
--- one or more digits
+-- `IsNumber w` holds if `w` is one or more digits.
 abbrev pub IsNumber : List ℕ → Type 0
 IsNumber [] = ⊥
 IsNumber (c ∷ cs) = (is_digit c ≡ true) × AllAre is_digit cs
@@ -109,10 +109,10 @@ IsNumber (c ∷ cs) = (is_digit c ≡ true) × AllAre is_digit cs
 --
 -- A string is a quote, then bytes that stand for themselves and escapes, then a quote. The escapes are
 --
---     \n  \r  \t  \\  \0  \'  \"    a letter or mark: what `escapes` says that it stands for
---     \*                            a star, which is no wildcard in a pattern
---     \x7F                          two hexadecimal digits, up to 7F: the character of that number
---     \u{10FFFF}                    one to six hexadecimal digits: the Unicode scalar value of that number
+-- \n  \r  \t  \\  \0  \'  \"    a letter or mark, with its meaning in `escapes`
+-- \*                            a star, which is not a wildcard in a pattern
+-- \x7F                          two hexadecimal digits, up to 7F: the character of that number
+-- \u{10FFFF}                    one to six hexadecimal digits: the Unicode scalar value of that number
 
 abbrev pub quote : ℕ
 quote = code "\""
@@ -120,29 +120,30 @@ quote = code "\""
 abbrev pub backslash : ℕ
 backslash = code "\\"
 
--- the letters and marks that make an escape behind a backslash, each with the character that it stands for there
+-- `escapes` are the letters and marks of escapes, each with its meaning.
 abbrev pub escapes : List (ℕ × ℕ)
 escapes = (code "n", code "\n") ∷ (code "r", code "\r") ∷ (code "t", code "\t") ∷ (code "\\", code "\\")
     ∷ (code "0", code "\0") ∷ (code "'", code "'") ∷ (code "\"", code "\"") ∷ []
 
--- what a table says that a letter or mark stands for
+-- `meant_in table c` is the meaning of the letter or mark `c` in `table`.
 abbrev pub meant_in : List (ℕ × ℕ) → ℕ → Option ℕ
 meant_in [] c = None
 meant_in ((d, meant) ∷ table) c = if nat_eq c d then Some meant else meant_in table c
 
+-- `escaped c` is the meaning of the letter or mark `c` after a backslash.
 abbrev pub escaped : ℕ → Option ℕ
 escaped c = meant_in escapes c
 
--- a hexadecimal digit, of either case
+-- `is_hex c` tests for a hexadecimal digit, of either case.
 unfoldable pub is_hex : ℕ → Bool
 is_hex c = nat_lt (digit_value c) 16
 
--- the number that hexadecimal digits write, after what was read before them
+-- `hex_after n ds` is the number whose hexadecimal digits are those of `n`, followed by `ds`.
 abbrev pub hex_after : ℕ → List ℕ → ℕ
 hex_after n [] = n
 hex_after n (d ∷ ds) = hex_after (n * 16 + digit_value d) ds
 
--- The bytes are an escape, of one of these four forms, and stand for this piece.
+-- `IsEscape p w` holds if the bytes `w` are an escape, of one of these four forms, with the meaning `p`.
 pub data IsEscape : Piece → List ℕ → Type 0 where
   letter : {p : Piece} {w : List ℕ} (c meant : ℕ) → escaped c ≡ Some meant → w ≡ backslash ∷ c ∷ []
       → p ≡ piece.Char meant → IsEscape p w
@@ -154,7 +155,8 @@ pub data IsEscape : Piece → List ℕ → Type 0 where
       → IsScalar (hex_after 0 digits) →
       w ≡ codes "\\u{" ++ (digits ++ codes "}") → p ≡ piece.Char (hex_after 0 digits) → IsEscape p w
 
--- The bytes between two quotes are these pieces: bytes that stand for themselves, and escapes.
+-- `IsBody ps w` holds if the bytes `w` between two quotes are the pieces `ps`: bytes that stand for themselves, and
+-- escapes.
 pub data IsBody : List Piece → List ℕ → Type 0 where
   done : IsBody [] []
   itself : {b : ℕ} {ps : List Piece} {w : List ℕ} → b ≢ quote → b ≢ backslash → IsBody ps w
@@ -162,22 +164,24 @@ pub data IsBody : List Piece → List ℕ → Type 0 where
   escape : {p : Piece} {ps : List Piece} {w : List ℕ} (e rest : List ℕ) → IsEscape p e → w ≡ e ++ rest → IsBody ps rest
       → IsBody (p ∷ ps) w
 
+-- `is_star p` tests for the escape `\*`.
 abbrev pub is_star : Piece → Bool
 is_star (piece.Byte b) = false
 is_star (piece.Char c) = false
 is_star piece.Star = true
 
+-- `has_star ps` tests whether one of the pieces is `\*`.
 abbrev pub has_star : List Piece → Bool
 has_star [] = false
 has_star (p ∷ ps) = is_star p || has_star ps
 
--- a string with `\*` can be a pattern alone
+-- `kind_of_pieces ps` is the kind of a string with these pieces: one with `\*` may only be a pattern.
 abbrev pub kind_of_pieces : List Piece → TokenKind
 kind_of_pieces ps = if has_star ps then StarText else Text
 
 -- ## Tokens
 
--- The bytes spell a token of the kind.
+-- `IsToken k w` holds if the bytes `w` spell a token of kind `k`.
 pub data IsToken : TokenKind → List ℕ → Type 0 where
   word : {k : TokenKind} {w : List ℕ} → IsWord w → k ≡ kind_of_word w → IsToken k w
   number : {k : TokenKind} {w : List ℕ} → IsNumber w → k ≡ Number → IsToken k w
@@ -188,40 +192,41 @@ pub data IsToken : TokenKind → List ℕ → Type 0 where
   pair : {k : TokenKind} {w : List ℕ} → listed pairs w ≡ Some k → IsToken k w
   slot : {k : TokenKind} {w : List ℕ} → listed slots w ≡ Some k → IsToken k w
 
--- w is a token before rest, and no longer one begins where it does.
+-- `IsLongest k w rest` holds if `w`, followed by `rest`, is a token of kind `k`, and no longer one starts there.
 pub record IsLongest (k : TokenKind) (w rest : List ℕ) : Type 0 where
   pub is : IsToken k w
   pub longest : (j : TokenKind) (v more : List ℕ) → IsToken j v → w ++ rest ≡ v ++ more → length v ≤ length w
 
--- No token begins here.
+-- `NoToken text` holds if no token starts at the front of `text`.
 abbrev pub NoToken : List ℕ → Type 0
 NoToken text = (k : TokenKind) (w more : List ℕ) → IsToken k w → text ≡ w ++ more → ⊥
 
--- ## Blanks and comments
+-- ## Whitespace and comments
 
--- neither a line feed nor a carriage return
+-- `in_line c` tests whether `c` is neither a line feed nor a carriage return.
 unfoldable pub in_line : ℕ → Bool
 in_line c = not ((c == code "\n") || (c == code "\r"))
 
--- the text's end, or the end of a line
+-- `EndsLine text` holds if `text` is empty or begins with the end of a line.
 abbrev pub EndsLine : List ℕ → Type 0
 EndsLine [] = Unit {0}
 EndsLine (c ∷ cs) = in_line c ≡ false
 
--- What may stand between tokens, and what follows it: a character of white space, or a comment as long as its line.
+-- `IsGap w rest` holds if `w`, followed by `rest`, may be between tokens: a whitespace character, or a comment up to
+-- the end of its line.
 pub data IsGap : List ℕ → List ℕ → Type 0 where
   blank : {w rest : List ℕ} (c : ℕ) → is_whitespace c ≡ true → w ≡ encode_utf8 c → IsGap w rest
   comment : {w rest : List ℕ} (said : List ℕ) → AllAre in_line said → EndsLine rest → w ≡ codes "//" ++ said
       → IsGap w rest
 
--- Neither a blank nor a comment begins here.
+-- `NoGap text` holds if neither whitespace nor a comment starts at the front of `text`.
 abbrev pub NoGap : List ℕ → Type 0
 NoGap text = (w rest : List ℕ) → IsGap w rest → text ≡ w ++ rest → ⊥
 
 -- ## Texts
 
--- From the one place and text to the other the text is a joining of blanks, comments and these tokens, each the longest
--- that begins there.
+-- `Lex at text ts to left` holds if `text` at offset `at` is a concatenation of whitespace, comments and the tokens
+-- `ts`, each the longest that starts there, followed by `left` at offset `to`.
 pub data Lex : ℕ → List ℕ → List Token → ℕ → List ℕ → Type 0 where
   finish : {at : ℕ} {text : List ℕ} → Lex at text [] at text
   gap : {at to : ℕ} {text left : List ℕ} {ts : List Token} (w rest : List ℕ) → text ≡ w ++ rest → IsGap w rest →
@@ -231,11 +236,12 @@ pub data Lex : ℕ → List ℕ → List Token → ℕ → List ℕ → Type 0 w
       Lex (at + length w) rest ts to left
       → Lex at text (record { kind = k; start = at; end = at + length w } ∷ ts) to left
 
--- These are the text's tokens.
+-- `IsLexed text ts` holds if `ts` are the tokens of `text`.
 abbrev pub IsLexed : List ℕ → List Token → Type 0
 IsLexed text ts = (to : ℕ) × Lex 0 text ts to []
 
--- Up to this place the text is such a joining; here it goes on, with neither blank nor comment nor token.
+-- `IsBadAt text at` holds if `text` is such a concatenation up to `at`, and goes on there with neither whitespace nor
+-- a comment nor a token.
 pub record IsBadAt (text : List ℕ) (at : ℕ) : Type 0 where
   pub tokens : List Token
   pub here : ℕ
@@ -244,18 +250,18 @@ pub record IsBadAt (text : List ℕ) (at : ℕ) : Type 0 where
   pub no_gap : NoGap (here ∷ rest)
   pub no_token : NoToken (here ∷ rest)
 
--- when a text is refused so; want of memory says nothing of the text
+-- `IsFault f text` holds if `f` is the error of `text`; `NoMemory` says nothing of the text.
 abbrev pub IsFault : LexFault → List ℕ → Type 0
 IsFault NoMemory text = Unit {0}
 IsFault (BadToken at) text = IsBadAt text at
 
--- ## What is written where a token stands
+-- ## The text of a token
 
--- what is written from the token's start up to its end
+-- `spelling_of text t` is the text from the start of the token `t` up to its end.
 abbrev pub spelling_of : List ℕ → Token → List ℕ
 spelling_of text t = take (t.end - t.start) (drop t.start text)
 
--- That spells the token's kind, and the text may be cut at both places.
+-- `IsSpelledIn text t` holds if that spells a token of the kind of `t`, and `text` may be cut at both offsets.
 pub record IsSpelledIn (text : List ℕ) (t : Token) : Type 0 where
   pub nonempty : t.start < t.end
   pub within : t.end ≤ length text
@@ -263,30 +269,30 @@ pub record IsSpelledIn (text : List ℕ) (t : Token) : Type 0 where
   pub start_cut : IsCharBoundary text t.start
   pub end_cut : IsCharBoundary text t.end
 
--- The tokens stand at this place or behind it, one behind the other.
+-- `AreInOrder at ts` holds if the tokens `ts` follow one another, from offset `at` on.
 abbrev pub AreInOrder : ℕ → List Token → Type 0
 AreInOrder at [] = Unit {0}
 AreInOrder at (t ∷ ts) = (at ≤ t.start) × AreInOrder t.end ts
 
--- ## Laws
+-- ## Theorems
 
--- A text has one list of tokens at most.
+-- `OneLexing`: a text has at most one list of tokens.
 abbrev pub OneLexing : Type 0
 OneLexing = (text : List ℕ) (ts us : List Token) → IsLexed text ts → IsLexed text us → ts ≡ us
 
--- A text that is bad at a place has none,
+-- `BadIsNotLexed`: a text that is bad at an offset has no list of tokens.
 abbrev pub BadIsNotLexed : Type 0
 BadIsNotLexed = (text : List ℕ) (at : ℕ) (ts : List Token) → IsBadAt text at → IsLexed text ts → ⊥
 
--- and is bad at no other place.
+-- `OneBadPlace`: a text is bad at one offset at most.
 abbrev pub OneBadPlace : Type 0
 OneBadPlace = (text : List ℕ) (at other : ℕ) → IsBadAt text at → IsBadAt text other → at ≡ other
 
--- Each text has tokens, or a place at which none begins.
+-- `EachIsLexedOrBad`: each text has a list of tokens, or is bad at an offset.
 abbrev pub EachIsLexedOrBad : Type 0
 EachIsLexedOrBad = (text : List ℕ) → ((ts : List Token) × IsLexed text ts) ⊎ ((at : ℕ) × IsBadAt text at)
 
--- What is written where a token stands spells its kind.
+-- `EachIsSpelled`: the text of each token spells its kind.
 abbrev pub EachIsSpelled : Type 0
 EachIsSpelled = (text : List ℕ) (ts : List Token) → IsLexed text ts
     → AllByRecursion (λ t. IsToken t.kind (spelling_of text t)) ts

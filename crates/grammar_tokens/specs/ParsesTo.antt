@@ -1,11 +1,13 @@
--- What a function that reads tokens ensures: the reading's outcome, unless memory runs out. An outcome knows no want of
--- memory; a function that asks for none says beside this that it never runs out.
+-- Defines the contract of a parser over tokens: it returns the outcome of its parsing function, unless memory runs
+-- out. Outcomes do not include `NoMemory`; a parser that does not allocate has a further clause that it never returns
+-- it.
 use Rattle.std.specs.Prelude.{◌≡◌, Result, Ok, Err, List}
 use Rattle.grammar_tokens.specs.declared.token.Token.{Token}
 use Rattle.grammar_tokens.specs.declared.fault.StopCause.{StopCause}
 use Rattle.grammar_tokens.specs.declared.fault.StopCause.TheVariants as halt
 use Rattle.grammar_tokens.specs.Reading.{ParseResult, Read, Stop, Unexpected, TooDeep}
 
+-- `ParsesTo outcome r rest` holds if the result `r`, with `rest` remaining, is `outcome`, or `r` is `NoMemory`.
 abbrev pub ParsesTo : {A : Type 0} → ParseResult A → Result A StopCause → List Token → Type 0
 ParsesTo outcome (Ok a) rest = outcome ≡ Read a rest
 ParsesTo outcome (Err halt.NoMemory) rest = Unit {0}

@@ -1,4 +1,4 @@
--- How names are read, from the left, by the next token.
+-- Defines how names are parsed, from the left with one token of lookahead.
 use Rattle.std.specs.Prelude.{Bool, true, false, List, [], ◌∷◌}
 use Rattle.grammar_tokens.specs.declared.token.TokenKind.TheVariants as k
 use Rattle.grammar_tokens.specs.declared.token.Token.{Token}
@@ -10,69 +10,82 @@ use Rattle.grammar_tokens.specs.Kinds.{Kinds, only, same_kind}
 use Rattle.grammar_tokens.specs.Reading.{Parser, take, token, pure, refuse, ◌>>=◌, ◌>>◌, many, loop}
 use Rattle.grammar_tokens.specs.Grammar.{identifiers}
 
+-- `path_word` parses "::" Ident.
 unfoldable pub path_word : Parser Token
 path_word = token k.Colons >> take identifiers
 
+-- `rest_of_path first` parses the rest of a Path after its first word.
 unfoldable pub rest_of_path : Token → Parser PathTree
 rest_of_path first = many (only k.Colons) path_word >>= (λ more. pure (record { first = first; more = more }))
 
+-- `path` parses a Path.
 unfoldable pub path : Parser PathTree
 path = take identifiers >>= rest_of_path
 
--- A Path and the String behind it begin alike, so a Uid is read piece by piece, each behind its "::", up to a String.
+-- A Path and the String after it begin alike, so a Uid is parsed piece by piece, each after its "::", up to a String.
 abbrev pub pieces : Kinds
 pieces k.Text = true
 pieces kind = identifiers kind
 
+-- `is_text t` tests for a String.
 abbrev pub is_text : Token → Bool
 is_text t = same_kind t.kind k.Text
 
+-- `ended_by ended t` tests whether the piece `t` ends the name: a String does.
 abbrev pub ended_by : Bool → Token → Bool
 ended_by ended t = is_text t
 
+-- `goes_on ended` are the kinds that go on with a name: "::", unless a String has ended it.
 abbrev pub goes_on : Bool → Kinds
 goes_on false = only k.Colons
 goes_on true = λ kind. false
 
+-- `piece` parses "::" and a piece.
 unfoldable pub piece : Parser Token
 piece = token k.Colons >> take pieces
 
--- whether a list of pieces ends with a String, those before it having done so or not
+-- `ends ended ts` tests whether the last of the pieces `ts` is a String; `ended` if there is none.
 abbrev pub ends : Bool → List Token → Bool
 ends ended [] = ended
 ends ended (t ∷ ts) = ends (is_text t) ts
 
--- all but the last
+-- `beginning ts` are all but the last of `ts`.
 abbrev pub beginning : List Token → List Token
 beginning [] = []
 beginning (t ∷ []) = []
 beginning (t ∷ (u ∷ us)) = t ∷ beginning (u ∷ us)
 
--- the last, or else the one given
+-- `last_of t ts` is the last of `ts`, or `t` if there is none.
 abbrev pub last_of : Token → List Token → Token
 last_of t [] = t
 last_of t (u ∷ us) = last_of u us
 
+-- `uid_tree first ts` is the Uid of an identifier and the pieces after it, the last of which is its id.
 abbrev pub uid_tree : Token → List Token → UidTree
 uid_tree first ts = record { path = record { first = first; more = beginning ts }; id = last_of first ts }
 
+-- `finished ended first ts` is that Uid if a String has ended the pieces, else an error.
 abbrev pub finished : Bool → Token → List Token → Parser UidTree
 finished true first ts = pure (uid_tree first ts)
 finished false first ts = refuse
 
+-- `rest_of_uid first` parses the rest of a Uid after its first word.
 unfoldable pub rest_of_uid : Token → Parser UidTree
 rest_of_uid first = loop ended_by goes_on (λ ended. piece) false >>= (λ ts. finished (ends false ts) first ts)
 
+-- `uid` parses a Uid.
 unfoldable pub uid : Parser UidTree
 uid = take identifiers >>= rest_of_uid
 
--- A Path or a Uid: an identifier and pieces behind it, which make a Uid where the last one is a String.
+-- A Path or a Uid: an identifier and pieces after it, which make a Uid if the last one is a String.
 abbrev pub path_of : Token → List Token → PathTree
 path_of first more = record { first = first; more = more }
 
+-- `name_by ended first ts` is a Uid if a String has ended the pieces, else a Path.
 abbrev pub name_by : Bool → Token → List Token → Name
 name_by true first ts = name.Uid (uid_tree first ts)
 name_by false first ts = name.Path (path_of first ts)
 
+-- `rest_of_name first` parses the rest of a Path or a Uid after its first word.
 unfoldable pub rest_of_name : Token → Parser Name
 rest_of_name first = loop ended_by goes_on (λ ended. piece) false >>= (λ ts. pure (name_by (ends false ts) first ts))

@@ -1,22 +1,25 @@
--- Reading tokens from the left, by the next one: the forms of production as functions.
+-- Defines parsers from the left with one token of lookahead: the combinators of productions as functions.
 use Rattle.std.specs.Prelude.{ℕ, zero, suc, Bool, true, false, List, [], ◌∷◌, length, Option, Some, None}
 use Rattle.grammar_tokens.specs.declared.token.TokenKind.{TokenKind}
 use Rattle.grammar_tokens.specs.declared.token.Token.{Token}
 use Rattle.grammar_tokens.specs.Kinds.{Kinds, only}
 use Rattle.grammar_tokens.specs.Reads.{sees}
 
--- why reading stops: the next token can't stand there, or it would open one level of nesting too many
+-- A `Why` is the reason why parsing stops: the next token cannot occur there, or would open one level of nesting too
+-- many.
 pub data Why : Type 0 where
   Unexpected TooDeep : Why
 
--- a value and the tokens after it, or why reading stops, and the tokens from the one where it does
+-- A `ParseResult A` is a value with the tokens after it, or the reason why parsing stops with the remaining tokens.
 pub data ParseResult (A : Type 0) : Type 0 where
   Read : A → List Token → ParseResult A
   Stop : Why → List Token → ParseResult A
 
+-- A `Parser A` maps a list of tokens to a result.
 abbrev pub Parser : Type 0 → Type 0
 Parser A = List Token → ParseResult A
 
+-- `and_then r f` goes on with the value and the remaining tokens of `r`, or stops with its error.
 abbrev pub and_then : {A B : Type 0} → ParseResult A → (A → Parser B) → ParseResult B
 and_then (Read a rest) f = f a rest
 and_then (Stop w rest) f = Stop w rest
@@ -29,15 +32,19 @@ infixl 10 ◌>>◌
 abbrev pub ◌>>◌ : {A B : Type 0} → Parser A → Parser B → Parser B
 p >> q = p >>= (λ _. q)
 
+-- `pure a` parses nothing, with the value `a`.
 abbrev pub pure : {A : Type 0} → A → Parser A
 pure a = λ ts. Read a ts
 
+-- `refuse` stops: the next token cannot occur there.
 abbrev pub refuse : {A : Type 0} → Parser A
 refuse = λ ts. Stop Unexpected ts
 
+-- `too_deep` stops: the next token would open one level of nesting too many.
 abbrev pub too_deep : {A : Type 0} → Parser A
 too_deep = λ ts. Stop TooDeep ts
 
+-- `chosen b x y` is `x` if `b`, else `y`.
 abbrev pub chosen : {A : Type 0} → Bool → A → A → A
 chosen true x y = x
 chosen false x y = y
@@ -46,34 +53,40 @@ abbrev pub take_if : Bool → Token → List Token → ParseResult Token
 take_if true t ts = Read t ts
 take_if false t ts = Stop Unexpected (t ∷ ts)
 
--- a token of these kinds
+-- `take ks` parses a token of these kinds.
 unfoldable pub take : Kinds → Parser Token
 take ks [] = Stop Unexpected []
 take ks (t ∷ ts) = take_if (ks t.kind) t ts
 
+-- `token k` parses a token of kind `k`.
 abbrev pub token : TokenKind → Parser Token
 token k = take (only k)
 
--- the first, where a token of the set comes next
+-- `either ks p q` parses `p` if a token of `ks` comes next, else `q`.
 abbrev pub either : {A : Type 0} → Kinds → Parser A → Parser A → Parser A
 either ks p q = λ ts. chosen (sees ks ts) p q ts
 
+-- `optional ks p` parses `p` if a token of `ks` comes next, else nothing.
 abbrev pub optional : {A : Type 0} → Kinds → Parser A → Parser (Option A)
 optional ks p = either ks (p >>= (λ a. pure (Some a))) (pure None)
 
--- As long as a token of the set comes next, which may depend on a state. The number bounds the turns.
+-- `loop_from next ks p n s` repeats `p` as long as a token of the set `ks s` comes next, where `s` is a state that
+-- `next` advances; `n` bounds the repetitions.
 unfoldable pub loop_from : {S A : Type 0} → (S → A → S) → (S → Kinds) → (S → Parser A) → ℕ → S → Parser (List A)
 loop_from next ks p zero s = pure []
 loop_from next ks p (suc n) s =
     either (ks s) (p s >>= (λ a. loop_from next ks p n (next s a) >>= (λ more. pure (a ∷ more)))) (pure [])
 
+-- `loop next ks p s` repeats `p` as long as a token of `ks s` comes next; there are at most as many repetitions as
+-- tokens.
 abbrev pub loop : {S A : Type 0} → (S → A → S) → (S → Kinds) → (S → Parser A) → S → Parser (List A)
 loop next ks p s = λ ts. loop_from next ks p (length ts) s ts
 
+-- `many ks p` repeats `p` as long as a token of `ks` comes next.
 abbrev pub many : {A : Type 0} → Kinds → Parser A → Parser (List A)
 many ks p = loop (λ s a. s) (λ s. ks) (λ s. p) (tt {0})
 
--- where the nesting may still grow: what expressions open levels with
+-- `gate open p` is `p` if another level of nesting may be opened, else the error `TooDeep`.
 abbrev pub gate : {A : Type 0} → Bool → Parser A → Parser A
 gate true p = p
 gate false p = too_deep

@@ -1,4 +1,4 @@
-//! Tokens one after the other.
+//! A cursor over tokens.
 
 ghost use Rattle.std.specs.Prelude.{◌≡◌, IfErr, length};
 ghost use Rattle.grammar_tokens.specs.ParsesTo.{ParsesTo};
@@ -11,14 +11,14 @@ use crate::fault::StopCause;
 use crate::kind_sets::{KindSet, same_kind};
 use crate::token::{Token, TokenKind};
 
-/// The tokens that are left.
+/// A cursor over the remaining tokens.
 #[derive(Drop)]
 pub struct Cursor<'a> {
     pub rest: &'a [Token],
 }
 
 impl<'a> Cursor<'a> {
-    /// Returns how many tokens are left.
+    /// Returns how many tokens remain.
     pub fn left(&self) -> usize
         ensures { result ≡ length self.now.rest.now }
     {
@@ -45,7 +45,9 @@ impl<'a> Cursor<'a> {
         }
     }
 
-    /// Returns the next token, which has to be of this kind; else none is taken.
+    /// Returns the next token, which must be of this kind; otherwise consumes nothing.
+    ///
+    /// The only error is `Unexpected`.
     #[tactic(auto, unfolding(crate::specs::Reading::take))]
     pub fn take(&mut self, kind: TokenKind) -> Result<Token, StopCause>
         ensures reads { ParsesTo (reading.token kind self.old.rest.now) result self.new.rest.now }
@@ -60,7 +62,9 @@ impl<'a> Cursor<'a> {
         }
     }
 
-    /// Returns the next token, which has to be of one of these kinds; else none is taken.
+    /// Returns the next token, which must be of one of these kinds; otherwise consumes nothing.
+    ///
+    /// The only error is `Unexpected`.
     #[tactic(auto, unfolding(crate::specs::Reading::take))]
     pub fn take_one_of<S: KindSet>(&mut self, set: S) -> Result<Token, StopCause>
         ensures reads { ParsesTo (reading.take (S.included set) self.old.rest.now) result self.new.rest.now }

@@ -7,7 +7,7 @@ use crate::token::{Found, TokenKind};
 use crate::words::{pair, single, word_kind};
 use plain::words::{digit, digits_len, letter, word_len};
 
-/// Returns the mark that a text begins with.
+/// Returns the punctuation that a text begins with.
 pub(crate) fn mark(text: &[u8]) -> Option<Found>
     ensures { result ≡ mark_of text.now }
 {
@@ -21,7 +21,7 @@ pub(crate) fn mark(text: &[u8]) -> Option<Found>
     Some(Found { kind, len: 1 })
 }
 
-/// Returns the slot that a text begins with.
+/// Returns the template slot that a text begins with.
 pub(crate) fn slot(text: &[u8]) -> Option<Found>
     requires { (rest : List ℕ) × (text.now ≡ codes "?" ++ rest) }
     ensures { ReportsToken text.now result }

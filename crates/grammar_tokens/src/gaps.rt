@@ -1,10 +1,10 @@
-//! What may stand between tokens.
+//! Whitespace and comments between tokens.
 ghost use Rattle.std.specs.Prelude.{◌≡◌, ◌≤◌, length};
 ghost use Rattle.grammar_tokens.specs.Lexing.{in_line};
 ghost use Rattle.plain.specs.Words.{run};
 ghost use Rattle.grammar_tokens.specs.inner.Reading.{ReportsBlank, ReportsGap};
 
-/// Returns whether a comment goes on over this byte.
+/// Returns whether a comment may contain this byte.
 #[tactic(auto, unfolding(crate::specs::Lexing::in_line))]
 fn in_line(byte: u8) -> bool
     ensures { result ≡ in_line byte }
@@ -12,7 +12,7 @@ fn in_line(byte: u8) -> bool
     !(byte == b'\n' || byte == b'\r')
 }
 
-/// Returns how many bytes come before the end of the line.
+/// Returns the number of bytes before the end of the line.
 fn line_len(text: &[u8]) -> usize
     ensures is { result ≡ run in_line text.now }
     ensures within { result ≤ length text.now }
@@ -27,7 +27,7 @@ fn line_len(text: &[u8]) -> usize
     len
 }
 
-/// Returns the blank that a text begins with: its number of bytes.
+/// Returns the length of the whitespace character that a text begins with.
 fn blank(text: &str) -> Option<usize>
     ensures { ReportsBlank text.now result }
 {
@@ -41,7 +41,7 @@ fn blank(text: &str) -> Option<usize>
     }
 }
 
-/// Returns the blank or comment that a text begins with: its number of bytes.
+/// Returns the length of the whitespace character or comment that a text begins with.
 pub(crate) fn gap(text: &str) -> Option<usize>
     ensures { ReportsGap text.now result }
 {

@@ -1,4 +1,4 @@
-//! Sets of kinds of tokens, by what they are to a reader.
+//! Sets of token kinds.
 
 ghost use Rattle.std.specs.Prelude.{◌≡◌};
 ghost use Rattle.grammar_tokens.specs.Included.{included as of_names};
@@ -6,7 +6,7 @@ ghost use Rattle.grammar_tokens.specs.Kinds.{Kinds, only, same_kind};
 
 use crate::token::TokenKind;
 
-/// A set of kinds of tokens that readers ask for by name.
+/// A set of token kinds.
 pub trait KindSet: Copy {
     ghost included: { Self → Kinds };
 
@@ -21,7 +21,7 @@ pub(crate) fn same_kind(a: TokenKind, b: TokenKind) -> bool
     a == b
 }
 
-/// One kind alone.
+/// The set of one kind.
 impl KindSet for TokenKind {
     ghost included = { only };
 
@@ -30,12 +30,12 @@ impl KindSet for TokenKind {
     }
 }
 
-/// What readers of names ask for.
+/// The sets that the parsers of names use.
 #[derive(Clone, Copy)]
 pub enum NameSet {
     /// Words that are not reserved.
     Identifiers,
-    /// What stands behind a `::`: an identifier or a quoted text.
+    /// What follows a `::`: an identifier or a string.
     Pieces,
     /// `?principal` and `?resource`.
     Slots,

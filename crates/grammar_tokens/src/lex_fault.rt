@@ -1,17 +1,17 @@
-//! Why a text has no tokens to give.
+//! Errors of tokenizing.
 ghost use Rattle.std.specs.Prelude.{◌≡◌};
 ghost use Rattle.grammar_tokens.specs.declared.lex_fault.LexFault.TheVariants.{NoMemory};
 
 use std::alloc::{AllocError, AllocFailed};
 use thiserror::Error;
 
-/// Why a text has no tokens to give.
+/// An error of tokenizing.
 #[derive(Clone, Copy, PartialEq, Eq, Debug, Error)]
 pub enum LexFault {
-    /// The allocator refused memory.
+    /// An allocation failed.
     #[error("policy 1: out of memory")]
     NoMemory,
-    /// At this byte, counted from 0, begins neither a blank nor a comment nor a token.
+    /// No whitespace, comment or token starts at this byte, counted from 0.
     #[error("policy 10: invalid token at byte {0}")]
     BadToken(usize),
 }

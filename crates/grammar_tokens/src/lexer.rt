@@ -1,4 +1,4 @@
-//! The tokens of a text.
+//! The tokenizer.
 ghost use Rattle.std.specs.Prelude.{IfOk, IfErr};
 ghost use Rattle.std.specs.List.{AllByRecursion};
 ghost use Rattle.grammar_tokens.specs.Lexing.{IsLexed, IsSpelledIn, AreInOrder, IsFault};
@@ -9,11 +9,15 @@ use crate::lex_fault::LexFault;
 use crate::token::Token;
 use std::alloc::Global;
 
-/// Returns the tokens of a text, each the longest that begins where it does, between blanks and comments.
+/// Returns the tokens of a text, each the longest that starts at its byte, between whitespace and comments.
 ///
-/// Takes time in proportion to the text, and memory for its tokens. `BadToken` tells the first byte
-/// at which neither a blank nor a comment nor a token begins: of a string that isn't closed, or has
-/// a bad escape, its quote.
+/// Takes time proportional to the text, and memory for the tokens.
+///
+/// # Errors
+///
+/// - `BadToken`: the first byte at which no whitespace, comment or token starts; for a string that is not closed, or
+///   has a bad escape, its quote.
+/// - `NoMemory`: an allocation failed; possible at any point.
 pub fn tokens(alloc: Global, text: &str) -> Result<Vec<Token>, LexFault>
     ensures found { IfOk result (λ tokens. IsLexed text.now tokens.items) }
     ensures spelled { IfOk result (λ tokens. AllByRecursion (IsSpelledIn text.now) tokens.items) }

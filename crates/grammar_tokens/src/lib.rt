@@ -1,9 +1,9 @@
-//! The tokens of a policy text, readers of tokens, the rules by which these are proved, and names.
+//! Tokens of a policy text, parsers over tokens, the rules for proving these, and names.
 //!
-//! A grammar is a relation between lists of tokens and trees; a reading function says how it is read
-//! from the left, by the next token; the code does as the function does. The rules of `proofs/` tie
-//! the three together, form by form, and are a library for the crates above: its files are meant to
-//! be imported. Names, which each of those grammars has, are read here.
+//! A grammar is a relation between lists of tokens and trees. A parsing function defines how it is parsed from the
+//! left with one token of lookahead; the code follows that function. The rules of `proofs/` connect the three,
+//! production by production, and are a library for the crates above, which import its files. Names, which all of
+//! these grammars have, are parsed here.
 #![tactic(auto)]
 
 mod cursor;

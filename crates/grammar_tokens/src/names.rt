@@ -1,4 +1,4 @@
-//! Paths and uids.
+//! Parsers of paths and uids.
 
 ghost use Rattle.std.specs.Prelude.{◌≡◌, IfErr};
 ghost use Rattle.grammar_tokens.specs.ParsesTo.{ParsesTo};
@@ -33,8 +33,8 @@ fn rest_of_path(alloc: Global, tokens: &mut Cursor<'_>, first: Token) -> Result<
     Ok(PathTree { first, more })
 }
 
-/// Path = Ident { "::" Ident }, from the front of the tokens and as many of them as it takes. The
-/// tokens that are left afterwards begin behind it, or with the one at which reading halts.
+/// Parses Path = Ident { "::" Ident } from the front of the tokens, as long as possible. The remaining tokens begin
+/// after it, or with the one at which parsing stops.
 #[tactic(auto, unfolding(crate::specs::Parsing::path))]
 pub fn path(alloc: Global, tokens: &mut Cursor<'_>) -> Result<PathTree, StopCause>
     ensures reads { ReadsFront grammar.path tokens.old.rest.now result tokens.new.rest.now }
@@ -68,8 +68,8 @@ fn rest_of_uid(alloc: Global, tokens: &mut Cursor<'_>, first: Token) -> Result<U
     Err(StopCause::Unexpected)
 }
 
-/// Uid = Path "::" String, from the front of the tokens. The tokens that are left afterwards begin
-/// behind it, or with the one at which reading halts.
+/// Parses Uid = Path "::" String from the front of the tokens. The remaining tokens begin after it, or with the one
+/// at which parsing stops.
 #[tactic(auto, unfolding(crate::specs::Parsing::uid))]
 pub fn uid(alloc: Global, tokens: &mut Cursor<'_>) -> Result<UidTree, StopCause>
     ensures reads { ReadsFront grammar.uid tokens.old.rest.now result tokens.new.rest.now }
@@ -79,7 +79,7 @@ pub fn uid(alloc: Global, tokens: &mut Cursor<'_>) -> Result<UidTree, StopCause>
     rest_of_uid(alloc, tokens, first)
 }
 
-/// Returns what stands behind a first identifier makes a Path of it, or a Uid where a String comes.
+/// Parses the rest of a name after its first identifier: a Uid if a String follows, else a Path.
 pub fn rest_of_name(alloc: Global, tokens: &mut Cursor<'_>, first: Token) -> Result<Name, StopCause>
     ensures { ParsesTo (spec.rest_of_name first tokens.old.rest.now) result tokens.new.rest.now }
 {

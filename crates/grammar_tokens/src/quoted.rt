@@ -1,4 +1,4 @@
-//! Quoted texts and their escapes.
+//! Strings and their escapes.
 ghost use Rattle.std.specs.Prelude.{◌≡◌, ◌<◌, ◌≤◌, ◌∷◌, List, ℕ, length};
 ghost use Rattle.std.specs.Option.{SomeIff};
 ghost use Rattle.std.specs.Char.{digit_value};
@@ -9,7 +9,7 @@ ghost use Rattle.grammar_tokens.specs.inner.Reading.{kind_with, ReportsEscape, R
 use crate::piece::{Escape, Piece};
 use crate::token::{Found, TokenKind};
 
-/// Returns what a letter or mark after a backslash stands for.
+/// Returns the character that a letter or mark after a backslash means.
 fn letter_meant(byte: u8) -> Option<char>
     ensures { result ≡ escaped byte }
 {
@@ -33,7 +33,7 @@ fn hex(byte: u8) -> bool
     (byte as char).to_digit(16).is_some()
 }
 
-/// Returns how many hexadecimal digits come first.
+/// Returns the number of leading hexadecimal digits.
 fn hex_len(text: &[u8]) -> usize
     ensures is { result ≡ run is_hex text.now }
     ensures within { result ≤ length text.now }
@@ -56,7 +56,7 @@ fn hex_value(byte: u8) -> Option<u32>
     (byte as char).to_digit(16)
 }
 
-/// Returns the escape that two hexadecimal digits up to 7F make after `\x`.
+/// Returns the escape `\x` with two hexadecimal digits up to 7F.
 fn short_escape(text: &[u8]) -> Option<Escape>
     ensures { ReportsEscape (backslash ∷ 120 ∷ text.now) result }
 {
@@ -73,7 +73,7 @@ fn short_escape(text: &[u8]) -> Option<Escape>
     })
 }
 
-/// Returns the number that up to six hexadecimal digits write.
+/// Returns the number of up to six hexadecimal digits.
 fn hex_number(digits: &[u8]) -> u32
     requires hex { AllAre is_hex digits.now }
     requires few { length digits.now ≤ 6 }
@@ -86,7 +86,7 @@ fn hex_number(digits: &[u8]) -> u32
     number
 }
 
-/// Returns the escape that hexadecimal digits in braces make after `\u`.
+/// Returns the escape `\u` with hexadecimal digits in braces.
 fn long_escape(text: &[u8]) -> Option<Escape>
     ensures { ReportsEscape (backslash ∷ 117 ∷ text.now) result }
 {
@@ -137,7 +137,7 @@ pub(crate) fn escape(text: &[u8]) -> Option<Escape>
     }
 }
 
-/// Returns the kind of a quoted text that goes on with this piece.
+/// Returns the kind of a string, given its kind without this piece.
 fn kind_with(kind: TokenKind, piece: Piece) -> TokenKind
     ensures { result ≡ kind_with kind piece }
 {
@@ -147,7 +147,7 @@ fn kind_with(kind: TokenKind, piece: Piece) -> TokenKind
     }
 }
 
-/// Returns the quoted text that a text begins with, at a quote.
+/// Returns the string that a text begins with, at a quote.
 pub(crate) fn quoted(text: &[u8]) -> Option<Found>
     requires { (rest : List ℕ) × (text.now ≡ quote ∷ rest) }
     ensures { ReportsToken text.now result }

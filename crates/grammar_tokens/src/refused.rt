@@ -1,4 +1,4 @@
-//! What is answered for a whole list of tokens, by where its reader stopped.
+//! The result for a whole list of tokens, by where its parser stopped.
 ghost use Rattle.std.specs.Prelude.{◌≡◌, ◌-◌, length};
 ghost use Rattle.grammar_tokens.specs.Reads.{refusal_of, whole_of};
 
@@ -7,8 +7,8 @@ use crate::fault::{StopCause, SyntaxFault};
 use crate::kind_sets::NameSet;
 use crate::token::Token;
 
-/// Returns the refusal of the tokens where reading halted: its place is that of the first token that is left, or their
-/// count where none is.
+/// Returns the error of tokens at which parsing stopped: its index is that of the first remaining token, or the count
+/// of the tokens if none remains.
 fn refusal(tokens: &[Token], cursor: &Cursor<'_>, halt: StopCause) -> SyntaxFault
     ensures { result ≡ refusal_of halt (length tokens.now - length cursor.now.rest.now) cursor.now.rest.now }
 {
@@ -26,8 +26,8 @@ fn refusal(tokens: &[Token], cursor: &Cursor<'_>, halt: StopCause) -> SyntaxFaul
     }
 }
 
-/// Returns what was read, where no token is left behind it; else the refusal. Generic, so that what is let go is one
-/// step, and not one a form of tree.
+/// Returns the parsed value if no token remains; else the error. Generic, so that the drop is one step and not one
+/// for each kind of tree.
 pub fn read_to_end<T: Drop>(
     tokens: &[Token],
     cursor: &Cursor<'_>,

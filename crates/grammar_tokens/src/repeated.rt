@@ -1,4 +1,4 @@
-//! Pieces of one form, one after the other.
+//! Repetition of a parser.
 
 ghost use Rattle.grammar_tokens.specs.ParsesTo.{ParsesTo};
 ghost use Rattle.grammar_tokens.specs.Reading.{Parser, many};
@@ -10,7 +10,8 @@ use crate::kind_sets::KindSet;
 use plain::Items;
 use std::alloc::Global;
 
-/// These pieces, and behind them as many as begin with a token of the set; the first halt of a call, or `NoMemory`.
+/// Appends pieces to `found` as long as a token of the set comes next; returns the first error of a call, or
+/// `NoMemory`.
 fn read_on<T: Drop, S: KindSet, F: Fn(&mut Cursor<'_>) -> Result<T, StopCause>>(
     mut found: Items<T>,
     tokens: &mut Cursor<'_>,
@@ -31,8 +32,9 @@ fn read_on<T: Drop, S: KindSet, F: Fn(&mut Cursor<'_>) -> Result<T, StopCause>>(
     Ok(found)
 }
 
-/// Pieces, as long as a token of the set comes next. Each is read by a call. Answers with the first halt of such a
-/// call, or with `NoMemory` where a piece finds no room.
+/// Parses pieces as long as a token of the set comes next, each by a call of `read`.
+///
+/// Returns the first error of such a call, or `NoMemory` if the list cannot grow.
 pub fn read_many<T: Drop, S: KindSet, F: Fn(&mut Cursor<'_>) -> Result<T, StopCause>>(
     alloc: Global,
     tokens: &mut Cursor<'_>,
@@ -46,8 +48,9 @@ pub fn read_many<T: Drop, S: KindSet, F: Fn(&mut Cursor<'_>) -> Result<T, StopCa
     read_on(Items::new(alloc), tokens, set, read)
 }
 
-/// Returns a first piece, and behind it more, as long as a token of the set comes next. Each of these is read by a
-/// call. Answers with the first halt of such a call, or with `NoMemory` where a piece, the first too, finds no room.
+/// Parses further pieces after `first` as long as a token of the set comes next, each by a call of `read`.
+///
+/// Returns the first error of such a call, or `NoMemory` if the list cannot grow.
 pub fn read_more<T: Drop, S: KindSet, F: Fn(&mut Cursor<'_>) -> Result<T, StopCause>>(
     alloc: Global,
     tokens: &mut Cursor<'_>,

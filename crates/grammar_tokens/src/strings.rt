@@ -1,4 +1,4 @@
-//! What strings stand for.
+//! Values of strings.
 ghost use Rattle.std.specs.Prelude.{◌≡◌, ◌≤◌, List, IfOk, length, true};
 ghost use Rattle.grammar_tokens.specs.Lexing.{IsSpelledIn, spelling_of, IsBody};
 ghost use Rattle.plain.specs.Words.{run};
@@ -13,14 +13,14 @@ use crate::written::body;
 use plain::{NoMemory, Text};
 use std::alloc::Global;
 
-/// What the front of a string's body stands for, and its number of bytes.
+/// The value of the front of a string's body, and its length in bytes.
 #[derive(Drop)]
 struct Literal {
     value: Text,
     len: usize,
 }
 
-/// Returns whether a byte between quotes stands for itself; in a pattern a star doesn't.
+/// Returns whether a byte between quotes stands for itself; a star does not in a pattern.
 #[tactic(auto, unfolding(crate::specs::inner::Reading::is_plain))]
 fn plain_byte(in_pattern: bool, byte: u8) -> bool
     ensures { result ≡ is_plain in_pattern byte }
@@ -28,7 +28,7 @@ fn plain_byte(in_pattern: bool, byte: u8) -> bool
     !(byte == b'\\' || (in_pattern && byte == b'*'))
 }
 
-/// Returns how many bytes that stand for themselves come first.
+/// Returns the number of leading bytes that stand for themselves.
 fn plain_len(in_pattern: bool, text: &[u8]) -> usize
     ensures is { result ≡ run (is_plain in_pattern) text.now }
     ensures within { result ≤ length text.now }
@@ -43,7 +43,7 @@ fn plain_len(in_pattern: bool, text: &[u8]) -> usize
     len
 }
 
-/// Returns the character that an escape stands for.
+/// Returns the character of an escape.
 fn character(piece: Piece) -> char
     ensures { result ≡ character_of piece }
 {
@@ -53,7 +53,7 @@ fn character(piece: Piece) -> char
     }
 }
 
-/// Returns what a body stands for, in a pattern up to its first wildcard.
+/// Decodes a body, in a pattern up to its first wildcard.
 fn read_literal(alloc: Global, body: &str, in_pattern: bool) -> Result<Literal, NoMemory>
     requires { (ps : List Piece) × IsBody ps body.now }
     ensures { IfOk result (λ literal. IsLiteral in_pattern literal.value literal.len body.now) }
@@ -85,11 +85,10 @@ fn read_literal(alloc: Global, body: &str, in_pattern: bool) -> Result<Literal, 
     })
 }
 
-/// Returns the value of a string: what is written between its quotes, with what each escape stands for in the escape's
-/// place.
+/// Returns the value of a string: the text between its quotes, with each escape replaced by its meaning.
 ///
-/// What stands between two escapes is copied at once, so a string without escapes is copied whole.
-/// The only error is `NoMemory`.
+/// Text between two escapes is copied at once, so a string without escapes is copied whole. The only error is
+/// `NoMemory`.
 pub fn decode_string(alloc: Global, text: &str, token: Token) -> Result<Text, NoMemory>
     requires spelled { IsSpelledIn text.now token }
     requires string { token.kind ≡ TokenKind.Text }
@@ -99,10 +98,10 @@ pub fn decode_string(alloc: Global, text: &str, token: Token) -> Result<Text, No
     Ok(value)
 }
 
-/// Returns what a string is as the pattern of `like`: its literal texts, with a wildcard between each two.
+/// Returns the pattern of `like` that a string writes: its literal texts, with a wildcard between each two.
 ///
-/// The wildcard is a `*` that stands for itself; one that an escape makes, as `\*`, is a literal
-/// star. A pattern without a wildcard is one text. The only error is `NoMemory`.
+/// An unescaped `*` is a wildcard; an escaped one, `\*`, is a literal star. A pattern without a wildcard is one text.
+/// The only error is `NoMemory`.
 pub fn decode_pattern(alloc: Global, text: &str, token: Token) -> Result<Vec<Text>, NoMemory>
     requires spelled { IsSpelledIn text.now token }
     requires string { is_string token.kind ≡ true }

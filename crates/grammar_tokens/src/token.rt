@@ -2,16 +2,16 @@
 ghost use Rattle.std.specs.Prelude.{◌≡◌};
 ghost use Rattle.grammar_tokens.specs.Idents.{is_ident, is_reserved};
 
-/// The kinds of tokens: each word of the language, each mark, and the open classes.
+/// The kinds of tokens: each keyword, each punctuation, and the open classes.
 #[derive(Clone, Copy, Debug, PartialEq, Eq)]
 pub enum TokenKind {
-    /// An identifier that is no word of the language.
+    /// An identifier that is not a keyword.
     Ident,
     /// One or more digits.
     Number,
-    /// A quoted text without `\*`.
+    /// A string without `\*`.
     Text,
-    /// A quoted text with `\*`, which only a pattern may be.
+    /// A string with `\*`, which is allowed only as a pattern.
     StarText,
     True,
     False,
@@ -101,7 +101,7 @@ impl TokenKind {
     }
 }
 
-/// A token, and where it stands: it is spelled by the bytes from `start` up to `end`.
+/// A token, and its position: its text is the bytes from `start` up to `end`.
 #[derive(Clone, Copy, PartialEq, Eq)]
 pub struct Token {
     pub kind: TokenKind,
@@ -109,7 +109,7 @@ pub struct Token {
     pub end: usize,
 }
 
-/// What kind of token begins a text, and of how many bytes.
+/// A token at the front of a text: its kind, and its length in bytes.
 #[derive(Clone, Copy)]
 pub(crate) struct Found {
     pub(crate) kind: TokenKind,

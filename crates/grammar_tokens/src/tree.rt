@@ -1,4 +1,4 @@
-//! Paths, uids and names as they are written.
+//! Syntax trees of paths, uids and names.
 use crate::token::Token;
 use plain::Items;
 
@@ -6,7 +6,7 @@ use plain::Items;
 #[derive(Drop)]
 pub struct PathTree {
     pub first: Token,
-    /// Those behind each `::`.
+    /// Those after each `::`.
     pub more: Items<Token>,
 }
 
@@ -14,7 +14,7 @@ pub struct PathTree {
 #[derive(Drop)]
 pub struct UidTree {
     pub path: PathTree,
-    /// A quoted text without `\*`.
+    /// A string without `\*`.
     pub id: Token,
 }
 

@@ -1,10 +1,10 @@
-//! The words of the language, and the marks.
+//! Keywords and punctuation.
 ghost use Rattle.std.specs.Prelude.{◌≡◌, ◌∷◌, []};
 ghost use Rattle.grammar_tokens.specs.Lexing.{kind_of_word, listed, singles, pairs};
 
 use crate::token::TokenKind;
 
-/// Returns the kind of a word: of one that is no word of the language, an identifier.
+/// Returns the kind of a word: `Ident` for one that is not a keyword.
 #[tactic(auto, unfolding(crate::specs::Lexing::kind_of_word))]
 pub(crate) fn word_kind(word: &str) -> TokenKind
     ensures { result ≡ kind_of_word word.now }
@@ -32,7 +32,7 @@ pub(crate) fn word_kind(word: &str) -> TokenKind
     }
 }
 
-/// Returns the mark of one byte that this byte is.
+/// Returns the punctuation of one byte.
 pub(crate) fn single(byte: u8) -> Option<TokenKind>
     ensures { result ≡ listed singles (byte ∷ []) }
 {
@@ -58,7 +58,7 @@ pub(crate) fn single(byte: u8) -> Option<TokenKind>
     }
 }
 
-/// Returns the mark that these two bytes are.
+/// Returns the punctuation of two bytes.
 pub(crate) fn pair(first: u8, second: u8) -> Option<TokenKind>
     ensures { result ≡ listed pairs (first ∷ second ∷ []) }
 {

@@ -1,4 +1,4 @@
-//! What is written where a token stands.
+//! The text of a token.
 ghost use Rattle.std.specs.Prelude.{◌≡◌, ◌↔◌, ◌∷◌, ◌++◌, [], true};
 ghost use Rattle.plain.specs.Words.{IsIdent, IsReserved};
 ghost use Rattle.grammar_tokens.specs.Idents.{is_ident, is_reserved};
@@ -7,9 +7,9 @@ ghost use Rattle.grammar_tokens.specs.Strings.{is_string};
 
 use crate::token::Token;
 
-/// Returns what is written where a token stands in its text; takes no memory.
+/// Returns the text of a token. Does not allocate.
 ///
-/// Whether it is an identifier or a reserved word is told by the token's kind.
+/// The token's kind determines whether it is an identifier or a reserved word.
 pub fn spelling(text: &str, token: Token) -> &str
     requires { IsSpelledIn text.now token }
     ensures is { result.now ≡ spelling_of text.now token }
@@ -19,7 +19,7 @@ pub fn spelling(text: &str, token: Token) -> &str
     &text[token.start..token.end]
 }
 
-/// Returns what is written between the quotes of a string, escapes as they stand; takes no memory.
+/// Returns the text between the quotes of a string, with its escapes undecoded. Does not allocate.
 pub fn body(text: &str, token: Token) -> &str
     requires spelled { IsSpelledIn text.now token }
     requires string { is_string token.kind ≡ true }

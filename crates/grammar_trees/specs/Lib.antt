@@ -4,5 +4,5 @@ pub mod Relations
 pub mod Repeats
 pub mod WellFormed
 pub mod inner
--- crates below, passed on to those above
+-- Specifications of lower crates, re-exported.
 pub use Rattle.grammar_tokens.specs as grammar_tokens

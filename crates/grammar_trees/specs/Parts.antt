@@ -1,5 +1,5 @@
--- The tokens that a tree holds, each with the kinds that its place asks for. What a token stands for by its kind alone
--- stands in the tree itself.
+-- Defines the tokens of a tree, each with the kinds that its position allows. A token whose kind is all its meaning
+-- is represented in the tree by that meaning, and is not among them.
 use Rattle.std.specs.Prelude.{List, [], ◌∷◌, ◌++◌, map}
 use Rattle.std.specs.List.{flat_map}
 use Rattle.grammar_tokens.specs.declared.token.TokenKind.TheVariants as k
@@ -19,25 +19,29 @@ use Rattle.grammar_tokens.specs.Kinds.{Kinds, only}
 use Rattle.grammar_tokens.specs.Grammar.{identifiers}
 use Rattle.grammar_trees.specs.Patterns.{patterns}
 
--- a token, and the kinds that its place asks for
+-- A `Part` is a token, and the kinds that its position allows.
 pub record Part : Type 0 where
   pub kinds : Kinds
   pub token : Token
 
+-- `part kinds token` is the token with these kinds.
 abbrev pub part : Kinds → Token → Part
 part kinds token = record { kinds = kinds; token = token }
 
+-- `key_part key` is the part of a key: an identifier or a String.
 abbrev pub key_part : KeyTree → Part
 key_part (Word word) = part identifiers word
 key_part (Quoted quoted) = part (only k.Text) quoted
 
+-- `path_parts path` and `uid_parts uid` are the parts of a Path and of a Uid.
 abbrev pub path_parts : PathTree → List Part
 path_parts path = part identifiers path.first ∷ map (part identifiers) path.more
 
 abbrev pub uid_parts : UidTree → List Part
 uid_parts uid = part (only k.Text) uid.id ∷ path_parts uid.path
 
--- the arguments, entries and terms have the parts that they are given
+-- `access_parts`, `entry_parts` and `term_parts` are the parts of an access, an entry and a term, given those of
+-- their expressions.
 abbrev pub access_parts : Access (List (List Part)) → List Part
 access_parts (access.Field key) = key_part key ∷ []
 access_parts (access.Method name arguments) = part identifiers name ∷ flat_map (λ parts. parts) arguments
@@ -51,6 +55,7 @@ term_parts term = term.operand
 abbrev all : List (List Part) → List Part
 all = flat_map (λ parts. parts)
 
+-- `parts_step x` are the parts of a node over expressions with these parts.
 abbrev pub parts_step : tree (List Part) → List Part
 parts_step (tree.Boolean value) = []
 parts_step (tree.Number t) = part (only k.Number) t ∷ []
@@ -75,11 +80,11 @@ parts_step (tree.And a more) = a ++ all more
 parts_step (tree.Or a more) = a ++ all more
 parts_step (tree.If a b c) = a ++ (b ++ c)
 
--- of an expression
+-- `parts_of x` are the parts of the expression `x`.
 abbrev pub parts_of : ExprTree → List Part
 parts_of = fold-ExprTree (List Part) parts_step
 
--- of what stands inside one
+-- `parts_of_access`, `parts_of_entry` and `parts_of_term` are those of an access, an entry and a term.
 abbrev pub parts_of_access : Access (List ExprTree) → List Part
 parts_of_access (access.Field key) = key_part key ∷ []
 parts_of_access (access.Method name arguments) = part identifiers name ∷ flat_map parts_of arguments

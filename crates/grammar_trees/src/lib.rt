@@ -1,7 +1,7 @@
-//! What expressions are read as: trees over tokens, and the tokens that a tree is made of.
+//! Syntax trees of expressions: trees over tokens, and the tokens that a tree contains.
 //!
-//! Readers make these trees (`grammar_expressions`), and their meaning is told over them (`grammar_desugaring`):
-//! neither stands on the other. Two rules that both need are here too: a relation has at most one tail, and which
+//! Parsers build these trees (`grammar_expressions`), and their meaning is defined over them (`grammar_desugaring`):
+//! neither depends on the other. Two rules that both need are here too: a relation has at most one tail, and which
 //! names are repeated.
 #![tactic(auto)]
 

@@ -14,21 +14,26 @@ pub trait Related {
     /// The condition under which the parsers may be called.
     ghost can_read: { Self → Type 0 };
 
+    /// The language of an operand.
     ghost operands: { Self → Lang trees.ExprTree };
 
     /// The language of an operand's tail, which may be empty.
     ghost tailed: { Self → trees.ExprTree → Lang trees.ExprTree };
 
+    /// The parsing function of an operand.
     ghost reads_operand: { Self → Parser trees.ExprTree };
 
+    /// The parsing function of an operand's tail.
     ghost reads_tail: { Self → trees.ExprTree → Parser trees.ExprTree };
 
+    /// Parses an operand from the front of the tokens.
     fn operand(&self, tokens: &mut Cursor<'_>) -> Result<ExprTree, StopCause>
         requires { can_read self.now }
         ensures derives { IfOk result (λ x. DerivesFront (operands self.now) tokens.old.rest.now x
             tokens.new.rest.now) }
         ensures reads { ParsesTo (reads_operand self.now tokens.old.rest.now) result tokens.new.rest.now };
 
+    /// Parses the tail of the operand `x`, which may be empty, and returns the relation.
     fn with_tail(&self, tokens: &mut Cursor<'_>, x: ExprTree) -> Result<ExprTree, StopCause>
         requires { can_read self.now }
         ensures derives { IfOk result (λ e. DerivesFront (tailed self.now x) tokens.old.rest.now e

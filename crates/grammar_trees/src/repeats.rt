@@ -25,7 +25,7 @@ fn lesser(a: Option<usize>, b: Option<usize>) -> Option<usize>
     }
 }
 
-/// Returns the least offset at which a name occurs that also occurs earlier, or None if all names are distinct.
+/// Returns the least offset at which a name occurs that also occurs earlier, or `None` if all names are distinct.
 ///
 /// O(n log n). Source: Cedar reference guide 4.0, "Data types: Record".
 ///

@@ -1,8 +1,8 @@
-//! Expressions as they are written.
+//! Syntax trees of expressions.
 use grammar_tokens::{PathTree, Token, UidTree};
 use plain::{Boxed, Items};
 
-/// A word that stands for a part of the request, where it is no name.
+/// A keyword for a part of the request.
 #[derive(Clone, Copy, PartialEq, Eq)]
 pub enum Variable {
     /// `principal`
@@ -15,7 +15,7 @@ pub enum Variable {
     Context,
 }
 
-/// What joins a further term to a sum.
+/// The operator before a further term of a sum.
 #[derive(Clone, Copy, PartialEq, Eq)]
 pub enum Sign {
     /// `+`
@@ -24,7 +24,7 @@ pub enum Sign {
     Minus,
 }
 
-/// What compares the operands on its two sides.
+/// A comparison operator.
 #[derive(Clone, Copy, PartialEq, Eq)]
 pub enum Comparison {
     /// `<`
@@ -48,11 +48,11 @@ pub enum Comparison {
 pub enum KeyTree {
     /// An identifier.
     Word(Token),
-    /// A quoted text without `\*`.
+    /// A string without `\*`.
     Quoted(Token),
 }
 
-/// What is asked of the expression before it. `A` is a call's list of arguments.
+/// An access to the expression before it. `A` is the list of arguments of a call.
 #[derive(Drop)]
 pub enum Access<A> {
     /// `.name` or `["name"]`
@@ -75,19 +75,18 @@ pub struct Entry<T> {
     pub value: T,
 }
 
-/// What an expression is written as. Operands of one level, and accesses, stand side by side in a
-/// list, so that only parentheses, brackets, braces, arguments and `if` make a tree much higher,
-/// and these are limited to 64 levels.
+/// The syntax tree of an expression. Operands of one level, and accesses, are side by side in a list, so that only
+/// parentheses, brackets, braces, arguments and `if` increase the height much; these are limited to 64 levels.
 #[derive(Drop)]
 pub enum ExprTree {
     /// `true` or `false`.
     Boolean(bool),
     Number(Token),
-    /// A quoted text without `\*`.
+    /// A string without `\*`.
     Text(Token),
     Variable(Variable),
     Uid(UidTree),
-    /// A function's name and its arguments.
+    /// A call of a function: its name and its arguments.
     Call(PathTree, Items<ExprTree>),
     Parentheses(Boxed<ExprTree>),
     Set(Items<ExprTree>),
@@ -96,7 +95,7 @@ pub enum ExprTree {
     Member(Boxed<ExprTree>, Items<Access<Items<ExprTree>>>),
     /// `!`
     Not(Boxed<ExprTree>),
-    /// A `-` before its operand.
+    /// A unary `-`.
     Minus(Boxed<ExprTree>),
     /// The first factor and one or more further ones.
     Product(Boxed<ExprTree>, Items<ExprTree>),
@@ -106,7 +105,7 @@ pub enum ExprTree {
     Compare(Boxed<ExprTree>, Comparison, Boxed<ExprTree>),
     /// `has`, with a field's name.
     Has(Boxed<ExprTree>, KeyTree),
-    /// `like`, with a quoted text, in which `\*` may stand.
+    /// `like`, with a string, in which `\*` may occur.
     Like(Boxed<ExprTree>, Token),
     /// `is`
     Is(Boxed<ExprTree>, PathTree),
@@ -116,6 +115,6 @@ pub enum ExprTree {
     And(Boxed<ExprTree>, Items<ExprTree>),
     /// The first operand of `||` and one or more further ones.
     Or(Boxed<ExprTree>, Items<ExprTree>),
-    /// The test, and what stands behind `then` and `else`.
+    /// `if`: the test, and its two branches.
     If(Boxed<ExprTree>, Boxed<ExprTree>, Boxed<ExprTree>),
 }

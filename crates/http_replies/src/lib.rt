@@ -18,9 +18,9 @@ pub use reporting::{
     report_status, report_taken,
 };
 pub use site::{
-    EntityFault, Event, EventReply, Found, Input, Operation, Put, Reply, Site, SiteFault, SiteName,
-    Stamp, Taken, World, answer, inputs_have_one_outcome, run, runs_are_sound,
-    runs_leave_what_they_took, simulate, take_bytes,
+    EntityFault, Event, EventReply, Found, Input, Operation, Put, Reply, Scratch, Site, SiteFault,
+    SiteName, Stamp, Taken, World, answer, inputs_have_one_outcome, is_site_name, run,
+    runs_are_sound, runs_leave_what_they_took, simulate, site_names_are_told, take_bytes,
 };
 
 /// No reply to a change, and no refusal, has a longer body than so many bytes.

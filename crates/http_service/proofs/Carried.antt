@@ -5,13 +5,15 @@ use Rattle.http.specs.declared.status.StatusCode.{StatusCode}
 use Rattle.http_streams.specs.Serving.{IsAnswered}
 use Rattle.http_streams.specs.declared.serve.StreamFault.{StreamFault}
 use Rattle.http_streams.proofs.Simulated.{answered}
-use Rattle.http_replies.specs.site_steps.schema.Views.{schema_view}
-use Rattle.http_replies.specs.site_steps.SiteViews.{SiteView, schema_of, store_in, IsSameSite}
-use Rattle.http_replies.specs.site_steps.Runs.{Run}
-use Rattle.http_replies.proofs.of_site_steps.RunLemmas.{run_push, same_step}
+use Rattle.site_calls.specs.http_replies.site_steps.schema.Views.{schema_view}
+use Rattle.site_calls.specs.http_replies.site_steps.SiteViews.{SiteView, schema_of, store_in, IsSameSite}
+use Rattle.site_calls.specs.http_replies.site_steps.Runs.{Run}
+use Rattle.site_calls.proofs.of_http_replies.of_site_steps.RunLemmas.{run_push, same_step}
 use Rattle.http_routes.specs.Routes.{route_stated}
-use Rattle.http_service.specs.Asked.{Asked, asked, hands, refused, unserved}
-use Rattle.http_service.specs.Answered.{Replies, answers_over}
+use Rattle.site_calls.specs.Asked.{Asked, gives, rejects, unserved}
+use Rattle.http_service.specs.Asked.{asked}
+use Rattle.site_calls.specs.Answers.{Replies}
+use Rattle.http_service.specs.Answered.{answers_over}
 use Rattle.http_service.specs.Serving.{Served, unasked, Continues, continues_run, IsServed}
 use Rattle.http_service.specs.declared.site_service.SiteService.{SiteService}
 use Rattle.http_service.proofs.RunLemmas.{RunsTake}
@@ -38,7 +40,7 @@ no_step first v new h e = record {
 one_request : (first : SiteView) (a : Asked) (v : Served) (new : SiteView) (status : StatusCode) (line : List ℕ) → Running first v
     → Replies v.site a status line new
     → (w : Served) × Continues v a status line w × Running first w × (w.site ≡ new)
-one_request first (hands i) v new status line so_far h = (
+one_request first (gives i) v new status line so_far h = (
   record { site = new; inputs = v.inputs ++ i ∷ []; replies = v.replies ++ h.0 ∷ [] },
   (h.0, h.1, h.2, h.3, refl, refl),
   record {
@@ -49,7 +51,7 @@ one_request first (hands i) v new status line so_far h = (
   },
   refl,
 )
-one_request first (refused f) v new status line so_far h = (
+one_request first (rejects f) v new status line so_far h = (
   record { site = new; inputs = v.inputs; replies = v.replies },
   (h, refl, refl),
   no_step first v new so_far h.1,

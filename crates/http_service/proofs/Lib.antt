@@ -3,3 +3,6 @@ pub mod ServedLemmas
 pub mod RunLemmas
 pub mod Dealt
 pub mod OneReply
+pub mod LoggedRuns
+pub mod Noted
+pub mod UnreadLemmas

@@ -2,27 +2,30 @@
 use Rattle.std.proofs.Common.{◌≡◌, ◌≢◌, ◌⊎◌, ℕ, List, Ok, Err, refl, sym, ap, ◌∙◌, subst, inl, inr}
 use Rattle.http.specs.declared.status.StatusCode.{StatusCode}
 use Rattle.http_streams.specs.Laws.{HasOneAnswer, in_memory}
-use Rattle.http_replies.specs.site_steps.schema.Schemas.{StatedSchema, IsSchemaOf}
-use Rattle.http_replies.specs.site_steps.schema.Views.{schema_view, IsStated}
-use Rattle.http_replies.specs.site_steps.schema.SchemaEntries.{SchemaEntries}
-use Rattle.http_replies.specs.site_steps.stamped_store.Store.{Store}
-use Rattle.http_replies.specs.site_steps.SiteViews.{SiteView, schema_of, store_in, IsSameSite}
-use Rattle.http_replies.specs.site_steps.declared.fault.SiteFault.{SiteFault}
-use Rattle.http_replies.specs.site_steps.declared.fault.SiteFault.TheVariants as fault
-use Rattle.http_replies.specs.Replies.{fault_reply}
-use Rattle.http_replies.specs.site_steps.declared.outcome.Taken.TheVariants.{All, Short}
-use Rattle.http_replies.specs.site_steps.Inputs.{Input}
-use Rattle.http_replies.specs.site_steps.declared.reply.Reply.{Reply}
-use Rattle.http_replies.specs.site_steps.declared.reply.Reply.TheVariants as reply
-use Rattle.http_replies.specs.site_steps.Outcomes.{IsWhole, InputsHaveOneOutcome}
-use Rattle.http_replies.specs.site_steps.Runs.{Step}
+use Rattle.site_calls.specs.http_replies.site_steps.schema.Schemas.{StatedSchema, IsSchemaOf}
+use Rattle.site_calls.specs.http_replies.site_steps.schema.Views.{schema_view, IsStated}
+use Rattle.site_calls.specs.http_replies.site_steps.schema.SchemaEntries.{SchemaEntries}
+use Rattle.site_calls.specs.http_replies.site_steps.stamped_store.Store.{Store}
+use Rattle.site_calls.specs.http_replies.site_steps.SiteViews.{SiteView, schema_of, store_in, IsSameSite}
+use Rattle.site_calls.specs.http_replies.site_steps.declared.fault.SiteFault.{SiteFault}
+use Rattle.site_calls.specs.http_replies.site_steps.declared.fault.SiteFault.TheVariants as fault
+use Rattle.site_calls.specs.http_replies.Replies.{fault_reply}
+use Rattle.site_calls.specs.http_replies.site_steps.declared.outcome.Taken.TheVariants.{All, Short}
+use Rattle.site_calls.specs.http_replies.site_steps.Inputs.{Input}
+use Rattle.site_calls.specs.http_replies.site_steps.declared.reply.Reply.{Reply}
+use Rattle.site_calls.specs.http_replies.site_steps.declared.reply.Reply.TheVariants as reply
+use Rattle.site_calls.specs.http_replies.site_steps.Outcomes.{IsWhole, InputsHaveOneOutcome}
+use Rattle.site_calls.specs.http_replies.site_steps.Runs.{Step}
 use Rattle.http_routes.specs.Routes.{route_stated}
-use Rattle.http_service.specs.Asked.{Asked, asked, hands, refused, unserved}
-use Rattle.http_service.specs.Answered.{IsAlike, Replies, answers, told}
+use Rattle.site_calls.specs.Asked.{Asked, gives, rejects, unserved}
+use Rattle.http_service.specs.Asked.{asked}
+use Rattle.site_calls.specs.Answers.{Replies}
+use Rattle.site_calls.specs.Reports.{reported}
+use Rattle.http_service.specs.Answered.{IsAlike, answers}
 
 -- ---- memory sufficed where the status does not say that it did not
 
-is_whole : (r : Reply) → (told r).0 ≢ 503 → IsWhole r
+is_whole : (r : Reply) → (reported r).0 ≢ 503 → IsWhole r
 is_whole (reply.Put (Ok x)) h = tt
 is_whole (reply.Put (Err fault.NoMemory)) h = h refl
 is_whole (reply.Put (Err (fault.Policy f))) h = tt
@@ -97,7 +100,7 @@ abbrev HaveOneOutcome : Type 0
 HaveOneOutcome = (bytes : List ℕ) (schema : SchemaEntries) → IsSchemaOf bytes (schema_view schema)
     → InputsHaveOneOutcome (schema_view schema)
 
-told_whole : (r : Reply) (line : Line) → line ≡ told r → line.0 ≢ 503 → IsWhole r
+told_whole : (r : Reply) (line : Line) → line ≡ reported r → line.0 ≢ 503 → IsWhole r
 told_whole r line is h = is_whole r (λ e. h (ap (λ (l : Line). l.0) is ∙ e))
 
 -- a step of the one site is a step of the other
@@ -132,15 +135,15 @@ refused_line f line (inr is) h = absurd (h (ap (λ (l : Line). l.0) is))
 one_of : HaveOneOutcome → (a : Asked) (old old2 : SiteView) (st st2 : StatusCode) (x x2 : List ℕ) (new new2 : SiteView)
     → IsAlike old old2 → Replies old a st x new → st ≢ 503
     → Replies old2 a st2 x2 new2 → st2 ≢ 503 → (line st x ≡ line st2 x2) × IsAlike new new2
-one_of law (hands i) old old2 st st2 x x2 new new2 alike h some k some2 =
+one_of law (gives i) old old2 st st2 x x2 new new2 alike h some k some2 =
     let one = law alike.0.0 old.schema alike.0.1 old.name (store_in old) i h.0 k.0 (store_in new) (store_in new2)
     (record { step = h.1; whole = told_whole h.0 (st, x) h.3 some })
     (record {
       step = step_of old old2 i k.0 (store_in new2) alike.1 alike.2 k.1;
       whole = told_whole k.0 (st2, x2) k.3 some2;
     }) in
-    (h.3 ∙ ap told one.0 ∙ sym k.3, still_alike old old2 new new2 alike h.2 k.2 one.1)
-one_of law (refused f) old old2 st st2 x x2 new new2 alike h some k some2 = (
+    (h.3 ∙ ap reported one.0 ∙ sym k.3, still_alike old old2 new new2 alike h.2 k.2 one.1)
+one_of law (rejects f) old old2 st st2 x x2 new new2 alike h some k some2 = (
   refused_line f (st, x) h.0 some ∙ sym (refused_line f (st2, x2) k.0 some2),
   alike_after old old2 new new2 alike h.1 k.1,
 )

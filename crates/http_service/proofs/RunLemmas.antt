@@ -3,16 +3,18 @@ use Rattle.std.proofs.Common.{◌≡◌, ℕ, zero, suc, Bool, true, false, List
 use Rattle.std.proofs.Common.{inr}
 use Rattle.http.specs.declared.status.StatusCode.{StatusCode}
 use Rattle.http_streams.specs.Stream.{Closes, Ends, Exchanges, Halts, Rests, Serves, Stops}
-use Rattle.http_replies.specs.site_steps.schema.Schemas.{StatedSchema}
-use Rattle.http_replies.specs.site_steps.schema.Views.{schema_view}
-use Rattle.http_replies.specs.site_steps.stamped_store.Store.{Store, store_of, updates}
-use Rattle.http_replies.specs.site_steps.SiteViews.{SiteView, schema_of, store_in, IsSameSite}
-use Rattle.http_replies.specs.site_steps.Runs.{Run, took}
-use Rattle.http_replies.specs.site_steps.Inputs.{Input}
-use Rattle.http_replies.specs.site_steps.declared.reply.Reply.{Reply}
+use Rattle.site_calls.specs.http_replies.site_steps.schema.Schemas.{StatedSchema}
+use Rattle.site_calls.specs.http_replies.site_steps.schema.Views.{schema_view}
+use Rattle.site_calls.specs.http_replies.site_steps.stamped_store.Store.{Store, store_of, updates}
+use Rattle.site_calls.specs.http_replies.site_steps.SiteViews.{SiteView, schema_of, store_in, IsSameSite}
+use Rattle.site_calls.specs.http_replies.site_steps.Runs.{Run, took}
+use Rattle.site_calls.specs.http_replies.site_steps.Inputs.{Input}
+use Rattle.site_calls.specs.http_replies.site_steps.declared.reply.Reply.{Reply}
 use Rattle.http_routes.specs.Routes.{route_stated}
-use Rattle.http_service.specs.Asked.{Asked, asked, hands, refused, unserved}
-use Rattle.http_service.specs.Answered.{answers, Replies}
+use Rattle.site_calls.specs.Asked.{Asked, gives, rejects, unserved}
+use Rattle.http_service.specs.Asked.{asked}
+use Rattle.site_calls.specs.Answers.{Replies}
+use Rattle.http_service.specs.Answered.{answers}
 use Rattle.http_service.specs.Streams.{inputs_of, AskFor, LeavesRun}
 
 -- the run of some requests, its store not yet told
@@ -39,12 +41,12 @@ before : (a : Asked) (old mid new : SiteView) (status : StatusCode) (line : List
     → Run (schema_of mid) mid.name (store_in mid) is rs (store_in new)
     → (all : List Reply) × Run (schema_of old) old.name (store_in old) (inputs_of a ++ is) all (store_in new)
     × IsSameSite old new
-before (hands i) old mid new status line is rs h same run = (
+before (gives i) old mid new status line is rs h same run = (
   h.0 ∷ rs,
   (store_in mid, h.1, same_run old mid (store_in mid) is rs (store_in new) h.2 run),
   (same.0 ∙ h.2.0, same.1 ∙ h.2.1),
 )
-before (refused f) old mid new status line is rs h same run =
+before (rejects f) old mid new status line is rs h same run =
     let e = unchanged old mid h.1 in (
       rs,
       subst (λ (s : Store). Run (schema_of old) old.name s is rs (store_in new)) (ap store_in h.1)

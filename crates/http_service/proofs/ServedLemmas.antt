@@ -8,11 +8,13 @@ use Rattle.http_streams.specs.Serving.{EndsAs, IsAnswered}
 use Rattle.http_streams.specs.declared.serve.StreamFault.{StreamFault}
 use Rattle.http_streams.specs.declared.serve.StreamFault.TheVariants as fault
 use Rattle.http_streams.proofs.Simulated.{answered}
-use Rattle.http_replies.specs.site_steps.SiteViews.{SiteView}
-use Rattle.http_replies.specs.site_steps.Inputs.{Input}
+use Rattle.site_calls.specs.http_replies.site_steps.SiteViews.{SiteView}
+use Rattle.site_calls.specs.http_replies.site_steps.Inputs.{Input}
 use Rattle.http_routes.specs.Routes.{route_stated}
-use Rattle.http_service.specs.Asked.{Asked, asked, hands, refused, unserved}
-use Rattle.http_service.specs.Answered.{Replies, answers}
+use Rattle.site_calls.specs.Asked.{Asked, gives, rejects, unserved}
+use Rattle.http_service.specs.Asked.{asked}
+use Rattle.site_calls.specs.Answers.{Replies}
+use Rattle.http_service.specs.Answered.{answers}
 use Rattle.http_service.specs.Streams.{inputs_of, AskFor, LeavesRun}
 use Rattle.http_service.specs.Serving.{Served, unasked, Continues, continues_run, IsServed}
 use Rattle.http_service.proofs.RunLemmas.{RunsTake, rests_run, ends_run, stops_run}
@@ -21,8 +23,8 @@ use Rattle.http_service.proofs.RunLemmas.{RunsTake, rests_run, ends_run, stops_r
 
 replied : (a : Asked) (v w : Served) (status : StatusCode) (line : List ℕ) → Continues v a status line w
     → Replies v.site a status line w.site
-replied (hands i) v w status line h = (h.0, h.1, h.2, h.3)
-replied (refused f) v w status line h = h.0
+replied (gives i) v w status line h = (h.0, h.1, h.2, h.3)
+replied (rejects f) v w status line h = h.0
 replied (unserved s) v w status line h = h.0
 
 one_answer : (v w : Served) (s : SiteView) (m t body : List ℕ) (status : StatusCode) (line : List ℕ) → v.site ≡ s
@@ -52,8 +54,8 @@ asks_none v w bytes e = record {
 
 handed : (a : Asked) (v w : Served) (status : StatusCode) (line : List ℕ) → Continues v a status line w
     → w.inputs ≡ v.inputs ++ inputs_of a
-handed (hands i) v w status line h = h.4
-handed (refused f) v w status line h = h.1 ∙ sym (append-nil v.inputs)
+handed (gives i) v w status line h = h.4
+handed (rejects f) v w status line h = h.1 ∙ sym (append-nil v.inputs)
 handed (unserved s) v w status line h = h.1 ∙ sym (append-nil v.inputs)
 
 asks_more : (v m w : Served) (bytes after : List ℕ) (last : Bool) (out : List ℕ)
@@ -128,6 +130,7 @@ module _ {R W : Type 0} (left : R → Option (List ℕ)) (read_failures : R → 
   leaves_as law first last before after old new bytes out (Err fault.Read) h = rests_run law old new bytes out h.0
   leaves_as law first last before after old new bytes out (Err fault.NoMemory) h = rests_run law old new bytes out h.0
   leaves_as law first last before after old new bytes out (Err fault.Write) h = stops_run law old new bytes out h.0
+  leaves_as law first last before after old new bytes out (Err fault.Log) h = stops_run law old new bytes out h.0
 
   pub run_left : RunsTake → (first last : R) (before after : W) (old new : SiteView)
       (result : Result (Unit {0}) StreamFault) → Called first last before after old new result
@@ -149,6 +152,7 @@ module _ {R W : Type 0} (left : R → Option (List ℕ)) (read_failures : R → 
   asks_as first last before after v w bytes out (Err fault.Read) h = asks_rests v w bytes out h.0
   asks_as first last before after v w bytes out (Err fault.NoMemory) h = asks_rests v w bytes out h.0
   asks_as first last before after v w bytes out (Err fault.Write) h = asks_stops v w bytes out h.0
+  asks_as first last before after v w bytes out (Err fault.Log) h = asks_stops v w bytes out h.0
 
   pub inputs_asked : (first last : R) (before after : W) (old new : SiteView) (result : Result (Unit {0}) StreamFault)
       (h : Called first last before after old new result)

@@ -4,9 +4,11 @@ pub mod Answered
 pub mod Streams
 pub mod Serving
 -- crates below, passed on to those above
-pub use Rattle.http_replies.specs.answer_lines
-pub use Rattle.http_replies.specs.entity_data
-pub use Rattle.http_replies.specs.policy_grammar
-pub use Rattle.http_replies.specs.site_steps
-pub use Rattle.http_replies.specs as http_replies
-pub use Rattle.http_replies.specs.site
+pub use Rattle.site_calls.specs.http_replies.answer_lines
+pub use Rattle.site_calls.specs.http_replies.entity_data
+pub use Rattle.site_calls.specs.http_replies.policy_grammar
+pub use Rattle.site_calls.specs.http_replies.site_steps
+pub use Rattle.http_logs.specs as http_logs
+pub use Rattle.http_streams.specs as http_streams
+pub use Rattle.site_calls.specs.http_replies
+pub use Rattle.site_calls.specs.http_replies.site

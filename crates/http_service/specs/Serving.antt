@@ -5,14 +5,16 @@ use Rattle.std.specs.Prelude.{◌≡◌, ℕ, List, [], ◌∷◌, ◌++◌, Opt
 use Rattle.http.specs.declared.status.StatusCode.{StatusCode}
 use Rattle.http_streams.specs.Serving.{IsAnswered}
 use Rattle.http_streams.specs.declared.serve.StreamFault.{StreamFault}
-use Rattle.http_replies.specs.site_steps.stamped_store.Store.{store_of, updates}
-use Rattle.http_replies.specs.site_steps.SiteViews.{SiteView, schema_of, store_in, IsSameSite}
-use Rattle.http_replies.specs.site_steps.Runs.{Step, Run, took}
-use Rattle.http_replies.specs.site_steps.Inputs.{Input}
-use Rattle.http_replies.specs.site_steps.declared.reply.Reply.{Reply}
+use Rattle.site_calls.specs.http_replies.site_steps.stamped_store.Store.{store_of, updates}
+use Rattle.site_calls.specs.http_replies.site_steps.SiteViews.{SiteView, schema_of, store_in, IsSameSite}
+use Rattle.site_calls.specs.http_replies.site_steps.Runs.{Step, Run, took}
+use Rattle.site_calls.specs.http_replies.site_steps.Inputs.{Input}
+use Rattle.site_calls.specs.http_replies.site_steps.declared.reply.Reply.{Reply}
 use Rattle.http_routes.specs.Routes.{route_stated}
-use Rattle.http_service.specs.Asked.{Asked, asked, hands, refused, unserved}
-use Rattle.http_service.specs.Answered.{Replies, told}
+use Rattle.site_calls.specs.Asked.{Asked, gives, rejects, unserved}
+use Rattle.http_service.specs.Asked.{asked}
+use Rattle.site_calls.specs.Answers.{Replies}
+use Rattle.site_calls.specs.Reports.{reported}
 
 -- a site in the midst of a stream: the inputs that the requests so far have handed to it, and its reply to each
 pub record Served : Type 0 where
@@ -27,12 +29,12 @@ unasked site = record { site = site; inputs = []; replies = [] }
 -- One request. An input is one step of the site, whose reply is told and is the next of the run's; what is refused
 -- before, and what no operation is asked by, is told as ever and is no part of the run.
 abbrev pub Continues : Served → Asked → StatusCode → List ℕ → Served → Type 0
-Continues old (hands i) status line new =
+Continues old (gives i) status line new =
     (r : Reply) × Step (schema_of old.site) old.site.name (store_in old.site) i r (store_in new.site)
-    × IsSameSite old.site new.site × ((status, line) ≡ told r)
+    × IsSameSite old.site new.site × ((status, line) ≡ reported r)
     × (new.inputs ≡ old.inputs ++ i ∷ []) × (new.replies ≡ old.replies ++ r ∷ [])
-Continues old (refused f) status line new =
-    Replies old.site (refused f) status line new.site × (new.inputs ≡ old.inputs) × (new.replies ≡ old.replies)
+Continues old (rejects f) status line new =
+    Replies old.site (rejects f) status line new.site × (new.inputs ≡ old.inputs) × (new.replies ≡ old.replies)
 Continues old (unserved s) status line new =
     Replies old.site (unserved s) status line new.site × (new.inputs ≡ old.inputs) × (new.replies ≡ old.replies)
 

@@ -3,18 +3,19 @@
 use Rattle.std.specs.Prelude.{◌≡◌, ℕ, suc, zero, List, [], ◌∷◌, ◌++◌}
 use Rattle.httparse.specs.Grammar.{RequestHead}
 use Rattle.http_streams.specs.http_framing.Request.{ReadsWhole}
-use Rattle.http_replies.specs.site_steps.stamped_store.Store.{store_of, updates}
-use Rattle.http_replies.specs.site_steps.SiteViews.{SiteView, schema_of, store_in, IsSameSite}
-use Rattle.http_replies.specs.site_steps.Runs.{Run, took}
-use Rattle.http_replies.specs.site_steps.Inputs.{Input}
-use Rattle.http_replies.specs.site_steps.declared.reply.Reply.{Reply}
+use Rattle.site_calls.specs.http_replies.site_steps.stamped_store.Store.{store_of, updates}
+use Rattle.site_calls.specs.http_replies.site_steps.SiteViews.{SiteView, schema_of, store_in, IsSameSite}
+use Rattle.site_calls.specs.http_replies.site_steps.Runs.{Run, took}
+use Rattle.site_calls.specs.http_replies.site_steps.Inputs.{Input}
+use Rattle.site_calls.specs.http_replies.site_steps.declared.reply.Reply.{Reply}
 use Rattle.http_routes.specs.Routes.{route_stated}
-use Rattle.http_service.specs.Asked.{Asked, asked, hands, refused, unserved}
+use Rattle.site_calls.specs.Asked.{Asked, gives, rejects, unserved}
+use Rattle.http_service.specs.Asked.{asked}
 
 -- the inputs that a request hands to the site: one, or none
 abbrev pub inputs_of : Asked → List Input
-inputs_of (hands i) = i ∷ []
-inputs_of (refused f) = []
+inputs_of (gives i) = i ∷ []
+inputs_of (rejects f) = []
 inputs_of (unserved s) = []
 
 -- bytes are n requests and then rest, which ask for these inputs in their order

@@ -1,1 +1,1 @@
-pub mod Dealing
+pub mod Noting

@@ -5,21 +5,23 @@ ghost use Rattle.http.specs.declared.status.StatusCode.{StatusCode};
 ghost use Rattle.http_streams.specs.Laws.{AgreeOn, AnswersAll, BeginsAnswer, HasOneAnswer, StopsIn, in_memory};
 ghost use Rattle.http_streams.specs.Serving.{IsAnswered};
 ghost use Rattle.http_streams.specs.Stream.{Ends, Rests, Stops};
-ghost use Rattle.http_replies.specs.site_steps.SiteViews.{SiteView};
-ghost use Rattle.http_replies.specs.site_steps.Inputs.{Input};
-ghost use Rattle.http_replies.specs.site_steps.declared.reply.Reply.{Reply};
-ghost use Rattle.http_replies.specs.site_steps.schema.Views.{IsStated};
-ghost use Rattle.http_replies.specs.site_steps.Right.{IsHarmlessReply};
-ghost use Rattle.http_service.specs.Asked.{hands};
-ghost use Rattle.http_service.specs.Answered.{IsAlike, Replies, answers, told};
+ghost use Rattle.site_calls.specs.http_replies.site_steps.SiteViews.{SiteView};
+ghost use Rattle.site_calls.specs.http_replies.site_steps.Inputs.{Input};
+ghost use Rattle.site_calls.specs.http_replies.site_steps.declared.reply.Reply.{Reply};
+ghost use Rattle.site_calls.specs.http_replies.site_steps.schema.Views.{IsStated};
+ghost use Rattle.site_calls.specs.http_replies.site_steps.Right.{IsHarmlessReply};
+ghost use Rattle.site_calls.specs.Answers.{Replies};
+ghost use Rattle.site_calls.specs.Asked.{gives};
+ghost use Rattle.site_calls.specs.Reports.{reported};
+ghost use Rattle.http_service.specs.Answered.{IsAlike, answers};
 ghost use Rattle.http_service.specs.Serving.{IsServed};
 ghost use Rattle.http_service.specs.Streams.{AskFor, LeavesRun};
 
 use crate::site_service::Stated;
-use http_replies::{inputs_have_one_outcome, runs_are_sound, runs_leave_what_they_took};
 use http_streams::laws::{begins_answer, one_answer};
 use http_streams::serve::StreamFault;
 use http_streams::{Sink, Source};
+use site_calls::{inputs_have_one_outcome, runs_are_sound, runs_leave_what_they_took};
 
 /// However a stream of requests ends, the site goes on by a run of the inputs that the requests ask for, in their
 /// order: so its store is that of the updates that it had and of those that it took.
@@ -83,8 +85,8 @@ pub fn cuts_make_no_difference()
 /// number leaves its bounds.
 pub fn served_answers_are_sound()
     ensures { (old new : SiteView) (input : Input) (status : StatusCode) (line : List ℕ) → IsStated old.schema
-        → Replies old (hands input) status line new
-        → (reply : Reply) × IsHarmlessReply reply × ((status, line) ≡ told reply) }
+        → Replies old (gives input) status line new
+        → (reply : Reply) × IsHarmlessReply reply × ((status, line) ≡ reported reply) }
 {
     runs_are_sound();
 }

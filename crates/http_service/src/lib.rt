@@ -1,20 +1,14 @@
 //! The service over a site: handlers of the routes of HTTP, and streams of requests that are answered by it.
 //!
-//! Nothing here opens a socket. What a request asks, and what is told of it, are functions of specs/; between the two
-//! stands one step of the site.
+//! Nothing here opens a socket. specs/ defines what a request asks; `site_calls` defines how that is answered, by at
+//! most one step of the site.
 #![tactic(auto)]
 
 mod handlers;
 mod laws;
-mod replies;
 mod serving;
 mod site_service;
 
-pub use http_replies::{
-    Answer, Event, EventReply, Found, Input, LINE_ROOM, Operation, Put, Refusal, Reply, Site,
-    SiteFault, SiteName, Stamp, Taken, World, answer_line, error_line, report_fault, report_put,
-    report_stamp, report_taken, run, simulate, take_bytes,
-};
 pub use http_streams::fetch::{FetchFault, fetch};
 pub use http_streams::serve::StreamFault;
 pub use http_streams::{
@@ -24,5 +18,10 @@ pub use laws::{
     cuts_make_no_difference, requests_have_one_reply, served_answers_are_sound,
     served_streams_are_answered, streams_leave_runs,
 };
-pub use serving::serve;
-pub use site_service::SiteService;
+pub use serving::{serve, serve_logged};
+pub use site_calls::{
+    Answer, Event, EventReply, Found, Input, LINE_ROOM, Operation, Put, Refusal, Reply, Site,
+    SiteFault, SiteName, Stamp, Taken, World, answer_line, error_line, report_fault, report_put,
+    report_stamp, report_taken, run, simulate, take_bytes,
+};
+pub use site_service::{LoggedService, SiteService};

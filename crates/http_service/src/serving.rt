@@ -1,12 +1,18 @@
 //! Streams of requests to a site.
-ghost use Rattle.std.specs.Prelude.{◌≡◌};
+ghost use Rattle.std.specs.Prelude.{◌≡◌, ◌≢◌, ◌≤◌, Err};
+ghost use Rattle.std.specs.Vec.{vec_capacity};
+ghost use Rattle.http_logs.specs.LogLines.{IsLogLine, unread_line};
+ghost use Rattle.http_streams.specs.Logs.{IsLogged};
 ghost use Rattle.http_service.specs.Serving.{IsServed};
 
-use crate::site_service::SiteService;
-use http_replies::{Site, runs_leave_what_they_took};
-use http_streams::serve::{StreamFault, serve as serve_stream};
+use crate::site_service::{LoggedService, SiteService};
+use http_logs::UNREAD_ROOM;
+use http_streams::serve::{
+    StreamFault, serve as serve_stream, serve_logged as serve_stream_logged,
+};
 use http_streams::{Sink, Source};
 use json_values::Scratch;
+use site_calls::{Site, runs_leave_what_they_took};
 use std::alloc::Global;
 
 /// Answers a stream over a borrowed site, which stays the same one.
@@ -19,6 +25,7 @@ fn serve_borrowed<R: Source, W: Sink>(
     ensures same_reference { service.new.site.ghost_name ≡ service.old.site.ghost_name }
     ensures served { IsServed R.left R.failed R.reads R.fails W.holds W.failed W.fails reader.old reader.new writer.old
         writer.new service.old.site.now service.new.site.now result }
+    ensures unlogged { result ≢ Err StreamFault.Log }
 {
     runs_leave_what_they_took();
     serve_stream(alloc, service, reader, writer)
@@ -36,8 +43,10 @@ pub fn serve<R: Source, W: Sink>(
     reader: &mut R,
     writer: &mut W,
 ) -> Result<(), StreamFault>
-    ensures { IsServed R.left R.failed R.reads R.fails W.holds W.failed W.fails reader.old reader.new writer.old
+    ensures served { IsServed R.left R.failed R.reads R.fails W.holds W.failed W.fails reader.old reader.new writer.old
         writer.new site.old site.new result }
+    // Without a log no line is cut.
+    ensures unlogged { result ≢ Err StreamFault.Log }
 {
     let mut scratch = Scratch::new(alloc);
     let mut service = SiteService {
@@ -46,4 +55,54 @@ pub fn serve<R: Source, W: Sink>(
         site,
     };
     serve_borrowed(alloc, &mut service, reader, writer)
+}
+
+/// Answers a stream with a log over a borrowed site, which stays the same one.
+fn serve_borrowed_logged<R: Source, W: Sink, L: Sink>(
+    alloc: Global,
+    logged: &mut LoggedService<'_>,
+    reader: &mut R,
+    writer: &mut W,
+    log: &mut L,
+    line: &mut Vec<u8>,
+) -> Result<(), StreamFault>
+    requires { UNREAD_ROOM ≤ vec_capacity line.old }
+    ensures same_reference { logged.new.service.site.ghost_name ≡ logged.old.service.site.ghost_name }
+    ensures served { IsServed R.left R.failed R.reads R.fails W.holds W.failed W.fails reader.old reader.new writer.old
+        writer.new logged.old.service.site.now logged.new.service.site.now result }
+    ensures logged { IsLogged IsLogLine unread_line L.holds L.failed L.fails R.left W.holds reader.old reader.new
+        writer.old writer.new log.old log.new result }
+{
+    runs_leave_what_they_took();
+    serve_stream_logged(alloc, logged, reader, writer, log, line)
+}
+
+/// Serves like [`serve`], with a log: the line of each reply is written to `log` before anything of the reply goes out
+/// (docs/formats.md). If it can't be written whole, nothing of the reply goes out and the stream ends with
+/// [`StreamFault::Log`]; a change that the request made stays made.
+pub fn serve_logged<R: Source, W: Sink, L: Sink>(
+    alloc: Global,
+    site: &mut Site,
+    reader: &mut R,
+    writer: &mut W,
+    log: &mut L,
+) -> Result<(), StreamFault>
+    ensures served { IsServed R.left R.failed R.reads R.fails W.holds W.failed W.fails reader.old reader.new writer.old
+        writer.new site.old site.new result }
+    ensures logged { IsLogged IsLogLine unread_line L.holds L.failed L.fails R.left W.holds reader.old reader.new
+        writer.old writer.new log.old log.new result }
+{
+    runs_leave_what_they_took();
+    let Ok(mut line) = Vec::with_capacity(alloc, UNREAD_ROOM) else {
+        return Err(StreamFault::NoMemory);
+    };
+    let mut kept = Scratch::new(alloc);
+    let mut logged = LoggedService {
+        service: SiteService {
+            alloc,
+            kept: &mut kept,
+            site,
+        },
+    };
+    serve_borrowed_logged(alloc, &mut logged, reader, writer, log, &mut line)
 }

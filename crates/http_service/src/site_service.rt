@@ -1,9 +1,14 @@
 //! A site as a service of HTTP.
-use crate::handlers::answer;
+ghost use Rattle.std.specs.Prelude.{◌≡◌, ◌≤◌, []};
+ghost use Rattle.std.specs.Vec.{vec_capacity};
+ghost use Rattle.http_logs.specs.LogLines.{unread_line};
+
+use crate::handlers::{answer, answer_with_line};
 use http::StatusCode;
-use http_replies::Site;
+use http_logs::put_unread_line;
 use http_streams::service::{Answers, Service};
 use json_values::Scratch;
+use site_calls::Site;
 use std::alloc::Global;
 use std::marker::Model;
 
@@ -30,8 +35,8 @@ pub struct Stated {
 }
 
 impl Model for Stated {
-    ghost use Rattle.http_replies.specs.site_steps.SiteViews.{SiteView};
-    ghost use Rattle.http_replies.specs.site_steps.contracts.site.Site as row;
+    ghost use Rattle.site_calls.specs.http_replies.site_steps.SiteViews.{SiteView};
+    ghost use Rattle.site_calls.specs.http_replies.site_steps.contracts.site.Site as row;
 
     ghost Value = { SiteView };
 
@@ -57,7 +62,68 @@ impl Service for SiteService<'_> {
         target: &[u8],
         body: &[u8],
         text: &mut Vec<u8>,
+        _line: &mut Vec<u8>,
     ) -> StatusCode {
         answer(self.alloc, self.kept, self.site, method, target, body, text)
+    }
+
+    fn put_refusal_line(_status: StatusCode, line: &mut Vec<u8>)
+        requires empty { line.old.items ≡ [] }
+        ensures line { line.new.items ≡ [] }
+        ensures kept { vec_capacity line.old ≤ vec_capacity line.new }
+    {
+        let _ = line;
+    }
+}
+
+/// A site that answers requests of HTTP, and states the line of each for a log.
+#[derive(Drop)]
+pub struct LoggedService<'a> {
+    pub(crate) service: SiteService<'a>,
+}
+
+impl Answers for LoggedService<'_> {
+    ghost use Rattle.http_service.specs.Answered.{answers_logged};
+
+    ghost answers = { answers_logged };
+}
+
+impl Service for LoggedService<'_> {
+    ghost use Rattle.http_logs.specs.LogLines.{IsLogLine, unread_line};
+
+    ghost lines = { IsLogLine };
+
+    ghost refusal_line = { unread_line };
+
+    ghost line_room = { 64 };
+
+    fn call(
+        &mut self,
+        method: &[u8],
+        target: &[u8],
+        body: &[u8],
+        text: &mut Vec<u8>,
+        line: &mut Vec<u8>,
+    ) -> StatusCode {
+        let service = &mut self.service;
+        answer_with_line(
+            service.alloc,
+            service.kept,
+            service.site,
+            method,
+            target,
+            body,
+            text,
+            line,
+        )
+    }
+
+    fn put_refusal_line(status: StatusCode, line: &mut Vec<u8>)
+        requires empty { line.old.items ≡ [] }
+        requires room { 64 ≤ vec_capacity line.old }
+        ensures line { line.new.items ≡ unread_line status }
+        ensures kept { vec_capacity line.old ≤ vec_capacity line.new }
+    {
+        put_unread_line(line, status)
     }
 }

@@ -1,4 +1,5 @@
 pub mod BeginLemmas
+mod LogLemmas
 pub mod MemoryLemmas
 pub mod Simulated
 pub mod StreamLemmas

@@ -133,6 +133,9 @@ module _ {S T : Type 0} (says : Answering S) (tells : Answering T) (Meets : S â†
     ends_as first last before after a b x bytes out (Err fault.Write) meets h =
         let all = stops a b x bytes out meets h.0 in
         (all.0, (all.1, keeps_up a x first last bytes out meets h.1, h.2, h.3), all.2)
+    ends_as first last before after a b x bytes out (Err fault.Log) meets h =
+        let all = stops a b x bytes out meets h.0 in
+        (all.0, (all.1, keeps_up a x first last bytes out meets h.1, h.2, h.3), all.2)
 
     -- the same was read and written, and it ended the same way
     pub answered : (first last : R) (before after : W) (a b : S) (x : T) (result : Result (Unit {0}) StreamFault)

@@ -1,6 +1,7 @@
 pub mod Reads
 pub mod Stream
 pub mod Serving
+pub mod Logs
 pub mod Laws
 -- crates below, passed on to those above
 pub use Rattle.http_devices.specs as http_devices

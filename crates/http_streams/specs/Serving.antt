@@ -19,6 +19,8 @@ module _ {S R W : Type 0} (answers : Answering S) (left : R → Option (List ℕ
   -- NoMemory: neither device failed, and all that was read is answered: memory is asked for before bytes are read.
   -- Write: the last write failed; some requests are answered, and of one more reply a first part may have gone out. All
   -- that had come before the last read was answered.
+  -- Log: a line was not written whole, and nothing of its reply went out; else like Write, and no device failed but
+  -- the log.
   abbrev pub EndsAs : R → R → W → W → S → S → List ℕ → List ℕ → Result (Unit {0}) StreamFault → Type 0
   EndsAs first last before after old new bytes out (Ok done) =
       ((Rests answers old bytes out new × IsAtEnd (left last) × EndsByOneRead left reads first last bytes bytes)
@@ -34,6 +36,9 @@ module _ {S R W : Type 0} (answers : Answering S) (left : R → Option (List ℕ
   EndsAs first last before after old new bytes out (Err fault.Write) =
       Stops answers old bytes out new × KeepsUp answers left reads old first last bytes out
       × FailsAtLast write_failures write_fails before after × (read_failures last ≡ read_failures first)
+  EndsAs first last before after old new bytes out (Err fault.Log) =
+      Stops answers old bytes out new × KeepsUp answers left reads old first last bytes out
+      × (write_failures after ≡ write_failures before) × (read_failures last ≡ read_failures first)
 
   -- from the reader first, the writer before and the state old the call led to last, after and new: out was written for
   -- bytes, which were read, and it ended as its result says

@@ -7,12 +7,13 @@
 mod buffers;
 pub mod fetch;
 pub mod laws;
+mod nowhere;
 pub mod serve;
 pub mod service;
 
 pub use http_devices::devices::{Counted, Sink, Source};
 pub use http_devices::memory::{Fed, Kept, Plan};
-pub use http_framing::{Ask, is_host, is_method, is_target};
+pub use http_framing::{Ask, MAX_BODY, is_host, is_method, is_target};
 
 /// The most bytes that one read takes.
 pub const MAX_READ: usize = 16_384;

@@ -1,11 +1,12 @@
 //! Answers the requests of a stream.
-ghost use Rattle.std.specs.Prelude.{◌≡◌, ◌≤◌, ◌<◌, ◌+◌, ◌⊎◌, ℕ, List, ◌++◌, [], true, Err, length, drop, Ok};
+ghost use Rattle.std.specs.Prelude.{◌≡◌, ◌≢◌, ◌≤◌, ◌<◌, ◌+◌, ◌⊎◌, ℕ, List, ◌++◌, [], true, Err, length, drop, Ok};
 ghost use Rattle.std.specs.Prelude.{None, OnOk, OnErr, IfOk, IfSome, vec_len};
 ghost use Rattle.std.specs.Vec.{vec_capacity};
 ghost use Rattle.std.specs.Io.KnownBytes.{Appends};
 ghost use Rattle.http_devices.specs.Devices.{FailsAtLast};
 ghost use Rattle.http_framing.specs.http_texts.ReplyText.{error_line, reply_text};
 ghost use Rattle.http_framing.specs.Request.{IsUnfinishedBelow, IsWholeAt};
+ghost use Rattle.http_streams.specs.Logs.{AreNoted, IsLastNoted, IsLogged, IsSentInPart, notes};
 ghost use Rattle.http_streams.specs.Serving.{IsAnswered};
 ghost use Rattle.http_streams.specs.Stream.{Ends, Exchanges, Halts, Serves, Stops};
 ghost use Rattle.http_streams.specs.declared.TheConstants.{REPLY_ROOM};
@@ -14,9 +15,10 @@ use crate::MAX_READ;
 use crate::buffers::{
     ReadFault, drop_front, read_more, room_for_heads, room_for_reads, room_for_replies,
 };
+use crate::nowhere::Nowhere;
 use crate::service::Service;
 use http::StatusCode;
-use http_devices::devices::{DeviceFailed, Sink, Source, write_all};
+use http_devices::devices::{Sink, Source, write_all};
 use http_framing::cut::{Cut, Parts, cut_request};
 use http_framing::{HEAD_ROOM, MAX_HEAD, REFUSAL_ROOM, put_head, put_refusal};
 use httparse::spans::HeaderSpan;
@@ -32,6 +34,9 @@ pub enum StreamFault {
     /// The writer failed.
     #[error("network 71: writing failed")]
     Write,
+    /// The log failed: the line of a reply was not written whole, and nothing of that reply went out.
+    #[error("network 76: writing the log failed")]
+    Log,
     /// Memory was refused, before anything was read or for what was to be read next. No reply takes any, but for what
     /// the service asks.
     #[error("network 1: out of memory")]
@@ -49,8 +54,32 @@ pub fn serve<S: Service, R: Source, W: Sink>(
     reader: &mut R,
     writer: &mut W,
 ) -> Result<(), StreamFault>
-    ensures { IsAnswered S.answers R.left R.failed R.reads R.fails W.holds W.failed W.fails reader.old reader.new
-        writer.old writer.new service.old service.new result }
+    requires { S.line_room ≡ 0 }
+    ensures answered { IsAnswered S.answers R.left R.failed R.reads R.fails W.holds W.failed W.fails reader.old
+        reader.new writer.old writer.new service.old service.new result }
+    // Without a log no line is cut.
+    ensures unlogged { result ≢ Err StreamFault.Log }
+{
+    let mut line = Vec::new(alloc);
+    serve_logged(alloc, service, reader, writer, &mut Nowhere, &mut line)
+}
+
+/// Serves a stream like [`serve`], with a log: the line of each reply, that of a request that is refused too, is
+/// written to `log` before anything of the reply goes out. If the line is not written whole, nothing of the reply goes
+/// out, and the stream ends with [`StreamFault::Log`]. `line` is memory for one line.
+pub fn serve_logged<S: Service, R: Source, W: Sink, L: Sink>(
+    alloc: Global,
+    service: &mut S,
+    reader: &mut R,
+    writer: &mut W,
+    log: &mut L,
+    line: &mut Vec<u8>,
+) -> Result<(), StreamFault>
+    requires { S.line_room ≤ vec_capacity line.old }
+    ensures answered { IsAnswered S.answers R.left R.failed R.reads R.fails W.holds W.failed W.fails reader.old
+        reader.new writer.old writer.new service.old service.new result }
+    ensures logged { IsLogged S.lines S.refusal_line L.holds L.failed L.fails R.left W.holds reader.old reader.new
+        writer.old writer.new log.old log.new result }
 {
     let Ok((mut room, mut chunk, mut text)) = rooms(alloc) else {
         return Err(StreamFault::NoMemory);
@@ -60,9 +89,11 @@ pub fn serve<S: Service, R: Source, W: Sink>(
         service,
         reader,
         writer,
+        log,
         &mut room,
         &mut chunk,
         &mut text,
+        line,
         &mut buffer,
     )
 }
@@ -91,13 +122,15 @@ struct Unanswered {
 }
 
 /// Reads and answers by turns, in room that is there. `buffer` has what is read and not yet answered.
-fn answer_stream<S: Service, R: Source, W: Sink>(
+fn answer_stream<S: Service, R: Source, W: Sink, L: Sink>(
     service: &mut S,
     reader: &mut R,
     writer: &mut W,
+    log: &mut L,
     room: &mut [HeaderSpan],
     chunk: &mut [u8],
     text: &mut Vec<u8>,
+    line: &mut Vec<u8>,
     buffer: &mut Vec<u8>,
 ) -> Result<(), StreamFault>
     requires heads { MAX_HEAD ≤ length room.old }
@@ -105,9 +138,12 @@ fn answer_stream<S: Service, R: Source, W: Sink>(
     requires most { length chunk.old ≤ MAX_READ }
     requires head { HEAD_ROOM ≤ vec_len text.old }
     requires room { HEAD_ROOM + REPLY_ROOM ≤ vec_capacity text.old }
+    requires line_room { S.line_room ≤ vec_capacity line.old }
     requires empty { buffer.old.items ≡ [] }
-    ensures { IsAnswered S.answers R.left R.failed R.reads R.fails W.holds W.failed W.fails reader.old reader.new
-        writer.old writer.new service.old service.new result }
+    ensures answered { IsAnswered S.answers R.left R.failed R.reads R.fails W.holds W.failed W.fails reader.old
+        reader.new writer.old writer.new service.old service.new result }
+    ensures logged { IsLogged S.lines S.refusal_line L.holds L.failed L.fails R.left W.holds reader.old reader.new
+        writer.old writer.new log.old log.new result }
 {
     let mut needed = 0;
     for turn in 0..u64::MAX {
@@ -121,16 +157,26 @@ fn answer_stream<S: Service, R: Source, W: Sink>(
             // a whole head told where the request ends, so it is not read anew with each piece of the body
             continue;
         }
-        match answer_all(service, writer, buffer, room, text) {
+        match answer_all(service, writer, log, buffer, room, text, line) {
             Ok(Some(left)) => {
                 drop_front(buffer, left.at);
                 needed = left.needed;
             }
             Ok(None) => return Ok(()),
-            Err(_) => return Err(StreamFault::Write),
+            Err(Broken::Write) => return Err(StreamFault::Write),
+            Err(Broken::Log) => return Err(StreamFault::Log),
         }
     }
     Err(StreamFault::Read)
+}
+
+/// Which device failed before a reply was out.
+#[derive(Clone, Copy)]
+enum Broken {
+    /// The writer, behind the reply's line.
+    Write,
+    /// The log, before anything of the reply went out.
+    Log,
 }
 
 /// Puts the head of a reply before the body that the text has, and says where it begins.
@@ -144,92 +190,150 @@ fn finish(text: &mut Vec<u8>, last: bool, status: StatusCode) -> usize
     put_head(text.as_mut_slice(), HEAD_ROOM, last, status)
 }
 
+/// Writes the line of a reply to the log, and then the reply.
+fn send<W: Sink, L: Sink>(
+    writer: &mut W,
+    log: &mut L,
+    line: &[u8],
+    reply: &[u8],
+) -> Result<(), Broken>
+    ensures ok { OnOk result (Appends (L.holds log.old) (L.holds log.new) line.now
+        × Appends (W.holds writer.old) (W.holds writer.new) reply.now) }
+    ensures err { OnErr result (IsSentInPart L.holds W.holds line.now reply.now log.old log.new writer.old writer.new) }
+    ensures write { result ≡ Err Broken.Write → FailsAtLast W.failed W.fails writer.old writer.new
+        × (L.failed log.new ≡ L.failed log.old) }
+    ensures log { result ≡ Err Broken.Log → FailsAtLast L.failed L.fails log.old log.new
+        × (W.failed writer.new ≡ W.failed writer.old) }
+    ensures count { OnOk result ((W.failed writer.new ≡ W.failed writer.old) × (L.failed log.new ≡ L.failed log.old)) }
+{
+    match write_all(log, line) {
+        Ok(()) => {}
+        Err(_) => return Err(Broken::Log),
+    }
+    match write_all(writer, reply) {
+        Ok(()) => Ok(()),
+        Err(_) => Err(Broken::Write),
+    }
+}
+
 /// Answers one request, by one write where the writer takes it whole. Room for its head and a short body is there, so
 /// that only the service may ask for memory.
-fn answer<S: Service, W: Sink>(
+fn answer<S: Service, W: Sink, L: Sink>(
     service: &mut S,
     writer: &mut W,
+    log: &mut L,
     bytes: &[u8],
     parts: &Parts,
     text: &mut Vec<u8>,
-) -> Result<(), DeviceFailed>
+    line: &mut Vec<u8>,
+) -> Result<(), Broken>
     requires whole { IsWholeAt bytes.now parts.now }
     requires head { HEAD_ROOM ≤ vec_len text.old }
     requires room { HEAD_ROOM + REPLY_ROOM ≤ vec_capacity text.old }
+    requires line_room { S.line_room ≤ vec_capacity line.old }
     ensures head { HEAD_ROOM ≤ vec_len text.new }
     ensures room { HEAD_ROOM + REPLY_ROOM ≤ vec_capacity text.new }
+    ensures line_room { S.line_room ≤ vec_capacity line.new }
     ensures ok { OnOk result ((out : List ℕ) × Appends (W.holds writer.old) (W.holds writer.new) out
-        × Exchanges S.answers service.old bytes.now parts.now.closes out service.new (drop parts.now.end bytes.now)) }
+        × Exchanges S.answers service.old bytes.now parts.now.closes out service.new (drop parts.now.end bytes.now)
+        × Exchanges (notes S.lines L.holds) log.old bytes.now parts.now.closes out log.new
+        (drop parts.now.end bytes.now)) }
     ensures err { OnErr result ((out : List ℕ) × Appends (W.holds writer.old) (W.holds writer.new) out
-        × Halts S.answers service.old bytes.now out service.new) }
-    ensures write { OnErr result (FailsAtLast W.failed W.fails writer.old writer.new) }
-    ensures count { OnOk result (W.failed writer.new ≡ W.failed writer.old) }
+        × Halts S.answers service.old bytes.now out service.new
+        × IsLastNoted S.lines S.refusal_line L.holds log.old bytes.now out log.new) }
+    ensures write { result ≡ Err Broken.Write → FailsAtLast W.failed W.fails writer.old writer.new
+        × (L.failed log.new ≡ L.failed log.old) }
+    ensures log { result ≡ Err Broken.Log → FailsAtLast L.failed L.fails log.old log.new
+        × (W.failed writer.new ≡ W.failed writer.old) }
+    ensures count { OnOk result ((W.failed writer.new ≡ W.failed writer.old) × (L.failed log.new ≡ L.failed log.old)) }
 {
     text.truncate(HEAD_ROOM);
+    line.clear();
     let method = parts.method.of(bytes);
     let target = parts.target.of(bytes);
     let body = &bytes[parts.body..parts.end];
-    let status = service.call(method, target, body, text);
+    let status = service.call(method, target, body, text, line);
     let start = finish(text, parts.closes, status);
-    match write_all(writer, &text[start..]) {
+    match send(writer, log, line.as_slice(), &text[start..]) {
         Ok(()) => Ok(()),
-        Err(failed) => Err(failed),
+        Err(broken) => Err(broken),
     }
 }
 
 /// Answers with an error that ends the stream. It takes no memory.
-fn refuse<W: Sink>(writer: &mut W, status: StatusCode) -> Result<(), DeviceFailed>
-    ensures ok { OnOk result (Appends (W.holds writer.old) (W.holds writer.new)
-        (reply_text true status (error_line status))) }
-    ensures err { OnErr result ((front : List ℕ) × (back : List ℕ) × (0 < length back)
-        × (reply_text true status (error_line status) ≡ front ++ back)
-        × Appends (W.holds writer.old) (W.holds writer.new) front) }
-    ensures write { OnErr result (FailsAtLast W.failed W.fails writer.old writer.new) }
-    ensures count { OnOk result (W.failed writer.new ≡ W.failed writer.old) }
+fn refuse<S: Service, W: Sink, L: Sink>(
+    writer: &mut W,
+    log: &mut L,
+    status: StatusCode,
+    line: &mut Vec<u8>,
+) -> Result<(), Broken>
+    requires { S.line_room ≤ vec_capacity line.old }
+    ensures line_room { S.line_room ≤ vec_capacity line.new }
+    ensures ok { OnOk result (Appends (L.holds log.old) (L.holds log.new) (S.refusal_line status)
+        × Appends (W.holds writer.old) (W.holds writer.new) (reply_text true status (error_line status))) }
+    ensures err { OnErr result (IsSentInPart L.holds W.holds (S.refusal_line status)
+        (reply_text true status (error_line status)) log.old log.new writer.old writer.new) }
+    ensures write { result ≡ Err Broken.Write → FailsAtLast W.failed W.fails writer.old writer.new
+        × (L.failed log.new ≡ L.failed log.old) }
+    ensures log { result ≡ Err Broken.Log → FailsAtLast L.failed L.fails log.old log.new
+        × (W.failed writer.new ≡ W.failed writer.old) }
+    ensures count { OnOk result ((W.failed writer.new ≡ W.failed writer.old) × (L.failed log.new ≡ L.failed log.old)) }
 {
+    line.clear();
+    S::put_refusal_line(status, line);
     let mut room = [0u8; REFUSAL_ROOM];
     let start = put_refusal(&mut room, status);
-    write_all(writer, &room[start..])
+    send(writer, log, line.as_slice(), &room[start..])
 }
 
 /// Answers the whole requests at the front of `bytes`, and says what is left, or `None` where the last reply ended the
 /// stream.
-fn answer_all<S: Service, W: Sink>(
+fn answer_all<S: Service, W: Sink, L: Sink>(
     service: &mut S,
     writer: &mut W,
+    log: &mut L,
     bytes: &[u8],
     room: &mut [HeaderSpan],
     text: &mut Vec<u8>,
-) -> Result<Option<Unanswered>, DeviceFailed>
+    line: &mut Vec<u8>,
+) -> Result<Option<Unanswered>, Broken>
     requires heads { MAX_HEAD ≤ length room.old }
     requires head { HEAD_ROOM ≤ vec_len text.old }
     requires room { HEAD_ROOM + REPLY_ROOM ≤ vec_capacity text.old }
+    requires line_room { S.line_room ≤ vec_capacity line.old }
     ensures head { HEAD_ROOM ≤ vec_len text.new }
     ensures room { HEAD_ROOM + REPLY_ROOM ≤ vec_capacity text.new }
+    ensures line_room { S.line_room ≤ vec_capacity line.new }
     ensures open { IfOk result (λ found. IfSome found (λ left. (left.at ≤ length bytes.now)
         × IsUnfinishedBelow (drop left.at bytes.now) left.needed
         × ((out : List ℕ) × (n : ℕ) × Appends (W.holds writer.old) (W.holds writer.new) out
-        × Serves S.answers n service.old bytes.now (drop left.at bytes.now) out service.new))) }
+        × Serves S.answers n service.old bytes.now (drop left.at bytes.now) out service.new
+        × (m : ℕ) × Serves (notes S.lines L.holds) m log.old bytes.now (drop left.at bytes.now) out log.new))) }
     ensures closed { result ≡ Ok None → (out : List ℕ) × Appends (W.holds writer.old) (W.holds writer.new) out
-        × Ends S.answers service.old bytes.now out service.new }
+        × Ends S.answers service.old bytes.now out service.new
+        × AreNoted S.lines S.refusal_line L.holds log.old bytes.now out log.new }
     ensures err { OnErr result ((out : List ℕ) × Appends (W.holds writer.old) (W.holds writer.new) out
-        × Stops S.answers service.old bytes.now out service.new) }
-    ensures write { OnErr result (FailsAtLast W.failed W.fails writer.old writer.new) }
-    ensures count { OnOk result (W.failed writer.new ≡ W.failed writer.old) }
+        × Stops S.answers service.old bytes.now out service.new
+        × AreNoted S.lines S.refusal_line L.holds log.old bytes.now out log.new) }
+    ensures write { result ≡ Err Broken.Write → FailsAtLast W.failed W.fails writer.old writer.new
+        × (L.failed log.new ≡ L.failed log.old) }
+    ensures log { result ≡ Err Broken.Log → FailsAtLast L.failed L.fails log.old log.new
+        × (W.failed writer.new ≡ W.failed writer.old) }
+    ensures count { OnOk result ((W.failed writer.new ≡ W.failed writer.old) × (L.failed log.new ≡ L.failed log.old)) }
 {
     let mut at = 0;
     'requests: loop {
         let rest = &bytes[at..];
         match cut_request(rest, room) {
-            Cut::Whole(parts) => match answer(service, writer, rest, &parts, text) {
+            Cut::Whole(parts) => match answer(service, writer, log, rest, &parts, text, line) {
                 Ok(()) if parts.closes => return Ok(None),
                 Ok(()) => at += parts.end,
-                Err(failed) => return Err(failed),
+                Err(broken) => return Err(broken),
             },
             Cut::Refused(status) => {
-                return match refuse(writer, status) {
+                return match refuse::<S, W, L>(writer, log, status, line) {
                     Ok(()) => Ok(None),
-                    Err(failed) => Err(failed),
+                    Err(broken) => Err(broken),
                 };
             }
             Cut::Unfinished(needed) => return Ok(Some(Unanswered { at, needed })),

@@ -1,4 +1,5 @@
-//! The members of an array, one after another: whoever reads them so keeps one member's value, and not the array's.
+//! The members of an array, one after another: a caller holds one member's value at a time, and not the whole
+//! array's.
 ghost use Rattle.std.specs.Prelude.{◌≡◌, ◌<◌, length, is_some, IfOk, IfSome, MatchOption};
 ghost use Rattle.std.specs.Str.{IsUtf8};
 ghost use Rattle.json.specs.Lex.{tokens};
@@ -11,30 +12,30 @@ use plain::NoMemory;
 use serde_json::Value;
 use std::alloc::Global;
 
-/// The members of a JSON array that are still to be read.
+/// The remaining members of a JSON array.
 #[derive(Drop)]
 pub struct Members<'a> {
     reader: Reader<'a>,
 }
 
-/// The next member of an array, or that there is none.
+/// The next member of an array, or its end.
 #[derive(Drop)]
 pub enum Member {
-    /// The next member, where the text is JSON. What stands behind it may still be none, and then it says nothing.
+    /// The next member, if the text is JSON. What follows it may still not be, and then this value says nothing.
     Value(Value),
     /// The array ends, and the text with it.
     End,
-    /// The text is no JSON.
+    /// The text is not JSON.
     NotJson,
 }
 
-/// Returns the members of the array that bytes begin with, or None, which says that they are no JSON array. Where they
-/// are none, members may be returned all the same, and end in [`Member::NotJson`].
+/// Returns the members of the array that bytes begin with, or `None` if the bytes are not a JSON array. If they are
+/// not JSON, members may be returned nevertheless, and end in [`Member::NotJson`].
 ///
-/// Whether the bytes are JSON shows as the members are read: [`Member::NotJson`] stands for what [`Member::End`] does
-/// where they are not. Of a key that stands twice in an object the last value counts, and arrays and objects nest at
-/// most 127 deep, the array itself counted. The scratch grows to the longest text, and what it held before plays no
-/// part. Fails for memory alone.
+/// Whether the bytes are JSON shows as the members are read: [`Member::NotJson`] then takes the place of
+/// [`Member::End`]. The last value of a duplicate key counts, and arrays and objects nest at most 127 deep, including
+/// the array itself. The scratch grows to the longest string; its earlier content does not matter. The only error is
+/// `NoMemory`.
 pub fn members_of<'a>(
     scratch: &'a mut Scratch,
     bytes: &'a [u8],
@@ -69,9 +70,9 @@ fn members_in<'a>(scratch: &'a mut Scratch, text: &'a str) -> Result<Option<Memb
 }
 
 impl<'a> Members<'a> {
-    /// Returns the next member, or that the array ends, and the text with it, or that the text is no JSON.
+    /// Returns the next member, or that the array and the text end, or that the text is not JSON.
     ///
-    /// Fails for memory alone. Nothing is told by what is read after a failure, the array's end, or what is no JSON.
+    /// The only error is `NoMemory`. After an error, the end, or text that is not JSON, further results say nothing.
     pub fn next(&mut self, alloc: Global) -> Result<Member, NoMemory>
         ensures told { IfOk result (λ member. Tells member (to_come self.old) (to_come self.new)) }
         ensures fewer { IfOk result (λ member. IsFewer member (length self.old.reader) (length self.new.reader)) }
@@ -88,9 +89,9 @@ impl<'a> Members<'a> {
         }
     }
 
-    /// Returns whether the rest is JSON, to the end of the text. Each member is let go as soon as it is read.
+    /// Returns whether the rest is JSON, to the end of the text. Each member is dropped as soon as it is read.
     ///
-    /// So a refusal of one member can be told of a text that is JSON alone. Fails for memory alone.
+    /// So an error of one member can be reported only for text that is JSON. The only error is `NoMemory`.
     pub fn rest_is_json(&mut self, alloc: Global) -> Result<bool, NoMemory>
         ensures { IfOk result (λ b. b ≡ is_some (to_come self.old)) }
     {

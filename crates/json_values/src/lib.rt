@@ -1,7 +1,7 @@
-//! JSON read as a value, with memory that is kept from text to text.
+//! A parser of JSON values that reuses memory from text to text.
 //!
-//! `serde_json::Value::from_slice` takes 16 KiB for each text, and sets each byte of them to zero. Whoever reads many
-//! texts keeps one [`Scratch`] and lends it here.
+//! `serde_json::Value::from_slice` allocates 16 KiB for each text, and sets each byte of them to zero. A caller that
+//! parses many texts keeps one [`Scratch`] and passes it here.
 #![tactic(auto)]
 
 ghost use Rattle.std.specs.Prelude.{◌≡◌, ◌≤◌, option_map, IfOk, IfSome, MatchOption};
@@ -25,11 +25,11 @@ use std::alloc::Global;
 
 const MOST_DEPTH: usize = 127;
 
-/// Returns the JSON value that bytes are, or None where they are no UTF-8 or no JSON, or nest deeper than 127, or have
-/// half of a surrogate pair in an escape or a number beyond what a double holds.
+/// Parses JSON. Returns `None` if the bytes are not UTF-8 or not JSON, nest deeper than 127, or have half of a
+/// surrogate pair in an escape or a number beyond a double.
 ///
-/// Of a key that stands twice in an object the last value counts. The scratch grows to the longest text, and what it
-/// held before plays no part. Fails for memory alone.
+/// The last value of a duplicate key counts. The scratch grows to the longest string; its earlier content does not
+/// matter. The only error is `NoMemory`.
 pub fn read_json_by(
     scratch: &mut Scratch,
     alloc: Global,
@@ -44,7 +44,7 @@ pub fn read_json_by(
     }
 }
 
-/// Returns bytes as text, where they are UTF-8.
+/// Returns the bytes as a string, if they are UTF-8.
 fn text_of(bytes: &[u8]) -> Option<&str>
     ensures { MatchOption result (¬ IsUtf8 bytes.now) (λ t. IsUtf8 bytes.now × (t.now ≡ bytes.now)) }
 {
@@ -54,7 +54,7 @@ fn text_of(bytes: &[u8]) -> Option<&str>
     }
 }
 
-/// Returns the JSON value that a text is, or None.
+/// Returns the JSON value of a text, or `None`.
 fn read_text(scratch: &mut Scratch, alloc: Global, text: &str) -> Result<Option<Value>, NoMemory>
     ensures value { IfOk result (λ o. option_map view o ≡ read text.now) }
     ensures nests { IfOk result (λ o. IfSome o (λ v. depth (view v) ≤ max_depth)) }

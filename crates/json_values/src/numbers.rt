@@ -1,4 +1,4 @@
-//! The number that a token's text is.
+//! The number of a token's text.
 ghost use Rattle.std.specs.Prelude.{◌≡◌, ◌<◌, ◌==◌, length, slice_index, option_map, IsTrue, true, false};
 ghost use Rattle.fast_float.specs.Text.{minus};
 ghost use Rattle.serde_json.specs.Read.{number_of, number_from, float_of};
@@ -7,9 +7,9 @@ ghost use Rattle.serde_json.specs.View.{number_view};
 use fast_float::Numeral;
 use serde_json::Number;
 
-/// Returns the number that a text is, or None where it is too large for a float.
+/// Returns the number of a text, or `None` if it is too large for a float.
 ///
-/// A whole number that fits 64 bits is an integer, but for `-0`, which is a float as each other one.
+/// An integer that fits in 64 bits is one, except `-0`, which is a float like all other numbers.
 pub(crate) fn number_in(text: &str) -> Option<Number>
     ensures { option_map number_view result ≡ number_of text.now }
 {
@@ -21,7 +21,7 @@ pub(crate) fn number_in(text: &str) -> Option<Number>
     }
 }
 
-/// Returns whether a minus stands first.
+/// Returns whether the first byte is a minus.
 fn is_signed(bytes: &[u8]) -> bool
     ensures value { result ≡ (slice_index bytes.now 0 == minus) }
     ensures some { IsTrue result → 0 < length bytes.now }
@@ -42,7 +42,7 @@ fn from_zero(digits: &Numeral<'_>) -> Option<Number>
     }
 }
 
-/// Returns the number of digits behind a minus.
+/// Returns the number of digits after a minus.
 fn below_zero(digits: &Numeral<'_>) -> Option<Number>
     ensures { option_map number_view result ≡ number_from true digits.now }
 {
@@ -52,7 +52,7 @@ fn below_zero(digits: &Numeral<'_>) -> Option<Number>
     }
 }
 
-/// Returns the float nearest to digits, where it is finite.
+/// Returns the float nearest to digits, if it is finite.
 fn nearest(digits: &Numeral<'_>, negative: bool) -> Option<Number>
     ensures { option_map number_view result ≡ float_of negative digits.now }
 {

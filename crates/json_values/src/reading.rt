@@ -1,4 +1,4 @@
-//! From a reader's tokens to a value.
+//! Values from a reader's tokens.
 ghost use Rattle.std.specs.Prelude.{◌≡◌, ◌<◌, length, option_map, IfOk, IfSome};
 ghost use Rattle.json.specs.Reads.{token_of};
 ghost use Rattle.serde_json.specs.View.{view};
@@ -12,7 +12,7 @@ use plain::NoMemory;
 use serde_json::{Map, Value};
 use std::alloc::Global;
 
-/// Returns the next value of the reader, or None. Arrays and objects may nest `deep` deep.
+/// Returns the next value of the reader, or `None`. Arrays and objects may nest `deep` levels.
 #[cycle(value_in)]
 pub(crate) fn value_in(
     alloc: Global,
@@ -53,7 +53,7 @@ fn opens_object(token: &Token<'_>) -> bool
     matches!(token, Token::BeginObject)
 }
 
-/// Returns the value that one token is.
+/// Returns the value of one token.
 fn scalar_in(alloc: Global, token: Token<'_>) -> Result<Option<Value>, NoMemory>
     ensures { IfOk result (λ o. option_map view o ≡ scalar (token_of token.entry)) }
 {
@@ -66,7 +66,7 @@ fn scalar_in(alloc: Global, token: Token<'_>) -> Result<Option<Value>, NoMemory>
     }
 }
 
-/// Returns the array whose opening bracket has passed.
+/// Returns the array whose opening bracket was read.
 #[cycle(value_in)]
 fn array_in(alloc: Global, reader: &mut Reader<'_>, deep: usize) -> Result<Option<Value>, NoMemory>
     ensures given { IfOk result (λ o. IsGiven (array_at deep reader.old) o reader.new) }
@@ -83,7 +83,7 @@ fn array_in(alloc: Global, reader: &mut Reader<'_>, deep: usize) -> Result<Optio
     Ok(Some(Value::Array(found)))
 }
 
-/// Returns the object whose opening brace has passed. Of a key that stands twice the last value stays.
+/// Returns the object whose opening brace was read. The last value of a duplicate key stays.
 #[cycle(value_in)]
 fn object_in(alloc: Global, reader: &mut Reader<'_>, deep: usize) -> Result<Option<Value>, NoMemory>
     ensures given { IfOk result (λ o. IsGiven (object_at deep reader.old) o reader.new) }

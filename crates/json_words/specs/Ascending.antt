@@ -1,6 +1,6 @@
--- The keys of each object that was read ascend strictly by their bytes.
--- A rule of this product, from how JSON is read: the members of an object are those of its keys, each key once, in the
--- order of the keys (RFC 8259, section 4, leaves both open).
+-- Defines that the keys of each parsed object ascend strictly by their bytes.
+-- Rules of this product: this follows from how JSON is parsed: the members of an object are in the order of the keys,
+-- each key once (RFC 8259, section 4, leaves both open).
 use Rattle.std.specs.Prelude.{◌≡◌, ⊤, ℕ, List, [], ◌∷◌, Some}
 use Rattle.std.specs.List.Sorted.{IsStrictlySortedBy}
 use Rattle.std.specs.Cmp.Lexicographic.{slice_cmp}
@@ -9,14 +9,16 @@ use Rattle.serde_json.specs.Data.{Data, null, boolean, number, string, array, ob
 use Rattle.serde_json.specs.Data.{no_members, member}
 use Rattle.json_words.specs.Json.{json_of}
 
+-- `Ascend keys` holds if `keys` ascend strictly by their bytes.
 abbrev pub Ascend : List (List ℕ) → Type 0
 Ascend keys = IsStrictlySortedBy (slice_cmp nat_cmp) keys
 
+-- `member_keys ms` are the keys of the members `ms`.
 abbrev pub member_keys : Members → List (List ℕ)
 member_keys no_members = []
 member_keys (member k d ms) = k ∷ member_keys ms
 
--- at every depth
+-- `DataAscends d` holds if the keys of each object in `d` do, at every depth.
 abbrev mutual
   pub DataAscends : Data → Type 0
   DataAscends null = ⊤
@@ -34,5 +36,6 @@ abbrev mutual
   MembersAscend no_members = ⊤
   MembersAscend (member k d ms) = DataAscends d × MembersAscend ms
 
+-- `JsonAscends`: the keys of parsed JSON do.
 abbrev pub JsonAscends : Type 0
 JsonAscends = (bytes : List ℕ) (d : Data) → json_of bytes ≡ Some d → DataAscends d

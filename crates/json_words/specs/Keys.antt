@@ -1,15 +1,15 @@
--- Which keys an object has.
+-- Defines which keys an object has.
 use Rattle.std.specs.Prelude.{ℕ, List, Bool, true, false, ◌&&◌}
 use Rattle.std.specs.List.{list_any}
 use Rattle.std.specs.Str.{bytes_eq}
 use Rattle.serde_json.specs.Data.{Data, null, boolean, number, string, array, object, Members, no_members, member}
 
--- no key but these
+-- `keys_within allowed ms` tests that there are no other keys than `allowed`.
 abbrev pub keys_within : List (List ℕ) → Members → Bool
 keys_within allowed no_members = true
 keys_within allowed (member k d ms) = list_any (λ a. bytes_eq a k) allowed && keys_within allowed ms
 
--- it is an object, and has no key but these
+-- `has_only allowed d` tests that `d` is an object with no other keys than `allowed`.
 abbrev pub has_only : List (List ℕ) → Data → Bool
 has_only allowed null = false
 has_only allowed (boolean b) = false

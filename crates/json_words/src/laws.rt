@@ -1,14 +1,15 @@
-//! Laws of JSON; the functions do nothing.
+//! Theorems about JSON. The functions are no-ops.
 ghost use Rattle.json_words.specs.Ascending.{JsonAscends};
 ghost use Rattle.json_words.specs.Plain.{CompactReadsBack, CompactIsOne};
 
-/// The keys of each object that was read ascend strictly by their bytes, at every depth: so each key stands once.
+/// Proves that the keys of each parsed object ascend strictly by their bytes, at every depth: so each key occurs
+/// once. No-op.
 pub fn json_keys_ascend()
     ensures { JsonAscends }
 {}
 
-/// The compact text of JSON without floats, whose texts are UTF-8 and whose keys ascend, nested at most 127 deep, reads
-/// back as that JSON; so two of one text are one.
+/// Proves that the compact text of JSON without floats, whose strings are UTF-8 and whose keys ascend, nested at most
+/// 127 deep, parses as that JSON; so equal texts have equal JSON. No-op.
 pub fn compact_texts_read_back()
     ensures back { CompactReadsBack }
     ensures one { CompactIsOne }

@@ -1,5 +1,5 @@
-//! Words that all readers and writers of JSON share: the value of bytes, an object's keys, the compact text, and
-//! reading as a function with its first fault.
+//! What all readers and writers of JSON share: the value of bytes, an object's keys, the compact text, and reading as
+//! a function with its first error.
 //!
 //! The definitions `each`, `Gives`, `demand` and `or_fault` of `specs/` are for the contracts of readers in other
 //! crates, and the lemmas of `proofs/` for their loops.
@@ -23,9 +23,9 @@ use plain::NoMemory;
 use serde_json::{Map, Value};
 use std::alloc::Global;
 
-/// Returns the JSON value that bytes are, or None where they are no UTF-8 or no JSON, or nest deeper than 127.
+/// Parses JSON. Returns `None` if the bytes are not UTF-8 or not JSON, or nest deeper than 127.
 ///
-/// Of a key that stands twice in an object the last value counts. Fails for memory alone.
+/// The last value of a duplicate key counts. The only error is `NoMemory`.
 pub fn read_json(alloc: Global, bytes: &[u8]) -> Result<Option<Value>, NoMemory>
     ensures value { IfOk result (λ o. option_map view o ≡ json_of bytes.now) }
     ensures nests { IfOk result (λ o. IfSome o (λ v. depth (view v) ≤ max_depth)) }
@@ -41,10 +41,9 @@ pub fn read_json(alloc: Global, bytes: &[u8]) -> Result<Option<Value>, NoMemory>
     }
 }
 
-/// Returns the compact text of a value: no blanks, and in each object the keys ascending by bytes. Fails for memory
-/// alone.
+/// Returns the compact text of a value: no whitespace, and in each object the keys ascending by bytes.
 ///
-/// What is written for a float is not said here, but that it reads back.
+/// The text of a float is not specified, except that it parses as that float. The only error is `NoMemory`.
 pub fn write_json(alloc: Global, value: &Value) -> Result<Vec<u8>, NoMemory>
     ensures text { IfOk result (λ b. has_float (view value.now) ≡ false → b.items ≡ compact_text (view value.now)) }
     ensures reads_back { IfOk result
@@ -53,7 +52,7 @@ pub fn write_json(alloc: Global, value: &Value) -> Result<Vec<u8>, NoMemory>
     value.to_vec(alloc)
 }
 
-/// Returns the text that an object has at a key, or None where there is no object, no such key, or no text.
+/// Returns the string at a key of an object, or `None` if the value is not an object, or has no string at this key.
 pub fn text_at<'v>(value: &'v Value, key: &str) -> Option<&'v str>
     ensures { option_map (λ s. s.now) result ≡ text_at key.now (view value.now) }
 {
@@ -63,7 +62,7 @@ pub fn text_at<'v>(value: &'v Value, key: &str) -> Option<&'v str>
     }
 }
 
-/// Returns whether a value is an object with no keys but these.
+/// Returns whether a value is an object with no other keys than these.
 #[tactic(auto, using(crate::proofs::KeysLemmas::keys_within_view))]
 pub fn only_keys(value: &Value, allowed: &[&str]) -> bool
     ensures { result ≡ has_only (map (λ k. k.now) allowed.now) (view value.now) }

@@ -1,6 +1,8 @@
--- What code answers that may be refused memory. A rule of this product.
+-- Defines the errors of code that may run out of memory.
+-- Rules of this product: a failed allocation may replace any other error.
 use Rattle.std.specs.Prelude.{◌≡◌}
 
--- A refusal that is due, or `memory`, which says that a growth was refused, and nothing of what was judged.
+-- `OrNoMemory memory Refused why` holds if `why` is an error of the input, or `memory`, which says that an allocation
+-- failed, and nothing of the input.
 abbrev pub OrNoMemory : {F : Type 0} → F → (F → Type 0) → F → Type 0
 OrNoMemory memory Refused why = (why ≡ memory → ⊥) → Refused why

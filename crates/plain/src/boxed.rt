@@ -1,4 +1,4 @@
-//! Values in memory of their own.
+//! Values in a box.
 ghost use Rattle.std.specs.Prelude.{◌≡◌, IfOk};
 
 use crate::NoMemory;
@@ -6,7 +6,7 @@ use std::alloc::Global;
 use std::cmp::Ordering;
 use std::marker::Model;
 
-/// A value in memory of its own, which contracts see as the value.
+/// A value in a box, which contracts see as the value.
 #[derive(Drop)]
 pub struct Boxed<T> {
     owner: Box<T>,
@@ -21,14 +21,14 @@ impl<T> Model for Boxed<T> {
 }
 
 impl<T> Boxed<T> {
-    /// Returns the value of a `Box`; takes no memory.
+    /// Returns the value of a `Box`. Does not allocate.
     pub fn from_box(owner: Box<T>) -> Boxed<T>
         ensures { result ≡ owner.value }
     {
         Boxed { owner }
     }
 
-    /// Returns the `Box` again; takes no memory.
+    /// Returns the `Box`. Does not allocate.
     pub fn into_box(self) -> Box<T>
         ensures { result.value ≡ self }
     {
@@ -36,7 +36,7 @@ impl<T> Boxed<T> {
         owner
     }
 
-    /// Returns the value; takes no memory.
+    /// Returns the value. Does not allocate.
     pub fn into_inner(self) -> T
         ensures { result ≡ self }
     {
@@ -44,7 +44,7 @@ impl<T> Boxed<T> {
         Box::into_inner(owner)
     }
 
-    /// Returns the value, by reference; takes no memory.
+    /// Returns the value, borrowed. Does not allocate.
     pub fn get(&self) -> &T
         ensures { result.now ≡ self.now }
     {
@@ -53,7 +53,7 @@ impl<T> Boxed<T> {
 }
 
 impl<T: Drop> Boxed<T> {
-    /// Returns the value in memory of its own, or `NoMemory`.
+    /// Creates a box with a value, or returns `NoMemory`.
     pub fn new(alloc: Global, value: T) -> Result<Boxed<T>, NoMemory>
         ensures { IfOk result (λ b. b ≡ value) }
     {
@@ -62,7 +62,7 @@ impl<T: Drop> Boxed<T> {
     }
 }
 
-/// Two are equal where the values are. Takes no memory.
+/// Boxes are equal if their values are. Does not allocate.
 impl<T: PartialEq> PartialEq for Boxed<T> {
     ghost eq = { λ a b. T.eq a b };
 
@@ -77,7 +77,7 @@ impl<T: Eq> Eq for Boxed<T> {
     ghost laws = { T.Eq.laws };
 }
 
-/// Two are compared as the values are. Takes no memory.
+/// Boxes are ordered by their values. Does not allocate.
 impl<T: PartialOrd> PartialOrd for Boxed<T> {
     ghost partial_cmp = { λ a b. T.partial_cmp a b };
 

@@ -1,9 +1,9 @@
-//! Values that wait while something that may fail is made.
+//! A value held across a call that may fail.
 ghost use Rattle.std.specs.Prelude.{◌≡◌, IfOk, IfErr, Ok, Err};
 
-/// Returns a value beside what was made while it waited; where nothing was made, only why, and the value is let go.
+/// Returns a value together with a result that was computed while it was held; or the error, and drops the value.
 ///
-/// It is generic, so that a value that is let go is one step of a caller's proof, and not one for each of its variants.
+/// Generic, so that the drop is one step of a caller's proof, and not one for each variant of the value.
 pub fn beside<T: Drop, U, E>(kept: T, made: Result<U, E>) -> Result<(T, U), E>
     ensures made { IfOk result (λ both. made ≡ Ok both.1) }
     ensures kept { IfOk result (λ both. both.0 ≡ kept) }
@@ -17,7 +17,7 @@ pub fn beside<T: Drop, U, E>(kept: T, made: Result<U, E>) -> Result<(T, U), E>
 
 /// Returns both values, or the first error.
 ///
-/// It is generic for the same reason as [`beside`].
+/// Generic for the same reason as [`beside`].
 pub fn both<A: Drop, B: Drop, E: Drop>(
     first: Result<A, E>,
     second: Result<B, E>,

@@ -30,7 +30,7 @@ impl<T> Model for Items<T> {
 }
 
 impl<T> Items<T> {
-    /// Returns the empty list; takes no memory.
+    /// Creates an empty list. Does not allocate.
     pub fn new(alloc: Global) -> Items<T>
         ensures { result ≡ [] }
     {
@@ -39,14 +39,14 @@ impl<T> Items<T> {
         }
     }
 
-    /// Returns the items of a `Vec`; takes no memory.
+    /// Returns the items of a `Vec`. Does not allocate.
     pub fn from_vec(list: Vec<T>) -> Items<T>
         ensures { result ≡ list.items }
     {
         Items { list }
     }
 
-    /// Returns the `Vec` again; takes no memory.
+    /// Returns the `Vec`. Does not allocate.
     pub fn into_vec(self) -> Vec<T>
         ensures { result.items ≡ self }
     {
@@ -54,28 +54,28 @@ impl<T> Items<T> {
         list
     }
 
-    /// Returns the items in order, as a slice; takes no memory.
+    /// Returns the items in order, as a slice. Does not allocate.
     pub fn as_slice(&self) -> &[T]
         ensures { result.now ≡ self.now }
     {
         self.list.as_slice()
     }
 
-    /// Returns how many items there are.
+    /// Returns the number of items.
     pub fn len(&self) -> usize
         ensures { result ≡ length self.now }
     {
         self.list.len()
     }
 
-    /// Returns whether there is no item.
+    /// Returns whether the list is empty.
     pub fn is_empty(&self) -> bool
         ensures { IsTrue result ↔ (self.now ≡ []) }
     {
         self.list.is_empty()
     }
 
-    /// Returns the item at a place, counted from 0, or None at and behind the end.
+    /// Returns the item at an index, counted from 0, or `None` past the end.
     pub fn get(&self, at: usize) -> Option<&T>
         ensures item { option_copied result ≡ slice_get self.now at }
         ensures within { OnSome result (at < length self.now) }
@@ -85,7 +85,7 @@ impl<T> Items<T> {
 }
 
 impl<T> Items<T> {
-    /// Returns the items in order, one after the other; takes no memory.
+    /// Returns an iterator over the items, in order. Does not allocate.
     pub fn iter(&self) -> Iter<'_, T>
         ensures rest { iter_rest result ≡ self.now }
         ensures len { length (iter_rest result) < 2 ^ 64 }
@@ -109,7 +109,7 @@ impl<'a, T> IntoIterator for &'a Items<T> {
 }
 
 impl<T: Drop> Items<T> {
-    /// Puts an item behind the others, or leaves all as it was at `NoMemory`.
+    /// Appends an item. After `NoMemory` the list is unchanged.
     pub fn push(&mut self, item: T) -> Result<(), NoMemory>
         ensures ok { OnOk result (self.new ≡ self.old ++ item ∷ []) }
         ensures err { OnErr result (self.new ≡ self.old) }
@@ -119,7 +119,7 @@ impl<T: Drop> Items<T> {
     }
 }
 
-/// Lists are equal where they are as long and have equal items place by place. Takes no memory.
+/// Lists are equal if they have the same length and equal items at each index. Does not allocate.
 impl<T: PartialEq> PartialEq for Items<T> {
     ghost eq = { λ xs ys. pointwise T.eq xs ys };
 
@@ -134,7 +134,7 @@ impl<T: Eq> Eq for Items<T> {
     ghost laws = { lists_equiv T.Eq.laws };
 }
 
-/// Lists are compared item by item, and a beginning of a list is less than the list. Takes no memory.
+/// Lists are ordered item by item; a prefix of a list is less than the list. Does not allocate.
 impl<T: PartialOrd> PartialOrd for Items<T> {
     ghost partial_cmp = { λ xs ys. slice_partial_cmp T.partial_cmp xs ys };
 

@@ -1,4 +1,4 @@
-//! Values that may be held in several places.
+//! Shared values.
 ghost use Rattle.std.specs.Prelude.{◌≡◌, IfOk};
 
 use crate::NoMemory;
@@ -7,9 +7,9 @@ use std::cmp::Ordering;
 use std::marker::Model;
 use std::rc::Rc;
 
-/// A value that is kept once and may be held in several places. Contracts see it as the value, whoever else holds it.
+/// A reference-counted value. Contracts see the value, however many references there are.
 ///
-/// It is read only, and it is let go with the last of its holders.
+/// It is immutable, and is dropped with its last reference.
 #[derive(Drop)]
 pub struct Shared<T> {
     owner: Rc<T>,
@@ -24,7 +24,7 @@ impl<T> Model for Shared<T> {
 }
 
 impl<T> Shared<T> {
-    /// Returns the value, by reference; takes no memory.
+    /// Returns the value, borrowed. Does not allocate.
     pub fn get(&self) -> &T
         ensures { result.now ≡ self.now }
     {
@@ -33,7 +33,7 @@ impl<T> Shared<T> {
 }
 
 impl<T: Drop> Shared<T> {
-    /// Returns the value in memory of its own with one holder, or `NoMemory`.
+    /// Creates a shared value with one reference, or returns `NoMemory`.
     pub fn new(alloc: Global, value: T) -> Result<Shared<T>, NoMemory>
         ensures { IfOk result (λ s. s ≡ value) }
     {
@@ -41,8 +41,8 @@ impl<T: Drop> Shared<T> {
         Ok(Shared { owner })
     }
 
-    /// Returns the same value for one holder more. It takes no memory, and it is `NoMemory` only where the holders are
-    /// as many as can be counted: 2^64 - 1.
+    /// Returns one more reference to the value, without allocating. `NoMemory` only if the count of references would
+    /// exceed 2^64 - 1.
     pub fn share(&self) -> Result<Shared<T>, NoMemory>
         ensures { IfOk result (λ s. s ≡ self.now) }
     {
@@ -51,7 +51,7 @@ impl<T: Drop> Shared<T> {
     }
 }
 
-/// Two are equal where the values are. Takes no memory.
+/// References are equal if their values are. Does not allocate.
 impl<T: PartialEq> PartialEq for Shared<T> {
     ghost eq = { λ a b. T.eq a b };
 
@@ -66,7 +66,7 @@ impl<T: Eq> Eq for Shared<T> {
     ghost laws = { T.Eq.laws };
 }
 
-/// Two are compared as the values are. Takes no memory.
+/// References are ordered by their values. Does not allocate.
 impl<T: PartialOrd> PartialOrd for Shared<T> {
     ghost partial_cmp = { λ a b. T.partial_cmp a b };
 

@@ -1,4 +1,4 @@
-//! The bytes that words and numbers of the policy language are made of, and how many of them come first.
+//! The bytes of words and numbers of the policy language, and the lengths of prefixes made of them.
 ghost use Rattle.std.specs.Prelude.{◌≡◌, ◌≤◌, length};
 ghost use Rattle.plain.specs.Words.{is_letter, is_digit, is_word_byte, run};
 
@@ -18,7 +18,7 @@ pub fn digit(byte: u8) -> bool
     matches!(byte, b'0'..=b'9')
 }
 
-// Each byte of a word stands at its own place, and a colon at every other place.
+// The byte of a word at its own index, and a colon at every other index.
 static WORD_BYTES: [u8; 256] = *b"\
     ::::::::::::::::::::::::::::::::\
     ::::::::::::::::0123456789::::::\
@@ -29,14 +29,14 @@ static WORD_BYTES: [u8; 256] = *b"\
     ::::::::::::::::::::::::::::::::\
     ::::::::::::::::::::::::::::::::";
 
-/// Returns whether a word goes on over this byte: one look into a table, since most bytes of a text are asked so.
+/// Returns whether a word may contain this byte. One look-up in a table, since most bytes of a text are tested.
 fn word_byte(byte: u8) -> bool
     ensures { result ≡ is_word_byte byte }
 {
     WORD_BYTES[byte as usize] != b':'
 }
 
-/// Returns how many bytes of a word come first.
+/// Returns the number of leading bytes of a word.
 pub fn word_len(text: &[u8]) -> usize
     ensures is { result ≡ run is_word_byte text.now }
     ensures within { result ≤ length text.now }
@@ -51,7 +51,7 @@ pub fn word_len(text: &[u8]) -> usize
     len
 }
 
-/// Returns how many digits come first.
+/// Returns the number of leading digits.
 pub fn digits_len(text: &[u8]) -> usize
     ensures is { result ≡ run is_digit text.now }
     ensures within { result ≤ length text.now }

@@ -1,4 +1,4 @@
--- The keys of a policy's annotations, of which each stands once.
+-- Defines the keys of a policy's annotations, which must be distinct.
 -- Source: Cedar reference guide 4.0, "Annotations": a key stands once in a policy.
 use Rattle.std.specs.Prelude.{ℕ, List, map}
 use Rattle.grammar_desugaring.specs.grammar_tokens.Lexing.{spelling_of}
@@ -6,9 +6,10 @@ use Rattle.grammar_policies.specs.declared.tree.Annotation.{Annotation}
 use Rattle.grammar_policies.specs.declared.tree.PolicyTree.{PolicyTree}
 use Rattle.grammar_desugaring.specs.Repeats.{NameAt}
 
--- the annotations of a policy, each by its key at its `@`
+-- `key_at text annotation` is the key of `annotation`, at the byte of its `@`.
 abbrev pub key_at : List ℕ → Annotation → NameAt
 key_at text annotation = record { name = spelling_of text annotation.key; at = annotation.at.start }
 
+-- `annotation_keys text tree` are the keys of the annotations of the policy `tree`, in order.
 abbrev pub annotation_keys : List ℕ → PolicyTree → List NameAt
 annotation_keys text tree = map (key_at text) tree.annotations

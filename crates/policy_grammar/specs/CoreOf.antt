@@ -1,7 +1,7 @@
--- What a syntax tree stands for, with the text in which its tokens stand: the pass from tree to core.
+-- Defines the policy of a syntax tree, with the text in which its tokens stand.
 -- Source: Cedar reference guide 4.0, "Basic policy construction": effect, scope, conditions and annotations; "Grammar
--- specification for Cedar policy syntax". That a policy is named by its `@id` follows the Cedar command line; the names
--- of the others are a rule of this product.
+-- specification for Cedar policy syntax". That a policy is named by its `@id` follows the Cedar command line; the
+-- names of the others are a rule of this product.
 use Rattle.std.specs.Prelude.{◌≡◌, ℕ, Bool, List, [], ◌++◌, Option, Some, None, codes, find}
 use Rattle.std.specs.List.{AllZip, enumerate_from}
 use Rattle.std.specs.Fmt.{decimal}
@@ -29,14 +29,16 @@ use Rattle.policy_grammar.specs.declared.policy.ActionScope.TheVariants as actio
 use Rattle.policy_grammar.specs.declared.policy.Policy.{Policy}
 use Rattle.policy_grammar.specs.Conditions.{conditions_of}
 
--- the uid that a tree of one stands for
+-- `IsUidOf text tree uid` holds if `uid` is the uid of `tree`.
 abbrev pub IsUidOf : List ℕ → UidTree → EntityUid → Type 0
 IsUidOf text tree uid = uid ≡ uid_of text tree
 
+-- `AreUidsOf text trees uids` holds if `uids` are the uids of `trees`, in order.
 abbrev pub AreUidsOf : List ℕ → List UidTree → List EntityUid → Type 0
 AreUidsOf text = AllZip (IsUidOf text)
 
--- what a scope asks of the principal or of the resource
+-- `IsEntityScopeOf text part scope` holds if `scope` is the condition of the tree `part` on the principal or the
+-- resource.
 abbrev pub IsEntityScopeOf : List ℕ → PartTree → EntityScope → Type 0
 IsEntityScopeOf text part.Any entity.Any = Unit {0}
 IsEntityScopeOf text (part.Equal tree) (entity.Equal uid) = IsUidOf text tree uid
@@ -45,7 +47,7 @@ IsEntityScopeOf text (part.Is path) (entity.Is name) = name ≡ path_name text p
 IsEntityScopeOf text (part.IsIn path tree) (entity.IsIn name uid) = (name ≡ path_name text path) × IsUidOf text tree uid
 IsEntityScopeOf text _ _ = ⊥
 
--- what a scope asks of the action
+-- `IsActionScopeOf text tree scope` holds if `scope` is the condition of `tree` on the action.
 abbrev pub IsActionScopeOf : List ℕ → ActionTree → ActionScope → Type 0
 IsActionScopeOf text action.Any actions.Any = Unit {0}
 IsActionScopeOf text (action.Equal tree) (actions.Equal uid) = IsUidOf text tree uid
@@ -53,12 +55,12 @@ IsActionScopeOf text (action.In tree) (actions.In uid) = IsUidOf text tree uid
 IsActionScopeOf text (action.InList trees) (actions.InList uids) = AreUidsOf text trees uids
 IsActionScopeOf text _ _ = ⊥
 
--- the word that says an effect
+-- `effect_word effect` is the keyword of `effect`.
 abbrev pub effect_word : Effect → TokenKind
 effect_word Permit = k.Permit
 effect_word Forbid = k.Forbid
 
--- Annotations take no part in what a policy means.
+-- `IsCoreOf text tree policy` holds if `policy` is the policy of `tree`; annotations do not matter.
 pub record IsCoreOf (text : List ℕ) (tree : PolicyTree) (policy : Policy) : Type 0 where
   pub effect : tree.effect.kind ≡ effect_word policy.effect
   pub principal : IsEntityScopeOf text tree.principal policy.scope.principal
@@ -66,25 +68,31 @@ pub record IsCoreOf (text : List ℕ) (tree : PolicyTree) (policy : Policy) : Ty
   pub resource : IsEntityScopeOf text tree.resource policy.scope.resource
   pub condition : policy.condition ≡ conditions_of text tree.conditions
 
--- An annotation with no value, without parentheses or with empty ones, has the empty text.
+-- `IsValueOf text token value` holds if `value` is the decoded string `token` of an annotation, empty if there is
+-- none.
 abbrev pub IsValueOf : List ℕ → Option Token → List ℕ → Type 0
 IsValueOf text None value = value ≡ []
 IsValueOf text (Some token) value = IsStringOf value (spelling_of text token)
 
+-- `is_id text annotation` tests whether the key of `annotation` is `id`.
 abbrev pub is_id : List ℕ → Annotation → Bool
 is_id text annotation = bytes_eq (spelling_of text annotation.key) (codes "id")
 
--- The first `@id` names a policy; one that has none is called `policy` with its place in the file, counted from 0.
+-- `IsNameBy text place id name` holds if `name` is the value of the annotation `id`, or for `None` `policy` with the
+-- index `place`, counted from 0.
 abbrev pub IsNameBy : List ℕ → ℕ → Option Annotation → List ℕ → Type 0
 IsNameBy text place None name = name ≡ codes "policy" ++ decimal place
 IsNameBy text place (Some annotation) name = IsValueOf text annotation.value name
 
+-- `IsNameOf text place tree name` holds if `name` is the name of the policy `tree` at index `place`: by its first
+-- `@id`, else by index.
 abbrev pub IsNameOf : List ℕ → ℕ → PolicyTree → List ℕ → Type 0
 IsNameOf text place tree name = IsNameBy text place (find (is_id text) tree.annotations) name
 
--- the policies of a file, and the names of those
+-- `AreCoresOf text trees policies` holds if `policies` are the policies of `trees`, in order.
 abbrev pub AreCoresOf : List ℕ → List PolicyTree → List Policy → Type 0
 AreCoresOf text = AllZip (IsCoreOf text)
 
+-- `AreNamesOf text trees names` holds if `names` are the names of the policies `trees` of a file, in order.
 abbrev pub AreNamesOf : List ℕ → List PolicyTree → List (List ℕ) → Type 0
 AreNamesOf text trees = AllZip (λ placed. IsNameOf text placed.0 placed.1) (enumerate_from 0 trees)

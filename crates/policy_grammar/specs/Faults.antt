@@ -1,4 +1,5 @@
--- The refusals by number and place. The numbers are a rule of this product.
+-- Defines the codes and byte offsets of parsing errors.
+-- Rules of this product: the codes.
 use Rattle.std.specs.Prelude.{ℕ, Option, Some, None}
 use Rattle.grammar_desugaring.specs.grammar_tokens.declared.lex_fault.LexFault.{LexFault}
 use Rattle.grammar_desugaring.specs.grammar_tokens.declared.lex_fault.LexFault.TheVariants as lex
@@ -9,6 +10,7 @@ use Rattle.policy_grammar.specs.declared.fault.ReadFault.TheVariants.{NoMemory, 
 use Rattle.policy_grammar.specs.declared.fault.ReadFault.TheVariants.{UnknownCall, Arity, RepeatedKey, Slot, TooDeep}
 use Rattle.policy_grammar.specs.declared.fault.ReadFault.TheVariants.{TooLong, BadId}
 
+-- `code_of f` is the code of the error `f`.
 abbrev pub code_of : ReadFault → ℕ
 code_of NoMemory = 1
 code_of (BadToken at) = 10
@@ -22,7 +24,7 @@ code_of (TooDeep at) = 17
 code_of TooLong = 18
 code_of BadId = 19
 
--- TooLong and BadId are told at the text's start.
+-- `place_of f` is the byte offset of the error `f`, if it has one: 0 for `TooLong` and `BadId`.
 abbrev pub place_of : ReadFault → Option ℕ
 place_of NoMemory = None
 place_of (BadToken at) = Some at
@@ -36,11 +38,12 @@ place_of (TooDeep at) = Some at
 place_of TooLong = Some 0
 place_of BadId = Some 0
 
+-- `of_lexing f` is the parser's error for the lexer's error `f`.
 abbrev pub of_lexing : LexFault → ReadFault
 of_lexing lex.NoMemory = NoMemory
 of_lexing (lex.BadToken at) = BadToken at
 
--- a fault of a condition, or an annotation that stands again
+-- `of_desugaring f` is the parser's error for the error `f` of a condition, or of a duplicate.
 abbrev pub of_desugaring : DesugarFault → ReadFault
 of_desugaring (desugar.NumberRange at) = NumberRange at
 of_desugaring (desugar.UnknownCall at) = UnknownCall at

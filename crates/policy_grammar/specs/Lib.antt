@@ -9,7 +9,7 @@ pub mod Limits
 pub mod Repeats
 pub mod PolicyText
 pub mod Unique
--- crates below, passed on to those above
+-- Specifications of lower crates, re-exported.
 pub use Rattle.grammar_desugaring.specs as grammar_desugaring
 pub use Rattle.grammar_desugaring.specs.grammar_tokens
 pub use Rattle.grammar_policies.specs as grammar_policies

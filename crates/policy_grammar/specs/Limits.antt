@@ -1,5 +1,5 @@
--- How large a policy may be.
--- Rules of this product: the core expression of a policy is at most 1,000 high and has at most 1,000,000 forms, a
+-- Defines the limits on the size of a policy.
+-- Rules of this product: the core expression of a policy is at most 1,000 high and has at most 1,000,000 nodes, a
 -- policy's id has 1 to 256 bytes, a policy text at most 262,144 bytes, a file 8,388,608.
 use Rattle.std.specs.Prelude.{◌≡◌, ℕ, suc, ◌+◌, ◌≤◌, max, List, [], ◌∷◌, length}
 use Rattle.grammar_desugaring.specs.grammar_tokens.declared.tree.UidTree.{UidTree}
@@ -16,8 +16,8 @@ use Rattle.policy_grammar.specs.Whole.{expression_of}
 use Rattle.policy_grammar.specs.Conditions.{conditions_of}
 use Rattle.policy_grammar.specs.CoreOf.{IsCoreOf}
 
--- A core expression, with all but its forms left out: a literal or a variable, a form over one or over two operands,
--- a set of so many literals, and any expression by its height and its count of forms.
+-- A `Shape` is a core expression reduced to its size: a leaf (a literal or a variable), a node over one or over two
+-- operands, a set of so many literals, or any expression by its height and its nodes.
 pub data Shape : Type 0 where
   leaf : Shape
   over : Shape → Shape
@@ -25,7 +25,7 @@ pub data Shape : Type 0 where
   literals : ℕ → Shape
   sized : ℕ → ℕ → Shape
 
--- each form counts as often as it stands
+-- `forms s` is the number of nodes of `s`; a shared node counts at each occurrence.
 abbrev pub forms : Shape → ℕ
 forms leaf = 1
 forms (over a) = forms a + 1
@@ -33,7 +33,7 @@ forms (both a b) = forms a + forms b + 1
 forms (literals n) = n + 1
 forms (sized high many) = many
 
--- a leaf has height 1
+-- `height s` is the height of `s`; a leaf has height 1.
 abbrev pub height : Shape → ℕ
 height leaf = 1
 height (over a) = height a + 1
@@ -41,7 +41,8 @@ height (both a b) = max (height a) (height b) + 1
 height (literals n) = 2
 height (sized high many) = high
 
--- `principal` alone is `true`; `e is T in f` is `(e is T) && (e in f)`
+-- `part_shape part` is the shape of a scope's part: `principal` alone is `true`, and `e is T in f` is
+-- `(e is T) && (e in f)`.
 abbrev pub part_shape : PartTree → Shape
 part_shape part.Any = leaf
 part_shape (part.Equal uid) = both leaf leaf
@@ -49,7 +50,8 @@ part_shape (part.In uid) = both leaf leaf
 part_shape (part.Is name) = over leaf
 part_shape (part.IsIn name uid) = both (over leaf) (both leaf leaf)
 
--- `action in []` is `false`; `action in [E, ..]` is `action in` that set
+-- `action_shape action` is the shape of a scope's action: `action in []` is `false`, and `action in [E, ..]` is
+-- `action in` that set.
 abbrev pub action_shape : ActionTree → Shape
 action_shape action.Any = leaf
 action_shape (action.Equal uid) = both leaf leaf
@@ -57,55 +59,57 @@ action_shape (action.In uid) = both leaf leaf
 action_shape (action.InList []) = leaf
 action_shape (action.InList (uid ∷ uids)) = both leaf (literals (suc (length uids)))
 
--- principal && (action && (resource && conditions))
+-- `shape_over tree conditions` is the shape of `principal && (action && (resource && conditions))`.
 abbrev pub shape_over : PolicyTree → Shape → Shape
 shape_over tree conditions =
     both (part_shape tree.principal) (both (action_shape tree.action) (both (part_shape tree.resource) conditions))
 
--- the whole policy's, which is told without making its expression
+-- `shape_of text tree` is the shape of the whole policy, found without building its expression.
 abbrev pub shape_of : List ℕ → PolicyTree → Shape
 shape_of text tree =
     let e = conditions_of text tree.conditions in
     shape_over tree (sized (size.height e) (size.forms e))
 
--- the greatest length of an id, in bytes
+-- `most_id_bytes` is the greatest length of an id, in bytes.
 abbrev pub most_id_bytes : ℕ
 most_id_bytes = 256
 
+-- `IsSmallShape shape` holds if `shape` is within the limits of height and nodes.
 abbrev pub IsSmallShape : Shape → Type 0
 IsSmallShape shape = (height shape ≤ most_height) × (forms shape ≤ most_forms)
 
--- with conditions of this height and so many forms
+-- `IsSmallOver tree high many` holds if the policy `tree` is within the limits, given the height and nodes of its
+-- conditions.
 abbrev pub IsSmallOver : PolicyTree → ℕ → ℕ → Type 0
 IsSmallOver tree high many = IsSmallShape (shape_over tree (sized high many))
 
--- what a policy's expression has to be
+-- `IsSmallTree text tree` holds if the core expression of the policy `tree` is within the limits.
 abbrev pub IsSmallTree : List ℕ → PolicyTree → Type 0
 IsSmallTree text tree = IsSmallShape (shape_of text tree)
 
+-- `IsSmallPolicy policy` holds if the expression of `policy` is within the limits.
 abbrev pub IsSmallPolicy : Policy → Type 0
 IsSmallPolicy policy = size.IsSmall (expression_of policy)
 
--- a policy's id in a file
+-- `IsId name` holds if `name` may be a policy's id: 1 to 256 bytes.
 abbrev pub IsId : List ℕ → Type 0
 IsId name = (1 ≤ length name) × (length name ≤ most_id_bytes)
 
--- ## Laws
+-- ## Theorems
 
--- The shape of a policy is as high as the expression of the policy that the tree stands for, and has as many forms.
+-- `ShapesAreSizes`: the shape of a policy's tree has the height and the nodes of the policy's expression.
 abbrev pub ShapesAreSizes : Type 0
 ShapesAreSizes = (text : List ℕ) (tree : PolicyTree) (policy : Policy) → IsCoreOf text tree policy →
     (height (shape_of text tree) ≡ size.height (expression_of policy))
     × (forms (shape_of text tree) ≡ size.forms (expression_of policy))
 
--- A policy without conditions whose head lists some actions, and asks nothing else, has nine forms more than it lists
--- actions.
+-- `NineFormsMore`: a policy that only lists some actions has nine nodes more than it lists actions.
 abbrev pub NineFormsMore : Type 0
 NineFormsMore = (text : List ℕ) (tree : PolicyTree) (uid : UidTree) (uids : List UidTree) →
     tree.principal ≡ part.Any → tree.action ≡ action.InList (uid ∷ uids) →
     tree.resource ≡ part.Any → tree.conditions ≡ [] → forms (shape_of text tree) ≡ length (uid ∷ uids) + 9
 
--- No head alone is too high: where a policy is, it is three higher than its conditions.
+-- `HeadsAreLow`: a policy is at most three higher than its conditions, or at most 6 high.
 abbrev pub HeadsAreLow : Type 0
 HeadsAreLow = (tree : PolicyTree) (conditions : Shape) →
     height (shape_over tree conditions) ≤ max 6 (height conditions + 3)

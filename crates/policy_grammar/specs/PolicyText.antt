@@ -1,6 +1,6 @@
--- What a text is read as, and why it is refused: lexing, then the grammar, then the core, within the limits.
--- Source: Cedar reference guide 4.0, "Grammar specification for Cedar policy syntax". The refusals and their order
--- are rules of this product.
+-- Defines what a text is parsed as, and its error: by tokens, then the grammar, then the core, within the limits.
+-- Source: Cedar reference guide 4.0, "Grammar specification for Cedar policy syntax". The errors and their order are
+-- rules of this product.
 use Rattle.std.specs.Prelude.{◌≡◌, ◌⊎◌, ℕ, List, [], Some, All, ◌++◌}
 use Rattle.std.specs.List.{AllByRecursion, flat_map}
 use Rattle.values.specs.declared.entity_uid.EntityUid.{EntityUid}
@@ -22,21 +22,23 @@ use Rattle.policy_grammar.specs.Faults.{of_desugaring}
 use Rattle.policy_grammar.specs.Limits.{IsSmallTree, IsSmallPolicy, IsId, most_policy_bytes, most_file_bytes}
 use Rattle.policy_grammar.specs.Repeats.{annotation_keys, policy_names}
 
--- The faults of a policy's tree: annotations that stand again, and those of its conditions.
+-- `tree_faults text tree` are the errors of a policy's tree: duplicate annotations, then those of its conditions.
 abbrev pub tree_faults : List ℕ → PolicyTree → List DesugarFault
 tree_faults text tree = repeat_faults (annotation_keys text tree) ++ condition_faults text tree.conditions
 
--- The faults of a file's trees: names of policies that stand again, and the faults of each tree.
+-- `file_faults text trees names` are the errors of a file's trees: duplicate policy names, then those of each tree.
 abbrev pub file_faults : List ℕ → List PolicyTree → List (List ℕ) → List DesugarFault
 file_faults text trees names = repeat_faults (policy_names names trees) ++ flat_map (tree_faults text) trees
 
--- A tree's policy, within the limits.
+-- `IsPolicyOf text tree policy` holds if `policy` is the policy of `tree`, which has no errors and is within the
+-- limits.
 pub record IsPolicyOf (text : List ℕ) (tree : PolicyTree) (policy : Policy) : Type 0 where
   pub sound : tree_faults text tree ≡ []
   pub core : IsCoreOf text tree policy
   pub small : IsSmallPolicy policy
 
--- The policies of a file's trees and their names, within the limits.
+-- `ArePoliciesOf text trees names policies` holds if a file's `trees` have these names and policies, no errors, and
+-- are within the limits.
 pub record ArePoliciesOf (text : List ℕ) (trees : List PolicyTree) (names : List (List ℕ)) (policies : List Policy) :
     Type 0 where
   pub named : AreNamesOf text trees names
@@ -45,68 +47,71 @@ pub record ArePoliciesOf (text : List ℕ) (trees : List PolicyTree) (names : Li
   pub small : AllByRecursion IsSmallPolicy policies
   pub ids : All IsId names
 
--- This text is one uid.
+-- `IsUidText text uid` holds if `text` is parsed as `uid`.
 pub record IsUidText (text : List ℕ) (uid : EntityUid) : Type 0 where
   pub tree : UidTree
   pub derives : Derives grammar.uid most_policy_bytes text tree
   pub is : IsUidOf text tree uid
 
--- This text is one policy.
+-- `IsPolicyText text policy` holds if `text` is parsed as `policy`.
 pub record IsPolicyText (text : List ℕ) (policy : Policy) : Type 0 where
   pub tree : PolicyTree
   pub derives : Derives (grammar.policy nesting_limit) most_policy_bytes text tree
   pub is : IsPolicyOf text tree policy
 
--- This text is a file of these policies, which have these names.
+-- `IsPolicyFile text names policies` holds if `text` is parsed as a file of these policies, with these names.
 pub record IsPolicyFile (text : List ℕ) (names : List (List ℕ)) (policies : List Policy) : Type 0 where
   pub trees : List PolicyTree
   pub derives : Derives (grammar.policies nesting_limit) most_file_bytes text trees
   pub are : ArePoliciesOf text trees names policies
 
--- The refusals, in their order: each says that those before it are not due. None is for want of memory, which says
--- nothing of a text.
+-- The errors, in their order: each excludes the earlier ones. None is `NoMemory`, which says nothing of a text.
 
--- Of these faults this one is told: the one at the least place, and of those at one place the one that is listed first.
+-- `IsReportedOf faults why` holds if `why` is the reported one of `faults`: at the least offset, and of those the
+-- first in the list.
 pub record IsReportedOf (faults : List DesugarFault) (why : ReadFault) : Type 0 where
   pub fault : DesugarFault
   pub first : least faults ≡ Some fault
   pub told : why ≡ of_desugaring fault
 
--- The policy of this tree is too large: its core expression is over 1,000 high, or has over 1,000,000 forms. That is
--- told as too deep, at byte 0.
+-- `IsOverLimit text tree why` holds if the policy of `tree` is over 1,000 high or has over 1,000,000 nodes, and `why`
+-- is `TooDeep` at byte 0.
 abbrev pub IsOverLimit : List ℕ → PolicyTree → ReadFault → Type 0
 IsOverLimit text tree (fault.TooDeep at) = (IsSmallTree text tree → ⊥) × (at ≡ 0)
 IsOverLimit text tree _ = ⊥
 
--- Some policy of these trees is too large; or none is, and some name is no id.
+-- `AreOverLimits text trees names why` holds if some policy of `trees` is over the limits; or none is, and some name
+-- is not an id.
 abbrev pub AreOverLimits : List ℕ → List PolicyTree → List (List ℕ) → ReadFault → Type 0
 AreOverLimits text trees names (fault.TooDeep at) = (AllByRecursion (IsSmallTree text) trees → ⊥) × (at ≡ 0)
 AreOverLimits text trees names fault.BadId = AllByRecursion (IsSmallTree text) trees × (All IsId names → ⊥)
 AreOverLimits text trees names _ = ⊥
 
--- A tree has no policy: it has a fault, or else its core expression is too large.
+-- `HasNoPolicy text tree why` holds if `tree` has an error, reported as `why`; or none, and its core expression is
+-- over the limits.
 abbrev pub HasNoPolicy : List ℕ → PolicyTree → ReadFault → Type 0
 HasNoPolicy text tree why =
     IsReportedOf (tree_faults text tree) why ⊎ ((tree_faults text tree ≡ []) × IsOverLimit text tree why)
 
--- The trees of a file have no policies: there is a fault; else a core expression is too large; else a name is no id.
+-- `HaveNoPolicies text trees names why` holds if `why` is the error of a file's trees: of a tree or a duplicate name;
+-- else of a size; else of a name.
 abbrev pub HaveNoPolicies : List ℕ → List PolicyTree → List (List ℕ) → ReadFault → Type 0
 HaveNoPolicies text trees names why =
     IsReportedOf (file_faults text trees names) why
     ⊎ ((file_faults text trees names ≡ []) × AreOverLimits text trees names why)
 
--- This text is no uid, for this reason.
+-- `IsUidRefused text why` holds if `text` is not a uid, with the error `why`.
 abbrev pub IsUidRefused : List ℕ → ReadFault → Type 0
 IsUidRefused = IsUnread grammar.uid grammar.uid most_policy_bytes
 
--- This text is no policy, for this reason.
+-- `IsPolicyRefused text why` holds if `text` is not a policy, with the error `why`.
 abbrev pub IsPolicyRefused : List ℕ → ReadFault → Type 0
 IsPolicyRefused text why =
     IsUnread (grammar.policy nesting_limit) (at_any grammar.policy) most_policy_bytes text why
     ⊎ ((tree : PolicyTree) × Derives (grammar.policy nesting_limit) most_policy_bytes text tree
     × HasNoPolicy text tree why)
 
--- This text is no file of policies, for this reason.
+-- `IsFileRefused text why` holds if `text` is not a file of policies, with the error `why`.
 abbrev pub IsFileRefused : List ℕ → ReadFault → Type 0
 IsFileRefused text why =
     IsUnread (grammar.policies nesting_limit) (at_any grammar.policies) most_file_bytes text why

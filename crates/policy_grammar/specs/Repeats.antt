@@ -1,6 +1,6 @@
--- Keys and names of which each stands once.
--- Source: Cedar reference guide 4.0, "Annotations": a key stands once in a policy. A rule of this product: a name
--- stands once in a file.
+-- Defines the names of the policies in a file, which must be distinct.
+-- Source: Cedar reference guide 4.0, "Annotations": a key stands once in a policy.
+-- Rules of this product: a name stands once in a file.
 use Rattle.std.specs.Prelude.{ℕ, List, [], ◌∷◌, map}
 use Rattle.std.specs.List.{zip}
 use Rattle.grammar_desugaring.specs.grammar_tokens.declared.token.Token.{Token}
@@ -9,14 +9,16 @@ use Rattle.grammar_policies.specs.declared.tree.PolicyTree.{PolicyTree}
 use Rattle.grammar_desugaring.specs.Repeats.{NameAt}
 pub use Rattle.policy_grammar.specs.Annotations.{key_at, annotation_keys}
 
--- where the first token of a policy stands
+-- `start_behind annotations effect` is the byte at which a policy with these annotations and this effect token
+-- starts.
 abbrev pub start_behind : List Annotation → Token → ℕ
 start_behind [] effect = effect.start
 start_behind (annotation ∷ more) effect = annotation.at.start
 
+-- `start_of tree` is the byte at which the first token of the policy `tree` starts.
 abbrev pub start_of : PolicyTree → ℕ
 start_of tree = start_behind tree.annotations tree.effect
 
--- the policies of a file, each by its name at its first token
+-- `policy_names names trees` are the names of a file's policies, each at the byte of its policy's first token.
 abbrev pub policy_names : List (List ℕ) → List PolicyTree → List NameAt
 policy_names names trees = map (λ named. record { name = named.0; at = start_of named.1 }) (zip names trees)

@@ -1,4 +1,5 @@
--- That a text is read in one way, which fault is told, and that a file's names differ.
+-- Defines the theorems that a text has one reading, that the reported error is the least, and that a file's names
+-- differ.
 use Rattle.std.specs.Prelude.{◌≡◌, ◌⊎◌, ℕ, List, length, Some}
 use Rattle.std.specs.List.{IsDistinct}
 use Rattle.std.specs.Str.{bytes_eq}
@@ -9,8 +10,8 @@ use Rattle.grammar_desugaring.specs.Refused.{at, IsLeastOf}
 use Rattle.policy_grammar.specs.Faults.{place_of}
 use Rattle.policy_grammar.specs.PolicyText.{IsPolicyFile, IsReportedOf}
 
--- A text stands for one value at most; one that stands for a value is not refused; it has one refusal at most; and it
--- stands for a value or is refused. So it comes to exactly one thing.
+-- `HasOneReading Holds Refused` holds if each text has exactly one outcome: one value that `Holds`, or one error that
+-- `Refused` gives it.
 pub record HasOneReading {A : Type 0} (Holds : List ℕ → A → Type 0) (Refused : List ℕ → ReadFault → Type 0) :
     Type 0 where
   pub one_value : (text : List ℕ) (x y : A) → Holds text x → Holds text y → x ≡ y
@@ -18,22 +19,21 @@ pub record HasOneReading {A : Type 0} (Holds : List ℕ → A → Type 0) (Refus
   pub one_refusal : (text : List ℕ) (why other : ReadFault) → Refused text why → Refused text other → why ≡ other
   pub some : (text : List ℕ) → ((x : A) × Holds text x) ⊎ ((why : ReadFault) × Refused text why)
 
--- a file's names and policies as one value
+-- `IsFileOf text file` holds if `text` is a file with these names and policies, as a pair.
 abbrev pub IsFileOf : List ℕ → (List (List ℕ) × List Policy) → Type 0
 IsFileOf text file = IsPolicyFile text file.0 file.1
 
--- The fault that is told of a tree or of a file is one of its faults; it is told where it stands, and no other stands
--- further left.
+-- `ReportedIsLeast`: the reported error is one of the errors, at its own offset, and no other has a lesser offset.
 abbrev pub ReportedIsLeast : Type 0
 ReportedIsLeast = (faults : List DesugarFault) (why : ReadFault) → IsReportedOf faults why →
     (fault : DesugarFault) × IsLeastOf faults fault × (place_of why ≡ Some (at fault))
 
--- Each policy of a file has a name,
+-- `EachIsNamed`: each policy of a file has a name.
 abbrev pub EachIsNamed : Type 0
 EachIsNamed = (text : List ℕ) (names : List (List ℕ)) (policies : List Policy) →
     IsPolicyFile text names policies → length names ≡ length policies
 
--- and no two have one name.
+-- `NamesDiffer`: the names of a file's policies are distinct.
 abbrev pub NamesDiffer : Type 0
 NamesDiffer = (text : List ℕ) (names : List (List ℕ)) (policies : List Policy) →
     IsPolicyFile text names policies → IsDistinct bytes_eq names

@@ -1,7 +1,7 @@
--- The expression of a policy: its scope's three parts and its conditions, joined to the right.
+-- Defines the expression of a policy: its scope's three parts and its conditions, joined to the right.
 -- Source: Cedar reference guide 4.0, "Basic policy construction" (scope, conditions); cedar-spec,
 -- cedar-lean/Cedar/Spec/Policy.lean (`Policy.toExpr`).
--- Rules of this product: a part that asks nothing is `true`, and `action in []` is `false`.
+-- Rules of this product: a part without a condition is `true`, and `action in []` is `false`.
 use Rattle.std.specs.Prelude.{true, false, [], ◌∷◌, map}
 use Rattle.values.specs.declared.entity_uid.EntityUid.{EntityUid}
 use Rattle.grammar_core.specs.declared.leaf.Literal.TheVariants as literal
@@ -17,23 +17,25 @@ use Rattle.policy_grammar.specs.declared.policy.ActionScope.{ActionScope}
 use Rattle.policy_grammar.specs.declared.policy.ActionScope.TheVariants as action
 use Rattle.policy_grammar.specs.declared.policy.Policy.{Policy}
 
+-- `truth` and `falsehood` are the literals `true` and `false`.
 abbrev pub truth : Expr
 truth = core.Literal (literal.Boolean true)
 
 abbrev pub falsehood : Expr
 falsehood = core.Literal (literal.Boolean false)
 
+-- `entity_literal uid` is the literal of the entity `uid`.
 abbrev pub entity_literal : EntityUid → Expr
 entity_literal uid = core.Literal (literal.Entity uid)
 
--- `x == E`, `x in E`, `x is T`
+-- `is_equal x uid` is `x == uid`; `is_in x uid` is `x in uid`.
 abbrev pub is_equal : Variable → EntityUid → Expr
 is_equal x uid = core.Binary Equal (core.Variable x) (entity_literal uid)
 
 abbrev pub is_in : Variable → EntityUid → Expr
 is_in x uid = core.Binary In (core.Variable x) (entity_literal uid)
 
--- what a scope asks of the principal or of the resource
+-- `entity_part x scope` is the expression of a scope's condition on the principal or the resource.
 abbrev pub entity_part : Variable → EntityScope → Expr
 entity_part x entity.Any = truth
 entity_part x (entity.Equal uid) = is_equal x uid
@@ -41,7 +43,7 @@ entity_part x (entity.In uid) = is_in x uid
 entity_part x (entity.Is name) = core.Unary (Is name) (core.Variable x)
 entity_part x (entity.IsIn name uid) = core.And (core.Unary (Is name) (core.Variable x)) (is_in x uid)
 
--- what a scope asks of the action
+-- `action_part scope` is the expression of a scope's condition on the action.
 abbrev pub action_part : ActionScope → Expr
 action_part action.Any = truth
 action_part (action.Equal uid) = is_equal Action uid
@@ -50,7 +52,7 @@ action_part (action.InList []) = falsehood
 action_part (action.InList (uid ∷ uids)) =
     core.Binary In (core.Variable Action) (core.Set (map entity_literal (uid ∷ uids)))
 
--- principal && (action && (resource && condition))
+-- `expression_of policy` is `principal && (action && (resource && condition))`.
 abbrev pub expression_of : Policy → Expr
 expression_of policy = core.And (entity_part Principal policy.scope.principal)
     (core.And (action_part policy.scope.action)

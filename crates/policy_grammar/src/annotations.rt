@@ -1,4 +1,4 @@
-//! Which annotation stands a second time in its policy, and where first.
+//! Duplicate annotations of a policy.
 ghost use Rattle.std.specs.Prelude.{◌≡◌, IfOk};
 ghost use Rattle.grammar_policies.specs.WellFormed.{WellFormedPolicy};
 ghost use Rattle.grammar_desugaring.specs.Refused.{least};
@@ -11,7 +11,7 @@ use grammar_policies::PolicyTree;
 use plain::NoMemory;
 use std::alloc::Global;
 
-/// Returns the annotations of a policy, each at its `@`.
+/// Returns the keys of a policy's annotations, each at the offset of its `@`.
 fn names_of_annotations<'a>(
     alloc: Global,
     text: &'a str,
@@ -30,7 +30,9 @@ fn names_of_annotations<'a>(
     Ok(marks)
 }
 
-/// Returns the fault of an annotation that stands again in its policy, the one at the least place.
+/// Returns the error of a duplicate annotation of a policy, the one at the least offset.
+///
+/// Fails only with `NoMemory`.
 pub fn repeated_annotation(
     alloc: Global,
     text: &str,

@@ -1,4 +1,4 @@
-//! The conditions of a policy, from the last to the first: judged before anything is made, and made.
+//! Conditions of a policy, from the last to the first: measured before anything is built, then built.
 ghost use Rattle.std.specs.Prelude.{◌≡◌, [], IfOk};
 ghost use Rattle.std.specs.List.{AllByRecursion};
 ghost use Rattle.grammar_core.specs.declared.expr.Expr.TheVariants as core;
@@ -15,7 +15,7 @@ use grammar_policies::{Condition, ConditionWord};
 use plain::{NoMemory, beside};
 use std::alloc::Global;
 
-/// Returns what is told of an expression behind this word.
+/// Returns the measure of a condition, from the measure of its expression.
 fn judge_asked(word: ConditionWord, measure: Measure) -> Measure
     ensures { result ≡ judged_by word measure }
 {
@@ -35,8 +35,8 @@ fn judge_condition(alloc: Global, text: &str, condition: &Condition) -> Result<M
     Ok(judge_asked(condition.word, measure))
 }
 
-/// Returns how large the core expression of the conditions is, and their fault at the least place. Takes memory for the
-/// keys of records alone.
+/// Measures the core expression of the conditions: its height, its nodes, and its error at the least offset.
+/// Allocates only for the keys of records.
 pub(crate) fn judge_conditions(
     alloc: Global,
     text: &str,
@@ -65,7 +65,7 @@ pub(crate) fn judge_conditions(
     Ok(joined)
 }
 
-/// Returns what is asked by an expression behind this word.
+/// Returns the core expression of a condition, from that of its expression.
 fn asked(alloc: Global, word: ConditionWord, expr: Expr) -> Result<Expr, NoMemory>
     ensures { IfOk result (λ e. e ≡ asked_by word expr) }
 {
@@ -84,7 +84,7 @@ fn build_condition(alloc: Global, text: &str, condition: &Condition) -> Result<E
     asked(alloc, condition.word, expr)
 }
 
-/// One condition more, before those that are joined.
+/// Joins one more condition in front of the joined ones.
 fn join_before(
     alloc: Global,
     text: &str,
@@ -99,7 +99,7 @@ fn join_before(
     Expr::and(alloc, first, joined)
 }
 
-/// Returns the core expression of the conditions. It is made of a policy that keeps to the limits alone.
+/// Builds the core expression of the conditions, which have no errors.
 pub(crate) fn build_conditions(
     alloc: Global,
     text: &str,

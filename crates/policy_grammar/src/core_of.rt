@@ -1,4 +1,4 @@
-//! The pass from a syntax tree to what it stands for.
+//! The translation of a syntax tree into a policy.
 ghost use Rattle.std.specs.Prelude.{◌≡◌, [], true, IfOk};
 ghost use Rattle.std.specs.List.{AllByRecursion};
 ghost use Rattle.grammar_policies.specs.Grammar.{effects};
@@ -19,7 +19,7 @@ use plain::{Items, NoMemory, Shared, beside};
 use std::alloc::Global;
 use values::EntityUid;
 
-/// Returns the uid that a tree of one stands for, or `NoMemory`; it shares the texts that the known one has too.
+/// Returns the uid of a tree, or `NoMemory`. Strings that are equal in `known` are shared with it.
 fn uid_like(
     alloc: Global,
     text: &str,
@@ -36,7 +36,7 @@ fn uid_like(
     Ok(EntityUid { type_name, id })
 }
 
-/// Returns the uid that a tree of one stands for, or `NoMemory`.
+/// Returns the uid of a tree, or `NoMemory`.
 pub(crate) fn uid_of(alloc: Global, text: &str, tree: &UidTree) -> Result<EntityUid, NoMemory>
     requires { IsBuiltFrom text.now (λ tokens. WellFormedUid tokens tree.now) }
     ensures { IfOk result (IsUidOf text.now tree.now) }
@@ -113,7 +113,7 @@ fn action_scope_of(
     }
 }
 
-/// Returns the effect that a word says.
+/// Returns the effect that a keyword names.
 fn effect_of(kind: TokenKind) -> Effect
     requires { effects kind ≡ true }
     ensures { kind ≡ effect_word result }
@@ -125,7 +125,7 @@ fn effect_of(kind: TokenKind) -> Effect
     }
 }
 
-/// Returns what a tree asks of a request, or `NoMemory`; it shares the names that the known scope has too.
+/// Returns the scope of a tree, or `NoMemory`. Names that are equal in `known` are shared with it.
 fn scope_of(
     alloc: Global,
     text: &str,
@@ -154,8 +154,8 @@ fn scope_of(
     })
 }
 
-/// Returns what a tree stands for, or `NoMemory`; it shares the names that the known scope, as that of the policy
-/// before, has too.
+/// Returns the policy of a tree, or `NoMemory`. Names that are equal in `known`, as the scope of the previous policy,
+/// are shared with it.
 pub(crate) fn core_like(
     alloc: Global,
     text: &str,
@@ -180,7 +180,7 @@ pub(crate) fn core_like(
     })
 }
 
-/// Returns what a tree stands for.
+/// Returns the policy of a tree, or `NoMemory`.
 pub(crate) fn core_of(alloc: Global, text: &str, tree: &PolicyTree) -> Result<Policy, NoMemory>
     requires stands { IsBuiltFrom text.now (λ tokens. WellFormedPolicy tokens tree.now) }
     requires sound { condition_faults text.now tree.now.conditions ≡ [] }

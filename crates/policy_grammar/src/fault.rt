@@ -1,4 +1,4 @@
-//! Why a text is not read as policies.
+//! Errors of parsing policies.
 ghost use Rattle.std.specs.Prelude.{◌≡◌};
 ghost use Rattle.policy_grammar.specs.declared.fault.ReadFault.TheVariants.{NoMemory};
 ghost use Rattle.policy_grammar.specs.Faults.{code_of, place_of, of_lexing, of_desugaring};
@@ -7,49 +7,49 @@ use grammar_desugaring::{DesugarFault, LexFault};
 use std::alloc::{AllocError, AllocFailed};
 use thiserror::Error;
 
-/// Why a text is not read. Each place is a byte's, counted from 0.
+/// An error of parsing. Each offset is that of a byte, counted from 0.
 #[derive(Clone, Copy, PartialEq, Eq, Debug, Error)]
 pub enum ReadFault {
-    /// An allocation was refused.
+    /// An allocation failed.
     #[error("policy 1: out of memory")]
     NoMemory,
-    /// Here stands neither a blank nor a comment nor a token: among others a string that is not closed, or that has a
-    /// bad escape.
+    /// No whitespace, comment or token starts at this byte: for instance a string that is not closed, or has a bad
+    /// escape.
     #[error("policy 10: invalid token at byte {0}")]
     BadToken(usize),
-    /// The first token with which nothing goes on, or the text's length where it ends too early.
+    /// The first token with which no text of the grammar goes on, or the text's length if it ends too early.
     #[error("policy 11: unexpected token at byte {0}")]
     Unexpected(usize),
-    /// A number outside signed 64 bits. A minus before it joins it.
+    /// A number outside signed 64 bits. A minus before it belongs to it.
     #[error("policy 12: number outside signed 64 bits at byte {0}")]
     NumberRange(usize),
-    /// The name of a call that no function, or no method, has.
+    /// The name of a call that is not the name of a function, or of a method.
     #[error("policy 13: unknown function or method at byte {0}")]
     UnknownCall(usize),
-    /// The name of a known call with another count of arguments.
+    /// The name of a known function or method with a wrong number of arguments.
     #[error("policy 14: wrong number of arguments at byte {0}")]
     Arity(usize),
-    /// A key of a record, an annotation (its `@`) or a policy's name in a file (the policy's first token) that stands
-    /// a second time.
+    /// A duplicate: a key of a record, an annotation (its `@`), or a policy's name in a file (the policy's first
+    /// token).
     #[error("policy 15: repeated key, annotation or policy id at byte {0}")]
     RepeatedKey(usize),
-    /// In place of `Unexpected` where that token is `?principal` or `?resource`.
+    /// Instead of `Unexpected` if that token is `?principal` or `?resource`.
     #[error("policy 16: template slot at byte {0}; templates are not supported")]
     Slot(usize),
-    /// The token that would open a level of nesting too many; or, at place 0, a policy's core
-    /// expression is higher than 1,000, or has over 1,000,000 forms.
+    /// The token that would open level 65 of nesting; or, at offset 0, a policy whose core expression is higher than
+    /// 1,000 or has over 1,000,000 nodes.
     #[error("policy 17: nested too deeply, or too large, at byte {0}")]
     TooDeep(usize),
-    /// Over 262,144 bytes; a file over 8,388,608.
+    /// A text of over 262,144 bytes; a file of over 8,388,608.
     #[error("policy 18: text longer than 262,144 bytes, or file longer than 8,388,608")]
     TooLong,
-    /// In a file: a policy's name of no byte, or of over 256.
+    /// In a file: an empty policy name, or one of over 256 bytes.
     #[error("policy 19: policy id of 0 bytes, or of over 256")]
     BadId,
 }
 
 impl ReadFault {
-    /// Returns the number by which the refusal is told.
+    /// Returns the error's code.
     pub fn code(self) -> u8
         ensures { result ≡ code_of self }
     {
@@ -68,7 +68,7 @@ impl ReadFault {
         }
     }
 
-    /// Returns the byte at which it shows; None for want of memory.
+    /// Returns the byte offset of the error; `None` for `NoMemory`.
     pub fn place(self) -> Option<usize>
         ensures { result ≡ place_of self }
     {

@@ -1,8 +1,8 @@
-//! A value that is let go once something was made from it.
+//! A value that is dropped once another was made from it.
 ghost use Rattle.std.specs.Prelude.{◌≡◌};
 
-/// Returns what was made from a value that is let go now. Generic, so that this is one step, and not one for each of
-/// its variants.
+/// Returns `made`, and drops the value that it was made from. Generic, so that the drop is one step and not one for
+/// each variant.
 pub(crate) fn after<T: Drop, U>(_source: T, made: U) -> U
     ensures { result ≡ made }
 {

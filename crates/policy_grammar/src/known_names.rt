@@ -1,4 +1,4 @@
-//! Names that are known already: where a further one is the same, both share one text.
+//! Known names: equal names share one string.
 ghost use Rattle.std.specs.Prelude.{◌≡◌, IsTrue, IfOk};
 ghost use Rattle.grammar_policies.specs.WellFormed.{WellFormedPath};
 ghost use Rattle.grammar_desugaring.specs.BuiltFrom.{IsBuiltFrom};
@@ -11,8 +11,8 @@ use plain::{NoMemory, Text};
 use std::alloc::Global;
 use values::{EntityUid, SharedText, TypeName};
 
-/// Returns whether a path is one word, and that this name. Of a longer path, which may have blanks between its words,
-/// it says `false`.
+/// Returns whether a path is one word, equal to this name. Returns `false` for a longer path, which may have
+/// whitespace between its words.
 fn is_written(text: &str, path: &PathTree, name: &TypeName) -> bool
     requires { IsBuiltFrom text.now (λ tokens. WellFormedPath tokens path.now) }
     ensures { IsTrue result → name.now ≡ path_name text.now path.now }
@@ -23,7 +23,7 @@ fn is_written(text: &str, path: &PathTree, name: &TypeName) -> bool
     false
 }
 
-/// Returns the type name that a path is, or `NoMemory`; where the known one is written so, it has that one's text.
+/// Returns the type name of a path, or `NoMemory`. It shares the string of `known` if that is written alike.
 pub(crate) fn type_name_like(
     alloc: Global,
     text: &str,
@@ -39,7 +39,7 @@ pub(crate) fn type_name_like(
     }
 }
 
-/// Returns an id of this text, or `NoMemory`; where the known one is the same, it has that one's text.
+/// Returns an id of this text, or `NoMemory`. It shares the string of `known` if that is equal.
 pub(crate) fn id_like(
     alloc: Global,
     text: Text,
@@ -63,17 +63,17 @@ pub(crate) fn id_of(uid: Option<&EntityUid>) -> Option<&SharedText> {
     Some(&uid?.id)
 }
 
-/// Returns what a known scope asks of the principal.
+/// Returns the principal part of a known scope.
 pub(crate) fn principal_in(scope: Option<&Scope>) -> Option<&EntityScope> {
     Some(&scope?.principal)
 }
 
-/// Returns what a known scope asks of the resource.
+/// Returns the resource part of a known scope.
 pub(crate) fn resource_in(scope: Option<&Scope>) -> Option<&EntityScope> {
     Some(&scope?.resource)
 }
 
-/// Returns the uid that a known scope names for the action, where it names one.
+/// Returns the uid that a known scope names for the action, if it names one.
 pub(crate) fn action_in(scope: Option<&Scope>) -> Option<&EntityUid> {
     match &scope?.action {
         ActionScope::Equal(uid) | ActionScope::In(uid) => Some(uid),
@@ -81,7 +81,7 @@ pub(crate) fn action_in(scope: Option<&Scope>) -> Option<&EntityUid> {
     }
 }
 
-/// Returns the uid that a known part of a scope names.
+/// Returns the uid that a known part of a scope names, if it names one.
 pub(crate) fn uid_in(part: Option<&EntityScope>) -> Option<&EntityUid> {
     match part? {
         EntityScope::Equal(uid) | EntityScope::In(uid) | EntityScope::IsIn(_, uid) => Some(uid),
@@ -89,7 +89,7 @@ pub(crate) fn uid_in(part: Option<&EntityScope>) -> Option<&EntityUid> {
     }
 }
 
-/// Returns the type that a known part of a scope names by itself.
+/// Returns the type that a known part of a scope names, if it names one.
 pub(crate) fn type_in(part: Option<&EntityScope>) -> Option<&TypeName> {
     match part? {
         EntityScope::Is(name) | EntityScope::IsIn(name, _) => Some(name),

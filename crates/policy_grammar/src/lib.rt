@@ -1,4 +1,4 @@
-//! Policies of the Cedar language, read from text: as trees, and then as core expressions.
+//! Policies of the Cedar language, parsed from text into trees and then into core expressions.
 #![tactic(auto)]
 
 mod annotations;

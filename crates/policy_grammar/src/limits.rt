@@ -1,4 +1,4 @@
-//! How large a policy may be.
+//! Limits on the size of a policy.
 ghost use Rattle.std.specs.Prelude.{◌≡◌, ◌↔◌, ◌<◌, ◌^◌, IsTrue, All};
 ghost use Rattle.policy_grammar.specs.Limits as spec;
 ghost use Rattle.policy_grammar.specs.Limits.{IsSmallOver, IsId, ShapesAreSizes, NineFormsMore, HeadsAreLow};
@@ -7,10 +7,10 @@ use grammar_core::{FORMS_MAX, HEIGHT_MAX};
 use grammar_policies::{ActionTree, PartTree, PolicyTree};
 use plain::Text;
 
-/// The greatest height of the conditions' core expression: three `&&` stand above it, and no head is too high.
+/// The greatest height of the conditions' core expression: three `&&` are above it, and no scope alone is too high.
 const MOST_CONDITION_HEIGHT: u32 = HEIGHT_MAX - 3;
 
-/// The most forms of a policy's core expression.
+/// The most nodes of a policy's core expression.
 const MOST_FORMS: usize = FORMS_MAX as usize;
 
 /// The most bytes of a policy's id.
@@ -42,8 +42,7 @@ fn action_forms(action: &ActionTree) -> usize
     }
 }
 
-/// Returns whether a policy's core expression is low enough and has few enough forms, by the height and the forms of
-/// its conditions.
+/// Returns whether a policy's core expression is within the limits, given the height and the nodes of its conditions.
 pub(crate) fn is_small(tree: &PolicyTree, height: u32, forms: u32) -> bool
     ensures { IsTrue result ↔ IsSmallOver tree.now height forms }
 {
@@ -54,7 +53,7 @@ pub(crate) fn is_small(tree: &PolicyTree, height: u32, forms: u32) -> bool
     height <= MOST_CONDITION_HEIGHT && head + forms as usize <= MOST_FORMS
 }
 
-/// Returns whether a policy may have this name in a file.
+/// Returns whether a string may be a policy's name in a file: 1 to 256 bytes.
 pub(crate) fn is_id(name: &Text) -> bool
     ensures { IsTrue result ↔ IsId name.now }
 {
@@ -68,8 +67,8 @@ pub(crate) fn are_ids(names: &[Text]) -> bool
     names.iter().all(|name| is_id(name))
 }
 
-/// Proves that a policy's size is told as that of its core expression, and that sizes are counted as the language's
-/// rewriting says: it does nothing, and its clauses are laws of the definitions.
+/// Proves that the size computed from a policy's tree is that of its core expression, and two facts about the size of
+/// a scope. No-op.
 pub fn heads_are_small()
     ensures sizes { ShapesAreSizes }
     ensures list { NineFormsMore }

@@ -1,4 +1,4 @@
-//! The names of the policies in a file.
+//! Names of the policies in a file.
 ghost use Rattle.std.specs.Prelude.{◌≡◌, ◌++◌, [], IfOk, IfSome, codes, decimal, find, length, map, string_bytes};
 ghost use Rattle.std.specs.Option.{option_copied};
 ghost use Rattle.std.specs.List.{AllByRecursion};
@@ -17,7 +17,7 @@ use plain::{NoMemory, Text};
 use std::alloc::Global;
 use std::collections::VecDeque;
 
-/// The bytes of the longest name by a place: `policy` and twenty digits.
+/// The bytes of the longest name by index: `policy` and twenty digits.
 const MOST_PLACED_BYTES: usize = 26;
 
 /// Returns the first annotation with the key `id`.
@@ -34,7 +34,7 @@ fn id_of<'a>(text: &str, annotations: &'a [Annotation]) -> Option<&'a Annotation
     None
 }
 
-/// Returns whether a policy is named by an `@id`, and not by its place.
+/// Returns whether a policy is named by an `@id` rather than by its index.
 pub(crate) fn has_id(text: &str, tree: &PolicyTree) -> bool
     requires { IsBuiltFrom text.now (λ tokens. WellFormedPolicy tokens tree.now) }
     ensures { result ≡ has_id text.now tree.now }
@@ -42,7 +42,7 @@ pub(crate) fn has_id(text: &str, tree: &PolicyTree) -> bool
     id_of(text, tree.annotations.as_slice()).is_some()
 }
 
-/// Returns the text that an annotation has.
+/// Returns the decoded value of an annotation.
 fn value_of(alloc: Global, text: &str, annotation: &Annotation) -> Result<Text, NoMemory>
     requires { IsBuiltFrom text.now (λ tokens. WellFormedAnnotation tokens annotation.now) }
     ensures { IfOk result (IsValueOf text.now annotation.now.value) }
@@ -53,7 +53,7 @@ fn value_of(alloc: Global, text: &str, annotation: &Annotation) -> Result<Text, 
     }
 }
 
-/// Returns the name that a policy has by its place: `policy` and the place in decimal. Memory is asked for once.
+/// Returns the name of a policy by its index: `policy` and the index in decimal. Allocates once.
 fn placed_name(alloc: Global, place: usize) -> Result<Text, NoMemory>
     ensures { IfOk result (λ name. name ≡ codes "policy" ++ decimal place) }
 {
@@ -64,7 +64,7 @@ fn placed_name(alloc: Global, place: usize) -> Result<Text, NoMemory>
     Ok(Text::from_string(name))
 }
 
-/// Returns the name of the policy at this place of its file.
+/// Returns the name of the policy at this index of its file.
 fn name_of(alloc: Global, text: &str, place: usize, tree: &PolicyTree) -> Result<Text, NoMemory>
     requires { IsBuiltFrom text.now (λ tokens. WellFormedPolicy tokens tree.now) }
     ensures { IfOk result (IsNameOf text.now place tree.now) }
@@ -92,7 +92,7 @@ pub(crate) fn names_of(
     Ok(names)
 }
 
-/// Returns what the last of these policies asks of a request.
+/// Returns the scope of the last of these policies.
 fn last_scope(named: &[(String, Policy)]) -> Option<&Scope> {
     match named {
         [.., (_, policy)] => Some(policy.scope.get()),
@@ -100,8 +100,8 @@ fn last_scope(named: &[(String, Policy)]) -> Option<&Scope> {
     }
 }
 
-/// Returns the policies that a file's trees stand for, each with its name, or `NoMemory`. One shares the type names,
-/// and the action's id, that the one before has too.
+/// Returns the policies of a file's trees, each with its name, or `NoMemory`. Each shares the type names and the
+/// action's id that are equal in the policy before it.
 pub(crate) fn named_of(
     alloc: Global,
     text: &str,

@@ -1,5 +1,5 @@
-//! Uids that are written plainly, as most are: `User::"alice"` with nothing between its tokens and no escape. They are
-//! read where they stand, without tokens and without a tree.
+//! Uids in their usual form: `User::"alice"` with nothing between its tokens and no escape. They are parsed directly,
+//! without tokens and without a tree.
 ghost use Rattle.std.specs.Prelude.{IfOk, IfSome};
 ghost use Rattle.policy_grammar.specs.PolicyText.{IsUidText};
 ghost use Rattle.policy_grammar.specs.inner.Parts.{IsWrittenPlainly};
@@ -10,8 +10,8 @@ use plain::NoMemory;
 use std::alloc::Global;
 use values::{EntityUid, SharedText, TypeName};
 
-/// Returns what stands before `::"`, and what stands between the quotes: where the second quote ends the text, and no
-/// escape stands between them.
+/// Returns the part before `::"` and the part between the quotes, if the second quote ends the text and no escape is
+/// between them.
 fn plain_parts(text: &str) -> Option<(&str, &str)>
     ensures { IfSome result (λ parts. IsWrittenPlainly text.now parts.0.now parts.1.now) }
 {
@@ -24,7 +24,7 @@ fn plain_parts(text: &str) -> Option<(&str, &str)>
     Some((name, id))
 }
 
-/// Returns the uid that a text is, where it is written plainly; of others it says None. Fails for memory alone.
+/// Returns the uid of a text in the usual form; `None` for other texts. Fails only with `NoMemory`.
 pub(crate) fn plain_uid(alloc: Global, text: &str) -> Result<Option<EntityUid>, NoMemory>
     ensures { IfOk result (λ found. IfSome found (IsUidText text.now)) }
 {

@@ -1,46 +1,46 @@
-//! Policies, as the layers above see them.
+//! Policies as core expressions.
 ghost use Rattle.std.specs.Prelude.{◌≡◌, IfOk};
 
 use grammar_core::Expr;
 use plain::{Items, NoMemory, Shared, beside};
 use values::{EntityUid, TypeName};
 
-/// What a policy does for a request that it is satisfied by.
+/// The effect of a policy on a request that satisfies it.
 #[derive(Clone, Copy, PartialEq, Eq)]
 pub enum Effect {
     Permit,
     Forbid,
 }
 
-/// What a policy's head asks of the principal, or of the resource.
+/// A condition of a policy's scope on the principal or on the resource.
 #[derive(Drop)]
 pub enum EntityScope {
-    /// Nothing.
+    /// No condition.
     Any,
-    /// To be this entity.
+    /// The entity is this one.
     Equal(EntityUid),
-    /// To be this entity, or below it.
+    /// The entity is this one or a descendant of it.
     In(EntityUid),
-    /// To be of this type.
+    /// The entity has this type.
     Is(TypeName),
-    /// To be of this type, and this entity or below it.
+    /// The entity has this type, and is this one or a descendant of it.
     IsIn(TypeName, EntityUid),
 }
 
-/// What a policy's head asks of the action.
+/// The condition of a policy's scope on the action.
 #[derive(Drop)]
 pub enum ActionScope {
-    /// Nothing.
+    /// No condition.
     Any,
-    /// To be this action.
+    /// The action is this one.
     Equal(EntityUid),
-    /// To be this action, or below it.
+    /// The action is this one or a descendant of it.
     In(EntityUid),
-    /// To be one of these actions, or below one of them. No request meets the empty list.
+    /// The action is one of these or a descendant of one of them. No request satisfies the empty list.
     InList(Items<EntityUid>),
 }
 
-/// What a policy's head asks of a request: all three.
+/// The scope of a policy: its conditions on principal, action and resource.
 #[derive(Drop)]
 pub struct Scope {
     pub principal: EntityScope,
@@ -48,18 +48,19 @@ pub struct Scope {
     pub resource: EntityScope,
 }
 
-/// A policy: what it does, and what it asks of a request. Its parts are shared, so that an index may keep it too.
+/// A policy: its effect, its scope and its condition. Scope and condition are shared, so that an index may hold them
+/// too.
 #[derive(Drop)]
 pub struct Policy {
     pub effect: Effect,
     pub scope: Shared<Scope>,
-    /// What its conditions ask, joined to the right: `unless { e }` asks `!e`, and no condition asks `true`.
+    /// The policy's conditions, joined to the right by `&&`: `unless { e }` is `!e`, and no conditions are `true`.
     pub condition: Shared<Expr>,
 }
 
 impl Policy {
-    /// Returns the policy once more: nothing is copied, and no memory is taken. `NoMemory` is for a count of owners
-    /// that no memory can reach.
+    /// Returns another reference to the policy, without copying or allocating. `NoMemory` only if the count of
+    /// references would overflow.
     pub fn share(&self) -> Result<Policy, NoMemory>
         ensures { IfOk result (λ policy. policy ≡ self.now) }
     {

@@ -1,4 +1,4 @@
-//! Which policy's name stands a second time in a file, and where first.
+//! Duplicate policy names in a file.
 ghost use Rattle.std.specs.Prelude.{◌≡◌, ◌||◌, IfOk, length};
 ghost use Rattle.std.specs.List.{AllByRecursion};
 ghost use Rattle.grammar_policies.specs.WellFormed.{WellFormedPolicy};
@@ -15,7 +15,7 @@ use grammar_policies::PolicyTree;
 use plain::{NoMemory, Text};
 use std::alloc::Global;
 
-/// Where the first token of a policy stands.
+/// Returns the offset of a policy's first token.
 fn start(tree: &PolicyTree) -> usize
     ensures { result ≡ start_of tree.now }
 {
@@ -25,7 +25,7 @@ fn start(tree: &PolicyTree) -> usize
     }
 }
 
-/// Returns whether a policy is named by an `@id` that begins as the names by places do.
+/// Returns whether a policy is named by an `@id` that begins with `policy`, as the names by index do.
 fn looks_placed(text: &str, name: &Text, tree: &PolicyTree) -> bool
     requires { IsBuiltFrom text.now (λ tokens. WellFormedPolicy tokens tree.now) }
     ensures { result ≡ looks_placed text.now name.now tree.now }
@@ -33,7 +33,7 @@ fn looks_placed(text: &str, name: &Text, tree: &PolicyTree) -> bool
     has_id(text, tree) && name.as_str().as_bytes().starts_with(b"policy")
 }
 
-/// Returns whether an `@id` of a file may be the name that a policy has by its place.
+/// Returns whether some `@id` of a file may equal a policy's name by index.
 fn meets_place(text: &str, names: &[Text], trees: &[PolicyTree]) -> bool
     requires same { length names.now ≡ length trees.now }
     requires stands { IsBuiltFrom text.now (λ tokens. AllByRecursion (WellFormedPolicy tokens) trees.now) }
@@ -47,7 +47,7 @@ fn meets_place(text: &str, names: &[Text], trees: &[PolicyTree]) -> bool
     false
 }
 
-/// Returns whether the name of a policy may stand twice.
+/// Returns whether the name of a policy may be a duplicate.
 fn is_doubtful(text: &str, wide: bool, tree: &PolicyTree) -> bool
     requires { IsBuiltFrom text.now (λ tokens. WellFormedPolicy tokens tree.now) }
     ensures { result ≡ (wide || has_id text.now tree.now) }
@@ -55,8 +55,8 @@ fn is_doubtful(text: &str, wide: bool, tree: &PolicyTree) -> bool
     wide || has_id(text, tree)
 }
 
-/// Returns the policies whose names may stand twice, each at its first token: those that have an `@id`, or all
-/// (`wide`).
+/// Returns the policies whose names may be duplicates, each at its first token: those with an `@id`, or all if
+/// `wide`.
 fn doubtful_marks<'a>(
     alloc: Global,
     text: &str,
@@ -82,8 +82,7 @@ fn doubtful_marks<'a>(
     Ok(marks)
 }
 
-/// Returns the fault of a policy's name that stands again in a file, the one at the least place. Names by places are
-/// all different.
+/// Returns the error of a duplicate policy name in a file, the one at the least offset. Names by index are distinct.
 pub(crate) fn repeated_name(
     alloc: Global,
     text: &str,

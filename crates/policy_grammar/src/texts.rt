@@ -1,4 +1,4 @@
-//! Whole texts: a uid, a policy, a file of policies.
+//! Parsers of whole texts: a uid, a policy, a file of policies.
 ghost use Rattle.std.specs.Prelude.{IfOk, IfErr, map, string_bytes};
 ghost use Rattle.std.specs.List.{AllByRecursion};
 ghost use Rattle.grammar_policies.specs.WellFormed.{WellFormedPolicy};
@@ -26,7 +26,7 @@ use plain::{NoMemory, Text};
 use std::alloc::Global;
 use values::EntityUid;
 
-/// Returns the uid that a text is, by its tokens and their tree.
+/// Parses a uid through its tokens and their tree.
 fn uid_by_tree(alloc: Global, text: &str) -> Result<EntityUid, ReadFault>
     ensures read { IfOk result (IsUidText text.now) }
     ensures refused { IfErr result (OrNoMemory ReadFault.NoMemory (IsUidRefused text.now)) }
@@ -35,10 +35,16 @@ fn uid_by_tree(alloc: Global, text: &str) -> Result<EntityUid, ReadFault>
     Ok(uid_of(alloc, text, &tree)?)
 }
 
-/// Returns the uid that a text is, as `User::"alice"`; blanks and comments may stand between its tokens.
+/// Parses a uid, as `User::"alice"`. Whitespace and comments may be between its tokens.
 ///
-/// A text has at most 262,144 bytes. Refused, as every text here: `TooLong` first; then `BadToken` over the whole
-/// text; then `Unexpected` or `Slot`, the first met from the left.
+/// # Errors
+///
+/// In this order:
+///
+/// - `TooLong` (18): over 262,144 bytes.
+/// - `BadToken` (10): the first byte at which no token starts, anywhere in the text.
+/// - `Unexpected` (11), `Slot` (16): the first token with which no uid goes on.
+/// - `NoMemory` (1): an allocation failed; possible at any point.
 pub fn parse_uid(alloc: Global, text: &str) -> Result<EntityUid, ReadFault>
     ensures read { IfOk result (IsUidText text.now) }
     ensures refused { IfErr result (OrNoMemory ReadFault.NoMemory (IsUidRefused text.now)) }
@@ -49,7 +55,7 @@ pub fn parse_uid(alloc: Global, text: &str) -> Result<EntityUid, ReadFault>
     }
 }
 
-/// Returns the policy that a tree stands for, within the limits.
+/// Returns the policy of a tree, within the limits.
 fn policy_of(alloc: Global, text: &str, tree: &PolicyTree) -> Result<Policy, ReadFault>
     requires { IsBuiltFrom text.now (λ tokens. WellFormedPolicy tokens tree.now) }
     ensures read { IfOk result (IsPolicyOf text.now tree.now) }
@@ -66,15 +72,23 @@ fn policy_of(alloc: Global, text: &str, tree: &PolicyTree) -> Result<Policy, Rea
     Ok(core_of(alloc, text, tree)?)
 }
 
-/// Returns the policy that a text is. Its annotations are not kept, and an `@id` is not judged.
+/// Parses a policy. Its annotations are not kept, and the length of an `@id` is not checked.
 ///
-/// A text has at most 262,144 bytes. Refused: `TooLong` first; then `BadToken` over the whole text; then
-/// `Unexpected`, `Slot`, or `TooDeep` at a token that would open level 65 of an expression, the first met from the
-/// left; then `RepeatedKey` of an annotation or of a record, `NumberRange`, `UnknownCall` and `Arity`, the least
-/// place first; then `TooDeep` at 0, where the core expression is higher than 1,000 or has over 1,000,000 forms. All
-/// this is judged before any part of the core expression is made.
+/// # Errors
 ///
-/// Source: Cedar reference guide 4.0, "Grammar specification for Cedar policy syntax" and "Basic policy construction".
+/// In this order, all before any part of the core expression is built:
+///
+/// - `TooLong` (18): over 262,144 bytes.
+/// - `BadToken` (10): the first byte at which no token starts, anywhere in the text.
+/// - `Unexpected` (11), `Slot` (16), `TooDeep` (17): the first token with which no policy goes on, or that would open
+///   level 65 of an expression.
+/// - `RepeatedKey` (15) of an annotation or of a record, `NumberRange` (12), `UnknownCall` (13), `Arity` (14): the
+///   error at the least offset.
+/// - `TooDeep` (17) at offset 0: the core expression is higher than 1,000 or has over 1,000,000 nodes.
+/// - `NoMemory` (1): an allocation failed; possible at any point.
+///
+/// Source: Cedar reference guide 4.0, "Grammar specification for Cedar policy syntax" and "Basic policy
+/// construction".
 pub fn parse_policy(alloc: Global, text: &str) -> Result<Policy, ReadFault>
     ensures read { IfOk result (IsPolicyText text.now) }
     ensures refused { IfErr result (OrNoMemory ReadFault.NoMemory (IsPolicyRefused text.now)) }
@@ -84,7 +98,7 @@ pub fn parse_policy(alloc: Global, text: &str) -> Result<Policy, ReadFault>
     after(tree, made)
 }
 
-/// Returns the policies that a file's trees stand for, each with its name, within the limits.
+/// Returns the policies of a file's trees, each with its name, within the limits.
 fn policies_of(
     alloc: Global,
     text: &str,
@@ -113,15 +127,22 @@ fn policies_of(
     Ok(named_of(alloc, text, names, trees)?)
 }
 
-/// Returns the policies of a file, each with its name: the value of its first `@id`, else `policyN` by its place in the
+/// Parses a file of policies, each with its name: the value of its first `@id`, else `policyN` with its index in the
 /// file, counted from 0.
 ///
-/// A file has at most 8,388,608 bytes. Refused: `TooLong` first; then `BadToken` over the whole text; then
-/// `Unexpected`, `Slot`, or `TooDeep` at a token that would open level 65 of an expression, the first met from the
-/// left; then `RepeatedKey` of an annotation, of a record or of a policy's name, `NumberRange`, `UnknownCall` and
-/// `Arity`, the least place of the whole file first; then `TooDeep` at 0, where the core expression of some policy is
-/// higher than 1,000 or has over 1,000,000 forms; then `BadId`. All this is judged before any part of a core
-/// expression is made.
+/// # Errors
+///
+/// In this order, all before any part of a core expression is built:
+///
+/// - `TooLong` (18): over 8,388,608 bytes.
+/// - `BadToken` (10): the first byte at which no token starts, anywhere in the file.
+/// - `Unexpected` (11), `Slot` (16), `TooDeep` (17): the first token with which no file goes on, or that would open
+///   level 65 of an expression.
+/// - `RepeatedKey` (15) of an annotation, of a record or of a policy's name, `NumberRange` (12), `UnknownCall` (13),
+///   `Arity` (14): the error at the least offset of the whole file.
+/// - `TooDeep` (17) at offset 0: the core expression of some policy is higher than 1,000 or has over 1,000,000 nodes.
+/// - `BadId` (19): some name does not have 1 to 256 bytes.
+/// - `NoMemory` (1): an allocation failed; possible at any point.
 pub fn parse_policies(alloc: Global, text: &str) -> Result<Vec<(String, Policy)>, ReadFault>
     ensures read { IfOk result
         (λ named. IsPolicyFile text.now (map (λ p. string_bytes p.0) named.items) (map (λ p. p.1) named.items)) }

@@ -1,4 +1,4 @@
-//! Whole texts as trees: a uid, a policy, a file of policies.
+//! Syntax trees of whole texts: a uid, a policy, a file of policies.
 ghost use Rattle.std.specs.Prelude.{◌≡◌, IfOk, IfErr, slice_get};
 ghost use Rattle.std.specs.List.{AllByRecursion};
 ghost use Rattle.grammar_policies.specs.grammar_expressions.Expressions.{nesting_limit};
@@ -37,7 +37,7 @@ fn tokens_of(alloc: Global, text: &str, most: usize) -> Result<Vec<Token>, ReadF
     Ok(found)
 }
 
-/// Returns the byte at which the token at an index starts, or the text's length behind the last.
+/// Returns the byte offset of the token at an index, or the text's length after the last token.
 fn byte(text: &str, tokens: &[Token], place: usize) -> usize
     ensures { result ≡ byte_of text.now (slice_get tokens.now place) }
 {
@@ -47,7 +47,7 @@ fn byte(text: &str, tokens: &[Token], place: usize) -> usize
     }
 }
 
-/// Returns the refusal of tokens as one of their text.
+/// Returns an error at a token as the error at its byte.
 fn refusal(text: &str, tokens: &[Token], fault: SyntaxFault) -> ReadFault
     ensures { result ≡ refusal_of text.now tokens.now fault }
 {
@@ -59,7 +59,12 @@ fn refusal(text: &str, tokens: &[Token], fault: SyntaxFault) -> ReadFault
     }
 }
 
-/// Returns the tree of a uid's text: `TooLong`, then `BadToken`, `Unexpected` or `Slot`, is why there is none.
+/// Parses the tree of a uid.
+///
+/// # Errors
+///
+/// - In this order: `TooLong` (18); `BadToken` (10); `Unexpected` (11) or `Slot` (16).
+/// - `NoMemory` (1): an allocation failed; possible at any point.
 pub fn uid_tree(alloc: Global, text: &str) -> Result<UidTree, ReadFault>
     ensures derives { IfOk result (Derives grammar.uid most_policy_bytes text.now) }
     ensures stands { IfOk result (λ tree. IsBuiltFrom text.now (λ tokens. WellFormedUid tokens tree)) }
@@ -73,8 +78,12 @@ pub fn uid_tree(alloc: Global, text: &str) -> Result<UidTree, ReadFault>
     }
 }
 
-/// Returns the tree of a policy's text: `TooLong`, then `BadToken`, `Unexpected`, `Slot` or `TooDeep`, is why there is
-/// none.
+/// Parses the tree of a policy.
+///
+/// # Errors
+///
+/// - In this order: `TooLong` (18); `BadToken` (10); `Unexpected` (11), `Slot` (16) or `TooDeep` (17).
+/// - `NoMemory` (1): an allocation failed; possible at any point.
 ///
 /// Source: Cedar reference guide 4.0, "Grammar specification for Cedar policy syntax".
 pub fn policy_tree(alloc: Global, text: &str) -> Result<PolicyTree, ReadFault>
@@ -91,7 +100,7 @@ pub fn policy_tree(alloc: Global, text: &str) -> Result<PolicyTree, ReadFault>
     }
 }
 
-/// Returns the trees of a file's policies: refused as [`policy_tree`], and too long only past the limit of a file.
+/// Parses the trees of a file's policies. Errors are those of [`policy_tree`], with the length limit of a file.
 pub fn policy_trees(alloc: Global, text: &str) -> Result<Vec<PolicyTree>, ReadFault>
     ensures derives { IfOk result
         (λ trees. Derives (grammar.policies nesting_limit) most_file_bytes text.now trees.items) }

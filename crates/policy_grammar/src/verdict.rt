@@ -1,5 +1,5 @@
-//! What is told of policies before any of their expressions is made: the fault at the least place, and whether they
-//! keep to the limits.
+//! Checks of policies before any of their expressions is built: the error at the least offset, and whether they are
+//! within the limits.
 ghost use Rattle.std.specs.Prelude.{◌≡◌, ◌↔◌, IsTrue, IfOk};
 ghost use Rattle.std.specs.List.{AllByRecursion};
 ghost use Rattle.grammar_desugaring.specs.Refused as spec;
@@ -15,16 +15,16 @@ use grammar_policies::PolicyTree;
 use plain::NoMemory;
 use std::alloc::Global;
 
-/// What is told of one policy, or of several.
+/// The result of checking one policy, or several.
 #[derive(Clone, Copy)]
 pub(crate) struct Verdict {
-    /// The fault at the least place, of annotations that stand again and of conditions.
+    /// The error at the least offset, of duplicate annotations and of conditions.
     pub(crate) fault: Option<DesugarFault>,
-    /// Whether each core expression is low enough and has few enough forms.
+    /// Whether each core expression is within the limits of height and nodes.
     pub(crate) small: bool,
 }
 
-/// Of those of one verdict and those of the other.
+/// Returns the verdict of two verdicts together.
 fn both(one: Verdict, other: Verdict) -> Verdict
     ensures fault { result.fault ≡ spec.earlier_of one.fault other.fault }
     ensures small { IsTrue result.small ↔ (IsTrue one.small × IsTrue other.small) }
@@ -35,7 +35,7 @@ fn both(one: Verdict, other: Verdict) -> Verdict
     }
 }
 
-/// Returns what is told of a policy. Takes memory for the keys of annotations and of records alone.
+/// Checks a policy. Allocates only for the keys of annotations and of records.
 pub(crate) fn judge_policy(
     alloc: Global,
     text: &str,
@@ -54,7 +54,7 @@ pub(crate) fn judge_policy(
     })
 }
 
-/// Returns what is told of a file's policies.
+/// Checks the policies of a file.
 pub(crate) fn judge_policies(
     alloc: Global,
     text: &str,

@@ -1,13 +1,13 @@
 -- How the events of a run are put together.
-use Rattle.std.proofs.Common.{◌≡◌, ℕ, Bool, true, false, List, [], ◌∷◌, Option, None, Some, Ok, Err, refl, subst}
+use Rattle.std.proofs.Common.{◌≡◌, ℕ, Bool, true, false, List, [], ◌∷◌, Option, None, Some, Ok, Err, refl, subst, sym}
 use Rattle.program_lines.specs.declared.fault.LineFault.{LineFault}
 use Rattle.program.specs.declared.device.FileFault.{FileFault}
 use Rattle.program.specs.declared.device.FileFault.TheVariants.{Missing, Failed, NoMemory}
 use Rattle.program.specs.declared.device.Stream.{Stream}
 use Rattle.program.specs.declared.device.Stream.TheVariants.{Answers, Faults}
-use Rattle.program.specs.Events.{Event, read, stored, wrote, printed, connected, listened, Does, Runs}
+use Rattle.program.specs.Events.{Event, read, stored, wrote, printed, connected, listened, opened, Does, Runs}
 use Rattle.program.specs.Reports.{ended, status_after, IsReported, IsFileReported, IsFailureReported, IsPrinted}
-use Rattle.program.specs.Courses.{Course, Reads, ReadsIfNamed, ReadsIfThere, GoesOnIfThere, Stores, Connects, Listens, Announces, WarnsIf}
+use Rattle.program.specs.Courses.{Course, Reads, ReadsIfNamed, ReadsIfThere, GoesOnIfThere, Stores, Connects, Listens, OpensIfNamed, Announces, WarnsIf}
 use Rattle.program.specs.inner.Served.{IsWarned}
 use Rattle.program.specs.inner.Ways.{IsFound, IsUnread, IsUnreadIfNamed, IsUnreadThere, found_as}
 
@@ -143,6 +143,26 @@ module _ {L H : Type 0} (does : H → Event L → H → Type 0) where
       → Runs does old new (λ events. Listens address limit goes_on events end)
   listens_none old next new address limit goes_on end step run =
       (listened address limit false ∷ run.0, (next, step, run.1), (false, run.0, refl, run.2))
+
+  -- a log is opened, and the run goes on with it, or it could not be, or none is named
+  pub opened_on : {G : Type 0} (old next new : H) (named : Option (List ℕ)) (name : List ℕ) (log : G) (goes_on : Option G → Course L) (end : ℕ)
+      → named ≡ Some name → does old (opened name true) next → Runs does next new (λ events. goes_on (Some log) events end)
+      → Runs does old new (λ events. OpensIfNamed named goes_on events end)
+  opened_on {G} old next new named name log goes_on end is step run =
+      subst (λ (o : Option (List ℕ)). Runs does old new (λ events. OpensIfNamed {G = G} o goes_on events end)) (sym is)
+      (opened name true ∷ run.0, (next, step, run.1), (true, run.0, refl, (log, run.2)))
+
+  pub not_opened : {G : Type 0} (old next new : H) (named : Option (List ℕ)) (name : List ℕ) (goes_on : Option G → Course L) (end : ℕ)
+      → named ≡ Some name → does old (opened name false) next → Runs does next new (λ events. IsFailureReported name events end)
+      → Runs does old new (λ events. OpensIfNamed named goes_on events end)
+  not_opened {G} old next new named name goes_on end is step run =
+      subst (λ (o : Option (List ℕ)). Runs does old new (λ events. OpensIfNamed {G = G} o goes_on events end)) (sym is)
+      (opened name false ∷ run.0, (next, step, run.1), (false, run.0, refl, run.2))
+
+  pub none_opened : {G : Type 0} (old new : H) (named : Option (List ℕ)) (goes_on : Option G → Course L) (end : ℕ) → named ≡ None
+      → Runs does old new (λ events. goes_on None events end) → Runs does old new (λ events. OpensIfNamed named goes_on events end)
+  none_opened {G} old new named goes_on end is run =
+      subst (λ (o : Option (List ℕ)). Runs does old new (λ events. OpensIfNamed {G = G} o goes_on events end)) (sym is) run
 
   -- a line is written, and the run goes on, or the stream failed
   pub announces_on : (old next new : H) (line : List ℕ) (goes_on : Course L) (end : ℕ)

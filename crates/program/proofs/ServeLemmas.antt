@@ -1,11 +1,14 @@
 -- Connections that are served one after another, and what a site begins with.
-use Rattle.std.proofs.Common.{◌≡◌, ◌∙◌, inl, inr, ℕ, zero, suc, ◌+◌, ◌*◌, ◌<◌, min, Bool, List, [], ◌∷◌, ◌++◌, length}
+use Rattle.std.proofs.Common.{◌≡◌, ◌≢◌, ◌∙◌, inl, inr, ℕ, zero, suc, ◌+◌, ◌*◌, ◌<◌, min, Bool, List, [], ◌∷◌, ◌++◌, length}
 use Rattle.std.proofs.Common.{Option, None, Some}
 use Rattle.std.proofs.Common.{Result, Ok, Err, IsErr}
 use Rattle.std.proofs.Common.{IfOk, IfErr, refl, sym, ap, subst, arith, append_assoc, append-nil}
 use Rattle.state_exchanges.specs.http_devices.declared.devices.Source.{Ghosts as Source}
 use Rattle.state_exchanges.specs.http_devices.declared.devices.Sink.{Ghosts as Sink}
+use Rattle.state_exchanges.specs.http_streams.Logs.{IsLogged}
 use Rattle.state_exchanges.specs.http_streams.declared.serve.StreamFault.{StreamFault}
+use Rattle.state_exchanges.specs.http_streams.declared.serve.StreamFault.TheVariants as stream_fault
+use Rattle.program_drills.specs.http_service.http_logs.LogLines.{IsLogLine, unread_line}
 use Rattle.program_drills.specs.http_service.answer_lines.declared.refusal.Refusal.{Refusal}
 use Rattle.program_drills.specs.http_service.answer_lines.Refusals.{no_memory}
 use Rattle.site_loading.specs.schema.Schemas.{StatedSchema, IsSchemaOf}
@@ -28,22 +31,22 @@ use Rattle.program.specs.declared.device.Stream.TheVariants.{Faults}
 use Rattle.program.specs.Events.{Event, accepted, closed, paused, served, wrote, Does, Runs}
 use Rattle.program.specs.Reports.{ended, IsFailureReported}
 use Rattle.program.specs.Beginning.{BeginsWith, IsInitialSite, IsNotBegun, IsStateRefused, site_refusal}
-use Rattle.program.specs.Serving.{failing_line, pause_after, IsFailure, AreFailures, IsGivenUp, IsServedOver}
-use Rattle.program.specs.Serving.{IsNextServed, AreServed, AreCutShort, AreAllServed}
+use Rattle.program.specs.Serving.{failing_line, pause_after, IsFailure, AreFailures, IsGivenUp, IsLoggedOver, IsServedOver}
+use Rattle.program.specs.Serving.{Serving, IsNextServed, AreServed, AreCutShort, AreAllServed}
 use Rattle.program.specs.inner.Begun.{TakesState}
 use Rattle.program.specs.inner.Served.{IsFailureNoted, IsTried, IsAwaited, AreServedOrFewer}
 
 -- ---- connections
 
-module _ {R W : Type 0} (reader : Source R) (writer : Sink W) where
-  served_on : (address : List ℕ) (n : ℕ) (old mid new : SiteView) (events more : List (Event (Link R W)))
-      → AreServed reader writer address n old events mid → IsNextServed reader writer address mid more new
-      → AreServed reader writer address (suc n) old (events ++ more) new
+module _ {R W G : Type 0} (reader : Source R) (writer : Sink W) (log : Sink G) where
+  served_on : (address : List ℕ) (n : ℕ) (old mid new : Serving G) (events more : List (Event (Link R W)))
+      → AreServed reader writer log address n old events mid → IsNextServed reader writer log address mid more new
+      → AreServed reader writer log address (suc n) old (events ++ more) new
   served_on address zero old mid new events more so next = (
     more,
     [],
     new,
-    subst (λ (s : SiteView). IsNextServed reader writer address s more new) so.1 next,
+    subst (λ (s : Serving G). IsNextServed reader writer log address s more new) so.1 next,
     (refl, refl),
     ap (λ (es : List (Event (Link R W))). es ++ more) so.0 ∙ sym (append-nil more),
   )
@@ -55,6 +58,23 @@ module _ {R W : Type 0} (reader : Source R) (writer : Sink W) where
     served_on address n so.2 mid new so.1 more so.4 next,
     ap (λ (es : List (Event (Link R W))). es ++ more) so.5 ∙ append_assoc so.0 so.1 more,
   )
+
+  -- the log that was kept has the lines, and is kept
+  pub logged_over : (kept left_kept : Option G) (old new : G) (link left : Link R W) (end : Result (Unit {0}) StreamFault)
+      → kept ≡ Some old → left_kept ≡ Some new
+      → IsLogged IsLogLine unread_line log.holds log.failed log.fails reader.left writer.holds link.reader left.reader
+      link.writer left.writer old new end
+      → IsLoggedOver reader writer log kept link end left left_kept
+  logged_over kept left_kept old new link left end was is noted =
+      subst (λ (k : Option G). IsLoggedOver reader writer log k link end left left_kept) (sym was)
+      (subst (λ (k : Option G). IsLoggedOver reader writer log (Some old) link end left k) (sym is) noted)
+
+  -- none was kept, and none is
+  pub unlogged_over : (kept left_kept : Option G) (link left : Link R W) (end : Result (Unit {0}) StreamFault)
+      → kept ≡ None → left_kept ≡ None → end ≢ Err stream_fault.Log → IsLoggedOver reader writer log kept link end left left_kept
+  unlogged_over kept left_kept link left end was is unlogged =
+      subst (λ (k : Option G). IsLoggedOver reader writer log k link end left left_kept) (sym was)
+      (subst (λ (k : Option G). IsLoggedOver reader writer log None link end left k) (sym is) unlogged)
 
 suc_is : (n : ℕ) → suc n ≡ n + 1
 suc_is n = omega arith
@@ -126,16 +146,16 @@ module _ {L H : Type 0} (does : H → Event L → H → Type 0) where
       → Runs does old new (λ events. AreFailures address n events) → Runs does old new (λ events. IsAwaited address (Err failed) events)
   given_up address n old new failed is so = (so.0, so.1, (n, is, so.2))
 
-module _ {R W H : Type 0} (does : H → Event (Link R W) → H → Type 0) (reader : Source R) (writer : Sink W) where
+module _ {R W G H : Type 0} (does : H → Event (Link R W) → H → Type 0) (reader : Source R) (writer : Sink W) (log : Sink G) where
   -- so many connections were served, from one site to another
-  abbrev pub IsServedSoFar : List ℕ → H → H → SiteView → SiteView → ℕ → Type 0
-  IsServedSoFar address old new before after n = Runs does old new (λ events. AreServed reader writer address n before events after)
+  abbrev pub IsServedSoFar : List ℕ → H → H → Serving G → Serving G → ℕ → Type 0
+  IsServedSoFar address old new before after n = Runs does old new (λ events. AreServed reader writer log address n before events after)
 
   -- a connection came, was served and let go
-  pub next_served : (address : List ℕ) (old mid last new : H) (before after : SiteView) (link left : Link R W)
+  pub next_served : (address : List ℕ) (old mid last new : H) (before after : Serving G) (link left : Link R W)
       (end : Result (Unit {0}) StreamFault) → Runs does old mid (λ events. IsAwaited address (Ok link) events)
-      → IsServedOver reader writer before link end left after → does mid (closed left) last → does last (served end) new
-      → Runs does old new (λ events. IsNextServed reader writer address before events after)
+      → IsServedOver reader writer log before link end left after → does mid (closed left) last → does last (served end) new
+      → Runs does old new (λ events. IsNextServed reader writer log address before events after)
   next_served address old mid last new before after link left end came answered gone noted = (
     came.0 ++ closed left ∷ served end ∷ [],
     does_append does came.0 (closed left ∷ served end ∷ []) old mid new came.1 (last, gone, (new, noted, refl)),
@@ -153,32 +173,32 @@ module _ {R W H : Type 0} (does : H → Event (Link R W) → H → Type 0) (read
   )
 
   -- none yet
-  pub none_served : (address : List ℕ) (old : H) (site : SiteView) → IsServedSoFar address old old site site 0
+  pub none_served : (address : List ℕ) (old : H) (site : Serving G) → IsServedSoFar address old old site site 0
   none_served address old site = ([], refl, (refl, refl))
 
   -- one more
-  pub one_served : (address : List ℕ) (old mid new : H) (before between after : SiteView) (n : ℕ)
+  pub one_served : (address : List ℕ) (old mid new : H) (before between after : Serving G) (n : ℕ)
       → IsServedSoFar address old mid before between n
-      → Runs does mid new (λ events. IsNextServed reader writer address between events after)
+      → Runs does mid new (λ events. IsNextServed reader writer log address between events after)
       → IsServedSoFar address old new before after (n + 1)
   one_served address old mid new before between after n so next = (
     so.0 ++ next.0,
     does_append does so.0 next.0 old mid new so.1 next.1,
-    subst (λ (k : ℕ). AreServed reader writer address k before (so.0 ++ next.0) after) (suc_is n)
-        (served_on reader writer address n before between after so.0 next.0 so.2 next.2),
+    subst (λ (k : ℕ). AreServed reader writer log address k before (so.0 ++ next.0) after) (suc_is n)
+        (served_on reader writer log address n before between after so.0 next.0 so.2 next.2),
   )
 
   -- all of them
-  pub all_served : (address : List ℕ) (old new : H) (before after : SiteView) (n most : ℕ) → n ≡ most
+  pub all_served : (address : List ℕ) (old new : H) (before after : Serving G) (n most : ℕ) → n ≡ most
       → IsServedSoFar address old new before after n → IsServedSoFar address old new before after most
   all_served address old new before after n most is so =
       subst (λ (k : ℕ). IsServedSoFar address old new before after k) is so
 
   -- fewer, and then it was given up
-  pub fewer_served : (address : List ℕ) (old mid new : H) (before between after : SiteView) (n most : ℕ) (r : Result (Unit {0}) NetworkFailed)
+  pub fewer_served : (address : List ℕ) (old mid new : H) (before between after : Serving G) (n most : ℕ) (r : Result (Unit {0}) NetworkFailed)
       → IsErr r → n < most → IsServedSoFar address old mid before between n
       → Runs does mid new (λ events. IsGivenUp address events × (after ≡ between))
-      → Runs does old new (λ events. AreServedOrFewer reader writer address most before r events after)
+      → Runs does old new (λ events. AreServedOrFewer reader writer log address most before r events after)
   fewer_served address old mid new before between after n most (Ok done) is less so next = absurd cc
   fewer_served address old mid new before between after n most (Err failed) is less so next = (
     so.0 ++ next.0,
@@ -188,22 +208,22 @@ module _ {R W H : Type 0} (does : H → Event (Link R W) → H → Type 0) (read
       so.0,
       next.0,
       less,
-      subst (λ (s : SiteView). AreServed reader writer address n before so.0 s) (sym next.2.1) so.2,
+      subst (λ (s : Serving G). AreServed reader writer log address n before so.0 s) (sym next.2.1) so.2,
       next.2.0,
       refl,
     ),
   )
 
   -- either is all of a run that serves
-  pub serving_done : (address : List ℕ) (old new : H) (before after : SiteView) (most end : ℕ)
-      → Runs does old new (λ events. AreServed reader writer address most before events after) → end ≡ 0
-      → Runs does old new (λ events. AreAllServed reader writer address most before events end)
+  pub serving_done : (address : List ℕ) (old new : H) (before after : Serving G) (most end : ℕ)
+      → Runs does old new (λ events. AreServed reader writer log address most before events after) → end ≡ 0
+      → Runs does old new (λ events. AreAllServed reader writer log address most before events end)
   serving_done address old new before after most end so is = (so.0, so.1, inl ((after, so.2), is))
 
-  pub serving_cut : (address : List ℕ) (old mid new : H) (before after : SiteView) (most end : ℕ)
-      → Runs does old mid (λ events. AreCutShort reader writer address most before events after)
+  pub serving_cut : (address : List ℕ) (old mid new : H) (before after : Serving G) (most end : ℕ)
+      → Runs does old mid (λ events. AreCutShort reader writer log address most before events after)
       → Runs does mid new (λ events. IsFailureReported address events end)
-      → Runs does old new (λ events. AreAllServed reader writer address most before events end)
+      → Runs does old new (λ events. AreAllServed reader writer log address most before events end)
   serving_cut address old mid new before after most end so told = (
     so.0 ++ told.0,
     does_append does so.0 told.0 old mid new so.1 told.1,

@@ -4,7 +4,7 @@ use Rattle.std.specs.Prelude.{◌≡◌, ◌⊎◌, ℕ, Bool, true, false, List
 use Rattle.program_drills.specs.http_service.answer_lines.declared.refusal.Refusal.{Refusal}
 use Rattle.program.specs.declared.device.FileFault.{FileFault}
 use Rattle.program.specs.declared.device.FileFault.TheVariants as file
-use Rattle.program.specs.Events.{Event, read, stored, wrote, connected, listened}
+use Rattle.program.specs.Events.{Event, read, stored, wrote, connected, listened, opened}
 use Rattle.program.specs.declared.device.Stream.TheVariants.{Answers, Faults}
 use Rattle.program.specs.Reports.{ended, IsAnswerReported, IsRefusalReported, IsMemoryReported, IsFileReported}
 use Rattle.program.specs.Reports.{IsFailureReported}
@@ -84,6 +84,16 @@ module _ {L : Type 0} where
   abbrev pub Listens : List ℕ → Option ℕ → Course L → Course L
   Listens address limit goes_on events end = (done : Bool) × (rest : List (Event L))
       × (events ≡ listened address limit done ∷ rest) × GoesOnListening address goes_on done rest end
+
+  -- a log is opened, if one is named, and the run goes on with it; where it could not be, that is told and the run ends
+  abbrev pub GoesOnOpened : {G : Type 0} → List ℕ → (Option G → Course L) → Bool → Course L
+  GoesOnOpened {G} name goes_on true events end = (log : G) × goes_on (Some log) events end
+  GoesOnOpened name goes_on false events end = IsFailureReported name events end
+
+  abbrev pub OpensIfNamed : {G : Type 0} → Option (List ℕ) → (Option G → Course L) → Course L
+  OpensIfNamed None goes_on events end = goes_on None events end
+  OpensIfNamed (Some name) goes_on events end = (done : Bool) × (rest : List (Event L))
+      × (events ≡ opened name done ∷ rest) × GoesOnOpened name goes_on done rest end
 
   -- a line goes to standard output, and the run goes on; where the stream failed it ends with 3
   abbrev pub GoesOnAnnounced : Course L → Bool → Course L

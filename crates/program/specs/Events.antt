@@ -14,6 +14,8 @@ pub data Event (L : Type 0) : Type 0 where
   read : List ℕ → Result (List ℕ) FileFault → Event L
   -- a file of this name was to hold these bytes, and was written, or not
   stored : List ℕ → List ℕ → Result (Unit {0}) FileFault → Event L
+  -- the log of this name was opened, or could not be
+  opened : List ℕ → Bool → Event L
   -- these bytes were written on a stream, which took them all or failed
   wrote : Stream → List ℕ → Bool → Event L
   -- the text of a fault of the command line, or the help, was written on a stream, which took it all or failed
@@ -43,12 +45,14 @@ module _ {L H : Type 0} (does : H → Event L → H → Type 0) where
   Runs old new described = (events : List (Event L)) × Does events old new × described events
 
 -- What an event does to two writers, of whose bytes as much is said as is known of them: a line is written on its own
--- stream and leaves the other as it is. What a file holds, what text a fault has, how much a stream took before it
--- failed and what comes over a connection isn't said.
+-- stream and leaves the other as it is. Nothing is said of what a file holds, what text a fault has, how much a stream
+-- took before it failed, or what comes over a connection; nor of the lines of a log on standard output, which has a
+-- writer of its own: they stand among what the first writer wrote.
 abbrev pub Changes : {L O E : Type 0} → (O → Option (List ℕ)) → (E → Option (List ℕ)) → O → E → Event L → O → E
     → Type 0
 Changes held told out err (read name bytes) new_out new_err = (new_out ≡ out) × (new_err ≡ err)
 Changes held told out err (stored name bytes done) new_out new_err = (new_out ≡ out) × (new_err ≡ err)
+Changes held told out err (opened name done) new_out new_err = (new_out ≡ out) × (new_err ≡ err)
 Changes held told out err (connected address came) new_out new_err = (new_out ≡ out) × (new_err ≡ err)
 Changes held told out err (listened address limit done) new_out new_err = (new_out ≡ out) × (new_err ≡ err)
 Changes held told out err (accepted came) new_out new_err = (new_out ≡ out) × (new_err ≡ err)

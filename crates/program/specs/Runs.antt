@@ -13,7 +13,8 @@ use Rattle.program_lines.specs.declared.line.CheckOptions.{CheckOptions}
 use Rattle.program_lines.specs.declared.line.DecideOptions.{DecideOptions}
 use Rattle.program_lines.specs.declared.line.DrillOptions.{DrillOptions}
 use Rattle.program_lines.specs.declared.line.Line.{Line}
-use Rattle.program_lines.specs.declared.line.Line.TheVariants.{Check, Decide, Load, Serve, Pull, Merge, Drill}
+use Rattle.program_lines.specs.declared.line.Line.TheVariants.{Check, Decide, Load, Serve, Pull, Exchange, Merge}
+use Rattle.program_lines.specs.declared.line.Line.TheVariants.{Drill}
 use Rattle.program_lines.specs.declared.line.MergeOptions.{MergeOptions}
 use Rattle.program_lines.specs.declared.fault.LineFault.{LineFault}
 use Rattle.program_lines.specs.Apps.{site_app}
@@ -24,6 +25,7 @@ use Rattle.state_exchanges.specs.http_devices.declared.devices.Sink.{Ghosts as S
 use Rattle.program.specs.declared.device.Link.{Link}
 use Rattle.program.specs.Reports.{AreLinesReported, IsFaultReported}
 use Rattle.program.specs.Courses.{Course, Reads, ReadsIfNamed, IsRefusedFor, IsLineOrRefusal}
+use Rattle.program.specs.Exchanging.{IsExchangeRun}
 use Rattle.program.specs.Loading.{IsLoadRun}
 use Rattle.program.specs.Pulling.{IsPullRun}
 use Rattle.program.specs.Serving.{IsServeRun}
@@ -91,14 +93,15 @@ module _ {L : Type 0} where
       Reads options.script.now (λ script.
       IsDrilledOrRefused options.sites schema script))
 
-module _ {R W : Type 0} (reader : Source R) (writer : Sink W) where
+module _ {R W G : Type 0} (reader : Source R) (writer : Sink W) (log : Sink G) where
   -- the command is carried out
   abbrev pub IsLineRun : Line → Course (Link R W)
   IsLineRun (Check options) = IsCheckRun options
   IsLineRun (Decide options) = IsDecideRun options
   IsLineRun (Load options) = IsLoadRun options
-  IsLineRun (Serve options) = IsServeRun reader writer options
+  IsLineRun (Serve options) = IsServeRun reader writer log options
   IsLineRun (Pull options) = IsPullRun reader writer options
+  IsLineRun (Exchange options) = IsExchangeRun reader writer options
   IsLineRun (Merge options) = IsMergeRun options
   IsLineRun (Drill options) = IsDrillRun options
 

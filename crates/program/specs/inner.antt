@@ -1,3 +1,4 @@
 pub mod Begun
+pub mod Exchanged
 pub mod Served
 pub mod Ways

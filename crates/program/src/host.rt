@@ -1,8 +1,8 @@
 //! What a run needs of the machine that it runs on: files, two streams, connections, and pauses.
 ghost use Rattle.std.specs.Prelude.{◌++◌, Ok, Err, Some, None, MatchResult, is_ok};
 ghost use Rattle.program.specs.declared.device.Link.{Link};
-ghost use Rattle.program.specs.Events.{Event, accepted, closed, connected, listened, paused, printed, read};
-ghost use Rattle.program.specs.Events.{served, stored, wrote};
+ghost use Rattle.program.specs.Events.{Event, accepted, closed, connected, listened, opened, paused, printed};
+ghost use Rattle.program.specs.Events.{read, served, stored, wrote};
 ghost use Rattle.program.specs.Reports.{ended};
 
 use crate::device::{FileFault, Link, NetworkFailed, Stream, StreamFailed};
@@ -20,6 +20,9 @@ pub trait Host {
     /// Where connections come to.
     type Listener: Drop;
 
+    /// What gets a line of each reply.
+    type Log: Sink + Drop;
+
     // This may happen in the first state, and leaves the second.
     ghost does: { Self → Event (Link Self.Reader Self.Writer) → Self → Type 0 };
 
@@ -31,6 +34,10 @@ pub trait Host {
     /// Writes a file anew. What it held stays until all is written.
     fn store(&mut self, name: &str, bytes: &[u8]) -> Result<(), FileFault>
         ensures { does self.old (stored name.now bytes.now result) self.new };
+
+    /// Opens the log of this name, `-` being standard output. A file is appended to, and created if it is not there.
+    fn open_log(&mut self, name: &str) -> Result<Self::Log, FileFault>
+        ensures { does self.old (opened name.now (is_ok result)) self.new };
 
     /// Writes a label, a line and the line's end.
     fn write_line(&mut self, stream: Stream, label: &str, line: &[u8]) -> Result<(), StreamFailed>

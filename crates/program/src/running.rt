@@ -7,6 +7,7 @@ ghost use Rattle.program.specs.Runs.{IsLineRun, IsRun};
 
 use crate::commands::{run_check, run_decide};
 use crate::drills::run_drill;
+use crate::exchanging::run_exchange;
 use crate::host::Host;
 use crate::loads::run_load;
 use crate::report::report_words;
@@ -20,7 +21,7 @@ use std::process::ExitCode;
 fn run_line<H: Host>(alloc: Global, host: &mut H, line: &Line<'_>) -> ExitCode
     requires { HasSites line.now }
     ensures { Runs H.does host.old host.new (λ events.
-        IsLineRun H.Reader.Source H.Writer.Sink line.now events (exit_status result)) }
+        IsLineRun H.Reader.Source H.Writer.Sink H.Log.Sink line.now events (exit_status result)) }
 {
     match line {
         Line::Check(options) => run_check(alloc, host, options),
@@ -28,20 +29,21 @@ fn run_line<H: Host>(alloc: Global, host: &mut H, line: &Line<'_>) -> ExitCode
         Line::Load(options) => run_load(alloc, host, options),
         Line::Serve(options) => run_serve(alloc, host, options),
         Line::Pull(options) => run_pull(alloc, host, options),
+        Line::Exchange(options) => run_exchange(alloc, host, options),
         Line::Merge(options) => run_merge(alloc, host, options),
         Line::Drill(options) => run_drill(alloc, host, options),
     }
 }
 
 /// Does what the words ask for, the first of which is the program's own name: checks policies, decides one request,
-/// puts files into a site and tells its state, serves one, pulls from one, merges two states, plays a script, writes
-/// help or the version, or what is wrong with the words.
+/// puts files into a site and tells its state, serves one, pulls from one, exchanges between two, merges two states,
+/// plays a script, writes help or the version, or what is wrong with the words.
 ///
 /// The status is 0 for an answer or help, 1 for a refusal, also of one policy among those that are checked, 2 for words
 /// that are no command, and 3 where a file can't be read or written, the network fails, or a stream does.
 pub fn run<H: Host>(alloc: Global, host: &mut H, words: &[String]) -> ExitCode
     ensures { Runs H.does host.old host.new (λ events.
-        IsRun H.Reader.Source H.Writer.Sink (map string_bytes words.now) events (exit_status result)) }
+        IsRun H.Reader.Source H.Writer.Sink H.Log.Sink (map string_bytes words.now) events (exit_status result)) }
 {
     match line_of(alloc, words) {
         Ok(line) => run_line(alloc, host, &line),

@@ -4,7 +4,9 @@ ghost use Rattle.std.specs.Process.{exit_status};
 ghost use Rattle.program_lines.specs.stamped_store.Stamping.{has_stamps_of};
 ghost use Rattle.site_loading.specs.site_steps.SiteViews.{store_in};
 ghost use Rattle.program.specs.Events.{Runs};
-ghost use Rattle.program.specs.Serving.{IsServedAt, IsServeRun, most_of, own_stamps_line, pause_after};
+ghost use Rattle.program.specs.Courses.{Listens};
+ghost use Rattle.program.specs.Serving.{IsServedAt, IsServedListening, IsServedOver, IsServeRun, most_of};
+ghost use Rattle.program.specs.Serving.{own_stamps_line, pause_after};
 ghost use Rattle.program.specs.inner.Served.{AreServedOrFewer, IsAwaited, IsFailureNoted, IsNextOrNone};
 ghost use Rattle.program.specs.inner.Served.{IsTried, IsWarned};
 
@@ -13,7 +15,7 @@ use crate::device::{Link, NetworkFailed, Stream, StreamFailed};
 use crate::host::Host;
 use crate::reading::{lent, read_file, read_if_named};
 use crate::report::{ANSWERED, FAILED, report_failure, report_refusal};
-use program_drills::{Site, serve};
+use program_drills::{Site, StreamFault, serve, serve_logged};
 use program_lines::{ServeOptions, SiteName};
 use std::alloc::Global;
 use std::process::ExitCode;
@@ -93,6 +95,22 @@ fn next_link<H: Host>(
     Err(NetworkFailed)
 }
 
+/// Answers what comes over a connection, each reply behind its line, if a log is kept.
+fn serve_link<H: Host>(
+    alloc: Global,
+    link: &mut Link<H::Reader, H::Writer>,
+    site: &mut Site,
+    log: &mut Option<H::Log>,
+) -> Result<(), StreamFault>
+    ensures { IsServedOver H.Reader.Source H.Writer.Sink H.Log.Sink (record { site = site.old; log = log.old }) link.old
+        result link.new (record { site = site.new; log = log.new }) }
+{
+    match log {
+        Some(log) => serve_logged(alloc, site, &mut link.reader, &mut link.writer, log),
+        None => serve(alloc, site, &mut link.reader, &mut link.writer),
+    }
+}
+
 /// Waits for a connection, answers what comes over it, and lets it go. A fault of a connection ends that one alone.
 fn serve_next<H: Host>(
     alloc: Global,
@@ -100,13 +118,15 @@ fn serve_next<H: Host>(
     listener: &H::Listener,
     address: &str,
     site: &mut Site,
+    log: &mut Option<H::Log>,
 ) -> Result<(), NetworkFailed>
     ensures { Runs H.does host.old host.new (λ events.
-        IsNextOrNone H.Reader.Source H.Writer.Sink address.now site.old result events site.new) }
+        IsNextOrNone H.Reader.Source H.Writer.Sink H.Log.Sink address.now (record { site = site.old; log = log.old })
+        result events (record { site = site.new; log = log.new })) }
 {
     match next_link(host, listener, address) {
         Ok(mut link) => {
-            let end = serve(alloc, site, &mut link.reader, &mut link.writer);
+            let end = serve_link::<H>(alloc, &mut link, site, log);
             host.close(link);
             host.note_served(end);
             Ok(())
@@ -122,14 +142,16 @@ fn serve_all<H: Host>(
     listener: &H::Listener,
     address: &str,
     site: &mut Site,
+    log: &mut Option<H::Log>,
     most: u64,
 ) -> Result<(), NetworkFailed>
     ensures { Runs H.does host.old host.new (λ events.
-        AreServedOrFewer H.Reader.Source H.Writer.Sink address.now most site.old result events site.new) }
+        AreServedOrFewer H.Reader.Source H.Writer.Sink H.Log.Sink address.now most
+        (record { site = site.old; log = log.old }) result events (record { site = site.new; log = log.new })) }
 {
     let mut served = 0;
     while served < most {
-        serve_next(alloc, host, listener, address, site)?;
+        serve_next(alloc, host, listener, address, site, log)?;
         served += 1;
     }
     Ok(())
@@ -157,19 +179,40 @@ fn warn_of_own_stamps<H: Host>(host: &mut H, site: &Site, name: SiteName)
     let _ = host.write_line(Stream::Faults, OWN_STAMPS, name.as_bytes());
 }
 
-/// Serves a site that has begun: warns where it has stamps of its name already, listens, says where, and serves one
-/// connection after another, so many, if a number is given.
+/// Serves a site that has begun: warns where it has stamps of its name already, opens its log, if one is named,
+/// listens, says where, and serves one connection after another, so many, if a number is given.
 fn serve_begun<H: Host>(
     alloc: Global,
     host: &mut H,
     options: &ServeOptions<'_>,
-    mut site: Site,
+    site: Site,
 ) -> ExitCode
     ensures { Runs H.does host.old host.new (λ events.
-        IsServedAt H.Reader.Source H.Writer.Sink options.now site events (exit_status result)) }
+        IsServedAt H.Reader.Source H.Writer.Sink H.Log.Sink options.now site events (exit_status result)) }
+{
+    warn_of_own_stamps(host, &site, options.site);
+    match options.log {
+        Some(name) => match host.open_log(name) {
+            Ok(log) => serve_listening(alloc, host, options, site, Some(log)),
+            Err(_) => report_failure(host, name),
+        },
+        None => serve_listening(alloc, host, options, site, None),
+    }
+}
+
+/// Listens, says where, and serves one connection after another.
+fn serve_listening<H: Host>(
+    alloc: Global,
+    host: &mut H,
+    options: &ServeOptions<'_>,
+    mut site: Site,
+    mut log: Option<H::Log>,
+) -> ExitCode
+    ensures { Runs H.does host.old host.new (λ events.
+        Listens options.now.listen.now options.now.idle (IsServedListening H.Reader.Source H.Writer.Sink H.Log.Sink
+        options.now (record { site = site; log = log })) events (exit_status result)) }
 {
     let address = options.listen;
-    warn_of_own_stamps(host, &site, options.site);
     let listener = match host.listen(address, options.idle) {
         Ok(listener) => listener,
         Err(NetworkFailed) => return report_failure(host, address),
@@ -178,7 +221,7 @@ fn serve_begun<H: Host>(
         return ExitCode::from(FAILED);
     }
     let most = most_of(options.connections);
-    match serve_all(alloc, host, &listener, address, &mut site, most) {
+    match serve_all(alloc, host, &listener, address, &mut site, &mut log, most) {
         Ok(()) => ExitCode::from(ANSWERED),
         Err(NetworkFailed) => report_failure(host, address),
     }
@@ -191,7 +234,7 @@ pub(crate) fn run_serve<H: Host>(
     options: &ServeOptions<'_>,
 ) -> ExitCode
     ensures { Runs H.does host.old host.new (λ events.
-        IsServeRun H.Reader.Source H.Writer.Sink options.now events (exit_status result)) }
+        IsServeRun H.Reader.Source H.Writer.Sink H.Log.Sink options.now events (exit_status result)) }
 {
     let schema = match read_file(host, options.schema) {
         Ok(bytes) => bytes,

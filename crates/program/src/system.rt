@@ -8,8 +8,8 @@ use crate::device::{FileFault, Link, NetworkFailed, Stream, StreamFailed};
 use crate::host::Host;
 use program_lines::LineFault;
 use state_exchanges::{Counted, StreamFault};
-use std::fs::{File, Files, OpenFile};
-use std::io::{ErrorKind, Write};
+use std::fs::{File, Files, OpenFile, OpenOptions};
+use std::io::{ErrorKind, Read, Seek, SeekFrom, Write};
 use std::net::{Net, OpenListener, OpenStream, TcpListener, TcpStream};
 use std::time::{Clock, Duration};
 use std::{fs, io, thread};
@@ -20,6 +20,42 @@ pub struct SystemHost<'a, R, O, E> {
     pub files: &'a R,
     pub answers: O,
     pub faults: E,
+    /// Standard output again, for a log that goes there; a log takes it.
+    pub lines: Option<O>,
+}
+
+/// Where the lines of a log go: a file, or standard output.
+#[derive(Drop)]
+pub enum LogDevice<F, O> {
+    File(F),
+    Output(O),
+}
+
+impl<F: Write, O: Write> Write for LogDevice<F, O> {
+    fn write(&mut self, buf: &[u8]) -> io::Result<usize> {
+        match self {
+            LogDevice::File(file) => file.write(buf),
+            LogDevice::Output(output) => output.write(buf),
+        }
+    }
+
+    fn flush(&mut self) -> io::Result<()> {
+        match self {
+            LogDevice::File(file) => file.flush(),
+            LogDevice::Output(output) => output.flush(),
+        }
+    }
+}
+
+/// The lines of a log, each of which begins on a line of its own: behind one that was cut by a failure, in this run or
+/// an earlier one, stands a line feed.
+#[derive(Drop)]
+pub struct LogLines<D> {
+    device: D,
+    /// Whether the last byte that was taken ends no line.
+    open: bool,
+    /// Whether a write failed since, or the run began there, so that the next one begins a line.
+    torn: bool,
 }
 
 /// A listener, with how long a read or a write of its connections may take.
@@ -78,7 +114,7 @@ fn new_name<R: AllocGlobal>(rt: &R, name: &str) -> Result<String, FileFault> {
 }
 
 /// Returns the two ends of a stream of bytes, which goes out as it is written.
-fn link<S: io::Read + Write + OpenStream + Drop>(
+fn link<S: Read + Write + OpenStream + Drop>(
     stream: S,
 ) -> Result<Link<Counted<S>, Counted<S>>, NetworkFailed> {
     stream.set_nodelay(true)?;
@@ -90,7 +126,7 @@ fn link<S: io::Read + Write + OpenStream + Drop>(
 }
 
 /// Returns the two ends of a stream whose reads and writes may take so long, if a limit is given.
-fn limited_link<S: io::Read + Write + OpenStream + Drop>(
+fn limited_link<S: Read + Write + OpenStream + Drop>(
     stream: S,
     idle: Option<Duration>,
 ) -> Result<Link<Counted<S>, Counted<S>>, NetworkFailed> {
@@ -101,12 +137,83 @@ fn limited_link<S: io::Read + Write + OpenStream + Drop>(
     link(stream)
 }
 
-impl<R: Files + Net + Clock + AllocGlobal, O: Write, E: Write> Host for SystemHost<'_, R, O, E> {
+/// Opens a file to append to; one that is not there is created.
+fn append_to<R: Files>(files: &R, name: &str) -> io::Result<R::File> {
+    let mut options = OpenOptions::new();
+    options.append(true).create(true);
+    options.open(files, name)
+}
+
+/// Returns the last byte of a file, or a line feed if it is no regular one. An empty file has none.
+fn last_byte<R: Files>(files: &R, name: &str) -> io::Result<u8> {
+    let mut last = [b'\n'];
+    if fs::metadata(files, name)?.is_file() {
+        let mut file = File::open(files, name)?;
+        file.seek(SeekFrom::End(-1))?;
+        file.read(&mut last)?;
+    }
+    Ok(last[0])
+}
+
+/// Returns whether the log of this name ends in a line that is cut, as far as it can be read.
+fn ends_cut<R: Files>(files: &R, name: &str) -> bool {
+    if name == "-" {
+        return false;
+    }
+    match last_byte(files, name) {
+        Ok(last) => last != b'\n',
+        Err(_) => false,
+    }
+}
+
+/// Returns where the lines of the log of this name go.
+fn log_device<R: Files, O: Write>(
+    files: &R,
+    lines: &mut Option<O>,
+    name: &str,
+) -> Result<LogDevice<R::File, O>, FileFault> {
+    if name != "-" {
+        return Ok(LogDevice::File(append_to(files, name)?));
+    }
+    match lines.take() {
+        Some(output) => Ok(LogDevice::Output(output)),
+        None => Err(FileFault::Failed),
+    }
+}
+
+impl<D: Write> Write for LogLines<D> {
+    fn write(&mut self, buf: &[u8]) -> io::Result<usize> {
+        if self.torn {
+            self.device.write_all(b"\n")?;
+            self.torn = false;
+            self.open = false;
+        }
+        match self.device.write(buf) {
+            Ok(count) if count > 0 => {
+                self.open = count < buf.len() || buf[count - 1] != b'\n';
+                Ok(count)
+            }
+            failed => {
+                self.torn = self.open;
+                failed
+            }
+        }
+    }
+
+    fn flush(&mut self) -> io::Result<()> {
+        self.device.flush()
+    }
+}
+
+impl<R: Files + Net + Clock + AllocGlobal, O: Write + Drop, E: Write> Host
+    for SystemHost<'_, R, O, E> {
     type Reader = Counted<R::Stream>;
 
     type Writer = Counted<R::Stream>;
 
     type Listener = Listening<R::Listener>;
+
+    type Log = Counted<LogLines<LogDevice<R::File, O>>>;
 
     ghost does = { λ old event new. Changes O.contents E.contents old.answers old.faults event new.answers new.faults };
 
@@ -123,6 +230,18 @@ impl<R: Files + Net + Clock + AllocGlobal, O: Write, E: Write> Host for SystemHo
         match fs::rename(self.files, new.as_str(), name) {
             Ok(()) => Ok(()),
             Err(error) => Err(FileFault::from(error)),
+        }
+    }
+
+    fn open_log(&mut self, name: &str) -> Result<Self::Log, FileFault> {
+        let cut = ends_cut(self.files, name);
+        match log_device(self.files, &mut self.lines, name) {
+            Ok(device) => Ok(Counted::new(LogLines {
+                device,
+                open: cut,
+                torn: cut,
+            })),
+            Err(fault) => Err(fault),
         }
     }
 

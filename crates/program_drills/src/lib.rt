@@ -9,5 +9,7 @@ mod split;
 mod whole;
 
 pub use drilling::drill_text;
-pub use http_service::{Refusal, Site, SiteFault, Taken, error_line, serve, take_bytes};
+pub use http_service::{
+    Refusal, Site, SiteFault, StreamFault, Taken, error_line, serve, serve_logged, take_bytes,
+};
 pub use schema_decisions::{check_texts, decide_under};

@@ -3,7 +3,7 @@ use Rattle.std.proofs.Common.{◌≡◌, ◌<◌, ◌≤◌, ◌∙◌, ◌⊎�
 use Rattle.stamped_store.specs.SiteNames.{IsSiteName}
 use Rattle.clap.specs.Words.{Row, Text, first_of, subcommand_rows_of, subcommand_name_of}
 use Rattle.program_lines.specs.declared.line.Line.{Line}
-use Rattle.program_lines.specs.declared.line.Line.TheVariants.{Check, Decide, Load, Serve, Pull, Merge, Drill}
+use Rattle.program_lines.specs.declared.line.Line.TheVariants.{Check, Decide, Load, Serve, Pull, Exchange, Merge, Drill}
 use Rattle.program_lines.specs.Lines.{IsLineOf, IsGiven, IsGivenSite, IsGivenNoSite, IsGivenNumber, MayBeGivenNumber, IsNumberIn, IsNamed, HasSites}
 use Rattle.program_lines.specs.inner.Lacking.{IsNone}
 use Rattle.clap.specs.declared.ArgMatches.{ArgMatches}
@@ -35,14 +35,15 @@ met_is m name rows result e f =
 
 -- of another word there is no command
 pub unknown_word : (word : Text) (rows : List Row) → ¬ (word ≡ codes "check") → ¬ (word ≡ codes "decide")
-    → ¬ (word ≡ codes "load") → ¬ (word ≡ codes "serve") → ¬ (word ≡ codes "pull") → ¬ (word ≡ codes "merge") → ¬ (word ≡ codes "drill") → (line : Line) → IsLineOf word rows line → ⊥
-unknown_word word rows a b l c d e f (Check options) is = a (sym is.0)
-unknown_word word rows a b l c d e f (Decide options) is = b (sym is.0)
-unknown_word word rows a b l c d e f (Load options) is = l (sym is.0)
-unknown_word word rows a b l c d e f (Serve options) is = c (sym is.0)
-unknown_word word rows a b l c d e f (Pull options) is = d (sym is.0)
-unknown_word word rows a b l c d e f (Merge options) is = e (sym is.0)
-unknown_word word rows a b l c d e f (Drill options) is = f (sym is.0)
+    → ¬ (word ≡ codes "load") → ¬ (word ≡ codes "serve") → ¬ (word ≡ codes "pull") → ¬ (word ≡ codes "exchange") → ¬ (word ≡ codes "merge") → ¬ (word ≡ codes "drill") → (line : Line) → IsLineOf word rows line → ⊥
+unknown_word word rows a b l c d x e f (Check options) is = a (sym is.0)
+unknown_word word rows a b l c d x e f (Decide options) is = b (sym is.0)
+unknown_word word rows a b l c d x e f (Load options) is = l (sym is.0)
+unknown_word word rows a b l c d x e f (Serve options) is = c (sym is.0)
+unknown_word word rows a b l c d x e f (Pull options) is = d (sym is.0)
+unknown_word word rows a b l c d x e f (Exchange options) is = x (sym is.0)
+unknown_word word rows a b l c d x e f (Merge options) is = e (sym is.0)
+unknown_word word rows a b l c d x e f (Drill options) is = f (sym is.0)
 
 -- something was given, and is no such thing
 none_given : (rows : List Row) (id text : Text) → first_of id rows ≡ None → IsGiven rows id text → ⊥
@@ -164,6 +165,27 @@ merge_is_no_load = unlike 109 108 (codes "merge") (codes "load") refl refl (inr 
 drill_is_no_load : codes "drill" ≡ codes "load" → ⊥
 drill_is_no_load = unlike 100 108 (codes "drill") (codes "load") refl refl (inl (omega arith))
 
+exchange_is_no_check : codes "exchange" ≡ codes "check" → ⊥
+exchange_is_no_check = unlike 101 99 (codes "exchange") (codes "check") refl refl (inr (omega arith))
+
+exchange_is_no_decide : codes "exchange" ≡ codes "decide" → ⊥
+exchange_is_no_decide = unlike 101 100 (codes "exchange") (codes "decide") refl refl (inr (omega arith))
+
+exchange_is_no_load : codes "exchange" ≡ codes "load" → ⊥
+exchange_is_no_load = unlike 101 108 (codes "exchange") (codes "load") refl refl (inl (omega arith))
+
+exchange_is_no_serve : codes "exchange" ≡ codes "serve" → ⊥
+exchange_is_no_serve = unlike 101 115 (codes "exchange") (codes "serve") refl refl (inl (omega arith))
+
+exchange_is_no_pull : codes "exchange" ≡ codes "pull" → ⊥
+exchange_is_no_pull = unlike 101 112 (codes "exchange") (codes "pull") refl refl (inl (omega arith))
+
+exchange_is_no_merge : codes "exchange" ≡ codes "merge" → ⊥
+exchange_is_no_merge = unlike 101 109 (codes "exchange") (codes "merge") refl refl (inl (omega arith))
+
+exchange_is_no_drill : codes "exchange" ≡ codes "drill" → ⊥
+exchange_is_no_drill = unlike 101 100 (codes "exchange") (codes "drill") refl refl (inr (omega arith))
+
 -- ---- what a command of each word has
 
 module _ (rows : List Row) where
@@ -174,6 +196,7 @@ module _ (rows : List Row) where
   of_check (Load options) is = absurd (check_is_no_load (sym is.0))
   of_check (Serve options) is = absurd (serve_is_no_check is.0)
   of_check (Pull options) is = absurd (pull_is_no_check is.0)
+  of_check (Exchange options) is = absurd (exchange_is_no_check is.0)
   of_check (Merge options) is = absurd (merge_is_no_check is.0)
   of_check (Drill options) is = absurd (check_is_no_drill (sym is.0))
 
@@ -185,6 +208,7 @@ module _ (rows : List Row) where
   of_decide (Load options) is = absurd (decide_is_no_load (sym is.0))
   of_decide (Serve options) is = absurd (serve_is_no_decide is.0)
   of_decide (Pull options) is = absurd (pull_is_no_decide is.0)
+  of_decide (Exchange options) is = absurd (exchange_is_no_decide is.0)
   of_decide (Merge options) is = absurd (merge_is_no_decide is.0)
   of_decide (Drill options) is = absurd (decide_is_no_drill (sym is.0))
 
@@ -195,6 +219,7 @@ module _ (rows : List Row) where
   of_load (Load options) is = ((options.schema.now, is.1.0), (options.site, is.1.1))
   of_load (Serve options) is = absurd (serve_is_no_load is.0)
   of_load (Pull options) is = absurd (pull_is_no_load is.0)
+  of_load (Exchange options) is = absurd (exchange_is_no_load is.0)
   of_load (Merge options) is = absurd (merge_is_no_load is.0)
   of_load (Drill options) is = absurd (drill_is_no_load is.0)
 
@@ -208,6 +233,7 @@ module _ (rows : List Row) where
   of_serve (Load options) is = absurd (serve_is_no_load (sym is.0))
   of_serve (Serve options) is = ((options.schema.now, is.1.0), (options.site, is.1.1), (options.listen.now, is.1.2), (options.connections, is.1.4), (options.idle, is.1.5))
   of_serve (Pull options) is = absurd (pull_is_no_serve is.0)
+  of_serve (Exchange options) is = absurd (exchange_is_no_serve is.0)
   of_serve (Merge options) is = absurd (merge_is_no_serve is.0)
   of_serve (Drill options) is = absurd (serve_is_no_drill (sym is.0))
 
@@ -220,8 +246,21 @@ module _ (rows : List Row) where
   of_pull (Load options) is = absurd (pull_is_no_load (sym is.0))
   of_pull (Serve options) is = absurd (serve_is_no_pull is.0)
   of_pull (Pull options) is = ((options.schema.now, is.1.0), (options.site, is.1.1), (options.from.now, is.1.2), (options.state.now, is.1.3))
+  of_pull (Exchange options) is = absurd (exchange_is_no_pull is.0)
   of_pull (Merge options) is = absurd (merge_is_no_pull is.0)
   of_pull (Drill options) is = absurd (pull_is_no_drill (sym is.0))
+
+  of_exchange : (line : Line) → IsLineOf (codes "exchange") rows line → ((text : Text) × IsGiven rows (codes "schema") text)
+      × ((text : Text) × IsGiven rows (codes "between") text)
+      × ((text : Text) × IsGiven rows (codes "and") text)
+  of_exchange (Check options) is = absurd (exchange_is_no_check (sym is.0))
+  of_exchange (Decide options) is = absurd (exchange_is_no_decide (sym is.0))
+  of_exchange (Load options) is = absurd (exchange_is_no_load (sym is.0))
+  of_exchange (Serve options) is = absurd (exchange_is_no_serve (sym is.0))
+  of_exchange (Pull options) is = absurd (exchange_is_no_pull (sym is.0))
+  of_exchange (Exchange options) is = ((options.schema.now, is.1.0), (options.between.now, is.1.1), (options.and.now, is.1.2))
+  of_exchange (Merge options) is = absurd (exchange_is_no_merge (sym is.0))
+  of_exchange (Drill options) is = absurd (exchange_is_no_drill (sym is.0))
 
   of_merge : (line : Line) → IsLineOf (codes "merge") rows line → ((text : Text) × IsGiven rows (codes "schema") text)
       × ((text : Text) × IsGiven rows (codes "first") text)
@@ -231,6 +270,7 @@ module _ (rows : List Row) where
   of_merge (Load options) is = absurd (merge_is_no_load (sym is.0))
   of_merge (Serve options) is = absurd (serve_is_no_merge is.0)
   of_merge (Pull options) is = absurd (pull_is_no_merge is.0)
+  of_merge (Exchange options) is = absurd (exchange_is_no_merge is.0)
   of_merge (Merge options) is = ((options.schema.now, is.1.0), (options.first.now, is.1.1), (options.second.now, is.1.2))
   of_merge (Drill options) is = absurd (merge_is_no_drill (sym is.0))
 
@@ -242,6 +282,7 @@ module _ (rows : List Row) where
   of_drill (Load options) is = absurd (drill_is_no_load (sym is.0))
   of_drill (Serve options) is = absurd (serve_is_no_drill is.0)
   of_drill (Pull options) is = absurd (pull_is_no_drill is.0)
+  of_drill (Exchange options) is = absurd (exchange_is_no_drill is.0)
   of_drill (Merge options) is = absurd (merge_is_no_drill is.0)
   of_drill (Drill options) is = ((options.schema.now, is.1.0), (options.sites, is.1.1), (options.script.now, is.1.2))
 
@@ -293,6 +334,15 @@ module _ (rows : List Row) where
 
   pub pull_lacks_state : first_of (codes "state") rows ≡ None → IsNone (IsLineOf (codes "pull") rows)
   pull_lacks_state none line is = none_given rows (codes "state") (of_pull line is).3.0 none (of_pull line is).3.1
+
+  pub exchange_lacks_schema : first_of (codes "schema") rows ≡ None → IsNone (IsLineOf (codes "exchange") rows)
+  exchange_lacks_schema none line is = none_given rows (codes "schema") (of_exchange line is).0.0 none (of_exchange line is).0.1
+
+  pub exchange_lacks_between : first_of (codes "between") rows ≡ None → IsNone (IsLineOf (codes "exchange") rows)
+  exchange_lacks_between none line is = none_given rows (codes "between") (of_exchange line is).1.0 none (of_exchange line is).1.1
+
+  pub exchange_lacks_and : first_of (codes "and") rows ≡ None → IsNone (IsLineOf (codes "exchange") rows)
+  exchange_lacks_and none line is = none_given rows (codes "and") (of_exchange line is).2.0 none (of_exchange line is).2.1
 
   pub merge_lacks_schema : first_of (codes "schema") rows ≡ None → IsNone (IsLineOf (codes "merge") rows)
   merge_lacks_schema none line is = none_given rows (codes "schema") (of_merge line is).0.0 none (of_merge line is).0.1
@@ -366,5 +416,6 @@ named_sites (Decide options) (Some named) is = tt
 named_sites (Load options) (Some named) is = tt
 named_sites (Serve options) (Some named) is = tt
 named_sites (Pull options) (Some named) is = tt
+named_sites (Exchange options) (Some named) is = tt
 named_sites (Merge options) (Some named) is = tt
 named_sites (Drill options) (Some named) is = in_bounds named.1 (codes "sites") 1 64 options.sites is.1.1

@@ -35,18 +35,24 @@ decide_app = with_rule (with_rule (with_rule (with_rule (new_app (codes "decide"
 abbrev pub site_option : Rule
 site_option = demanded (value_option (codes "site"))
 
--- serve --schema FILE --site NAME --listen ADDRESS [--state FILE] [--connections NUMBER] [--idle SECONDS]
+-- serve --schema FILE --site NAME --listen ADDRESS [--state FILE] [--connections NUMBER] [--idle SECONDS] [--log FILE]
 abbrev pub serve_app : App
-serve_app = with_rule (with_rule (with_rule (with_rule (with_rule (with_rule (new_app (codes "serve"))
+serve_app = with_rule (with_rule (with_rule (with_rule (with_rule (with_rule (with_rule (new_app (codes "serve"))
     (demanded (value_option (codes "schema")))) site_option) (demanded (value_option (codes "listen"))))
     (value_option (codes "state"))) (number_option (codes "connections") 0 4294967295))
-    (number_option (codes "idle") 1 86400)
+    (number_option (codes "idle") 1 86400)) (value_option (codes "log"))
 
 -- pull --schema FILE --site NAME --from ADDRESS --state FILE
 abbrev pub pull_app : App
 pull_app = with_rule (with_rule (with_rule (with_rule (new_app (codes "pull"))
     (demanded (value_option (codes "schema")))) site_option) (demanded (value_option (codes "from"))))
     (demanded (value_option (codes "state")))
+
+-- exchange --schema FILE --between ADDRESS --and ADDRESS
+abbrev pub exchange_app : App
+exchange_app = with_rule (with_rule (with_rule (new_app (codes "exchange"))
+    (demanded (value_option (codes "schema")))) (demanded (value_option (codes "between"))))
+    (demanded (value_option (codes "and")))
 
 -- merge --schema FILE FIRST SECOND
 abbrev pub merge_app : App
@@ -74,5 +80,5 @@ with_version a = record a { top = record a.top { has_version = true } }
 -- all of them
 abbrev pub site_app : App
 site_app = with_subcommand (with_subcommand (with_subcommand (with_subcommand (with_subcommand (with_subcommand
-    (with_subcommand (with_version (asks_for_command (new_app (codes "cedar_site")))) check_app.top) decide_app.top)
-    load_app.top) serve_app.top) pull_app.top) merge_app.top) drill_app.top
+    (with_subcommand (with_subcommand (with_version (asks_for_command (new_app (codes "cedar_site")))) check_app.top)
+    decide_app.top) load_app.top) serve_app.top) pull_app.top) exchange_app.top) merge_app.top) drill_app.top

@@ -4,7 +4,7 @@ use Rattle.std.specs.Str.Parse.{digits_value, without_leading_plus}
 use Rattle.clap.specs.Words.{Row, Text, IsUnsignedIn, first_of, subcommand_of}
 use Rattle.stamped_store.specs.SiteNames.{IsSiteName}
 use Rattle.program_lines.specs.declared.line.Line.{Line}
-use Rattle.program_lines.specs.declared.line.Line.TheVariants.{Check, Decide, Load, Serve, Pull, Merge, Drill}
+use Rattle.program_lines.specs.declared.line.Line.TheVariants.{Check, Decide, Load, Serve, Pull, Exchange, Merge, Drill}
 use Rattle.program_lines.specs.Apps.{site_app}
 
 -- the word of a command
@@ -14,6 +14,7 @@ word_of (Decide options) = codes "decide"
 word_of (Load options) = codes "load"
 word_of (Serve options) = codes "serve"
 word_of (Pull options) = codes "pull"
+word_of (Exchange options) = codes "exchange"
 word_of (Merge options) = codes "merge"
 word_of (Drill options) = codes "drill"
 
@@ -66,11 +67,16 @@ HasTexts rows (Serve options) =
     × (first_of (codes "state") rows ≡ option_map (λ s. s.now) options.state)
     × MayBeGivenNumber rows (codes "connections") 0 4294967295 options.connections
     × MayBeGivenNumber rows (codes "idle") 1 86400 options.idle
+    × (first_of (codes "log") rows ≡ option_map (λ s. s.now) options.log)
 HasTexts rows (Pull options) =
     IsGiven rows (codes "schema") options.schema.now
     × IsGivenSite rows options.site
     × IsGiven rows (codes "from") options.from.now
     × IsGiven rows (codes "state") options.state.now
+HasTexts rows (Exchange options) =
+    IsGiven rows (codes "schema") options.schema.now
+    × IsGiven rows (codes "between") options.between.now
+    × IsGiven rows (codes "and") options.and.now
 HasTexts rows (Merge options) =
     IsGiven rows (codes "schema") options.schema.now
     × IsGiven rows (codes "first") options.first.now

@@ -3,7 +3,7 @@ ghost use Rattle.std.specs.Prelude.{◌≡◌, false, IfOk, codes};
 ghost use Rattle.clap.specs.Words.{App, Rule, rule_of, new_app, with_rule, with_subcommand};
 ghost use Rattle.program_lines.specs.Apps.{value_option, value_word, number_option, demanded, site_option, site_app};
 ghost use Rattle.program_lines.specs.Apps.{check_app, decide_app, load_app, serve_app, pull_app};
-ghost use Rattle.program_lines.specs.Apps.{merge_app, drill_app};
+ghost use Rattle.program_lines.specs.Apps.{exchange_app, merge_app, drill_app};
 ghost use Rattle.program_lines.specs.Apps.{asks_for_command, with_version};
 ghost use Rattle.program_lines.specs.inner.Known.{IsApp};
 
@@ -200,6 +200,7 @@ fn serve_command<'a>(alloc: Global) -> Result<Command<'a>, NoMemory>
     let begin = "A state or a delta to begin with; it is read and never written";
     let most = "How many connections to serve before the run ends";
     let limit = "How long a connection may send or take nothing before it ends, 1 to 86400";
+    let lines = "Where each reply gets a line of JSON before it goes out; '-' is standard output";
     let name =
         "The site's name, which no other site has: 1 to 32 ASCII letters, digits, '-', '_' or '.'";
     let example =
@@ -213,7 +214,9 @@ fn serve_command<'a>(alloc: Global) -> Result<Command<'a>, NoMemory>
     let connections = number_option(alloc, "connections", "NUMBER", 0, MOST_CONNECTIONS, most);
     let command = with(command, connections);
     let idle = number_option(alloc, "idle", "SECONDS", 1, MOST_IDLE, limit);
-    with(command, idle)
+    let command = with(command, idle);
+    let log = value_option(alloc, "log", "FILE", lines);
+    with(command, log)
 }
 
 fn pull_command<'a>(alloc: Global) -> Result<Command<'a>, NoMemory>
@@ -231,6 +234,19 @@ fn pull_command<'a>(alloc: Global) -> Result<Command<'a>, NoMemory>
     let from = "Where the other site listens";
     let command = with_needed(alloc, command, "from", "ADDRESS", from);
     with_needed(alloc, command, "state", "FILE", file)
+}
+
+fn exchange_command<'a>(alloc: Global) -> Result<Command<'a>, NoMemory>
+    ensures { IfOk result (IsApp exchange_app) }
+{
+    let about = "Brings two running sites up to date from one another";
+    let example =
+        "Example:\n  cedar_site exchange --schema schema.json --between 127.0.0.1:7000 --and 127.0.0.1:7001";
+    let command = bare(alloc, "exchange", about, example);
+    let command = with_schema(alloc, command);
+    let first = "Where one site listens; it is brought up to date first";
+    let command = with_needed(alloc, command, "between", "ADDRESS", first);
+    with_needed(alloc, command, "and", "ADDRESS", "Where the other listens")
 }
 
 fn merge_command<'a>(alloc: Global) -> Result<Command<'a>, NoMemory>
@@ -282,6 +298,7 @@ pub(crate) fn command<'a>(alloc: Global) -> Result<Command<'a>, NoMemory>
     let command = with_command(command, load_command(alloc));
     let command = with_command(command, serve_command(alloc));
     let command = with_command(command, pull_command(alloc));
+    let command = with_command(command, exchange_command(alloc));
     let command = with_command(command, merge_command(alloc));
     with_command(command, drill_command(alloc))
 }

@@ -43,8 +43,8 @@ pub struct LoadOptions<'a> {
 }
 
 /// What `serve` is given: the name of a schema's file, a site's name, an address, perhaps the name of a file with a
-/// state to begin with, perhaps how many connections there are to be, and perhaps how many seconds each may be idle, 1
-/// to 86,400.
+/// state to begin with, perhaps how many connections there are to be, perhaps how many seconds each may be idle, 1
+/// to 86,400, and perhaps the name of the file that gets a line of each reply.
 #[derive(Clone, Copy)]
 pub struct ServeOptions<'a> {
     pub schema: &'a str,
@@ -53,6 +53,7 @@ pub struct ServeOptions<'a> {
     pub state: Option<&'a str>,
     pub connections: Option<u32>,
     pub idle: Option<u32>,
+    pub log: Option<&'a str>,
 }
 
 /// What `pull` is given: the name of a schema's file, a site's name, an address, and the name of the file with the
@@ -63,6 +64,14 @@ pub struct PullOptions<'a> {
     pub site: SiteName,
     pub from: &'a str,
     pub state: &'a str,
+}
+
+/// What `exchange` is given: the name of a schema's file, and the addresses of two sites.
+#[derive(Clone, Copy)]
+pub struct ExchangeOptions<'a> {
+    pub schema: &'a str,
+    pub between: &'a str,
+    pub and: &'a str,
 }
 
 /// What `merge` is given: the names of a schema's file and of two states.
@@ -94,6 +103,8 @@ pub enum Line<'a> {
     Serve(ServeOptions<'a>),
     /// Take from the site at an address what a state lacks, which is then written.
     Pull(PullOptions<'a>),
+    /// Exchange what two sites lack.
+    Exchange(ExchangeOptions<'a>),
     /// Merge two states.
     Merge(MergeOptions<'a>),
     /// Play a script at so many sites.
@@ -189,6 +200,7 @@ fn serve_in<'a>(options: &ArgMatches<'a>) -> Option<Line<'a>>
         return None;
     };
     let state = option_text(options, "state");
+    let log = option_text(options, "log");
     Some(Line::Serve(ServeOptions {
         schema,
         site,
@@ -196,6 +208,7 @@ fn serve_in<'a>(options: &ArgMatches<'a>) -> Option<Line<'a>>
         state,
         connections,
         idle,
+        log,
     }))
 }
 
@@ -221,6 +234,27 @@ fn pull_in<'a>(options: &ArgMatches<'a>) -> Option<Line<'a>>
         site,
         from,
         state,
+    }))
+}
+
+/// `exchange`, if it has its schema and both addresses.
+fn exchange_in<'a>(options: &ArgMatches<'a>) -> Option<Line<'a>>
+    ensures { MatchOption result (IsNone (IsLineOf (codes "exchange") (rows_of (found_of options.now))))
+        (IsLineOf (codes "exchange") (rows_of (found_of options.now))) }
+{
+    let Some(schema) = option_text(options, "schema") else {
+        return None;
+    };
+    let Some(between) = option_text(options, "between") else {
+        return None;
+    };
+    let Some(and) = option_text(options, "and") else {
+        return None;
+    };
+    Some(Line::Exchange(ExchangeOptions {
+        schema,
+        between,
+        and,
     }))
 }
 
@@ -285,6 +319,9 @@ fn named_line<'a>(name: &str, options: &ArgMatches<'a>) -> Option<Line<'a>>
     }
     if name == "pull" {
         return pull_in(options);
+    }
+    if name == "exchange" {
+        return exchange_in(options);
     }
     if name == "merge" {
         return merge_in(options);

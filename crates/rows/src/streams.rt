@@ -45,6 +45,7 @@ impl Service for Counter {
         target: &[u8],
         body: &[u8],
         text: &mut Vec<u8>,
+        _line: &mut Vec<u8>,
     ) -> StatusCode {
         self.requests = self.requests.saturating_add(1);
         let said = if body.is_empty() { target } else { body };
@@ -56,6 +57,8 @@ impl Service for Counter {
             }
         }
     }
+
+    fn put_refusal_line(_status: StatusCode, _line: &mut Vec<u8>) {}
 }
 
 /// The service has one answer to each request, want of memory aside.

@@ -8,7 +8,7 @@ pub mod Schemas
 pub mod Views
 pub mod WellFormed
 pub mod inner
--- crates below, passed on to those above
+-- Specifications of lower crates, re-exported.
 pub use Rattle.ancestor_search.specs as ancestor_search
 pub use Rattle.schema_names.specs as schema_names
 pub use Rattle.schema_names.specs.schema_file

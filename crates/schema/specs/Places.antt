@@ -1,5 +1,6 @@
--- Places, in their order, and environments.
--- Source: Cedar reference guide 4.0, "Schema JSON format", `appliesTo`; the order of places is a rule of this product.
+-- Defines the order of places, and environments.
+-- Source: Cedar reference guide 4.0, "Schema JSON format", `appliesTo`.
+-- Rules of this product: the order of places.
 use Rattle.std.specs.Prelude.{ℕ, List}
 use Rattle.std.specs.Ordering.{ordering_then}
 use Rattle.std.specs.declared.cmp.Ordering.{Ordering}
@@ -9,16 +10,17 @@ use Rattle.schema_types.specs.declared.cedar.CedarType.{CedarType}
 use Rattle.schema.specs.declared.parts.Environment.{Environment}
 use Rattle.schema.specs.declared.parts.Place.{Place}
 
--- A place is an action, a type of principals and a type of resources. Places are in order by the action, then by the
--- principal's type, then by the resource's.
+-- A place is an action with the types of principal and resource. `place_cmp p q` orders places by action, then by
+-- principal type, then by resource type.
 abbrev pub place_cmp : Place → Place → Ordering
 place_cmp p q =
     ordering_then (uid_cmp p.action q.action)
     (ordering_then (text_cmp p.principal q.principal) (text_cmp p.resource q.resource))
 
+-- `place_of action principal resource` is this place.
 abbrev pub place_of : EntityUid → List ℕ → List ℕ → Place
 place_of action principal resource = record { action = action; principal = principal; resource = resource }
 
--- a place, with the type of its action's context
+-- `environment_of e` is a place with the type of its action's context.
 abbrev pub environment_of : Place × CedarType → Environment
 environment_of e = record { place = e.0; context = e.1 }

@@ -1,4 +1,4 @@
--- What a schema keeps: of each list the entries ascend by their keys, each key once.
+-- Defines the entries of a schema: each list ascends by its keys, without duplicates.
 use Rattle.std.specs.Prelude.{ℕ, List}
 use Rattle.std.specs.BTreeMap.{BTreeMap}
 use Rattle.schema.specs.declared.spans.Span.{Span}
@@ -6,24 +6,25 @@ use Rattle.values.specs.declared.entity_uid.EntityUid.{EntityUid}
 use Rattle.schema.specs.declared.parts.Environment.{Environment}
 use Rattle.schema.specs.declared.parts.EntityDecl.{EntityDecl}
 
+-- `SchemaEntries` are the concrete entries of a schema.
 pub record SchemaEntries : Type 0 where
   pub label : List ℕ
   pub environments : List Environment
   pub actions : List EntityUid
   -- the entity types by their names
   pub entity_types : List (List ℕ × EntityDecl)
-  -- of each action its parents, as `memberOf` states them
+  -- the parents of each action, as its `memberOf` states them
   pub member_of : List (EntityUid × List EntityUid)
   -- the number of each action
   pub action_numbers : List (EntityUid × ℕ)
-  -- at each number those of the actions above that one
+  -- for each number, those of that action's ancestors
   pub actions_above : List (List Span)
   -- the number of each entity type
   pub type_numbers : List (List ℕ × ℕ)
-  -- at each number those of the types above that one
+  -- for each number, those of that type's ancestors
   pub types_above : List (List Span)
 
--- what maps keep
+-- `kept ..` are the entries of these maps.
 abbrev pub kept : List ℕ → List Environment → List EntityUid → BTreeMap (List ℕ) EntityDecl
     → BTreeMap EntityUid (List EntityUid) → BTreeMap EntityUid ℕ → List (List Span) → BTreeMap (List ℕ) ℕ
     → List (List Span) → SchemaEntries

@@ -1,7 +1,7 @@
--- The schema that bytes state, and why they state none.
--- Source: Cedar reference guide 4.0, "Schema JSON format": `shape`, `memberOfTypes`, `memberOf`, `appliesTo`. Rules of
--- this product: the limits on types, that no action is above itself, and the order of refusals.
--- The label of a schema is SHA-256 (FIPS 180-4) of its bytes: a rule of this product.
+-- Defines the schema that bytes state, and the error if they state none.
+-- Source: Cedar reference guide 4.0, "Schema JSON format": `shape`, `memberOfTypes`, `memberOf`, `appliesTo`.
+-- Rules of this product: the limits on types, that no action is its own ancestor, and the order of errors; the label
+-- of a schema is SHA-256 (FIPS 180-4) of its bytes.
 use Rattle.std.specs.Prelude.{◌≡◌, ◌↔◌, ℕ, List, [], ◌∷◌, map, Contains, IsTrue, IsSome, Bool, Option, Some, None}
 use Rattle.std.specs.List.Sorted.{IsStrictlySortedBy}
 use Rattle.sha2.specs.Sha256.{sha256}
@@ -22,13 +22,14 @@ use Rattle.schema_names.specs.Laws.{IsShapeOrContext}
 use Rattle.schema.specs.declared.parts.Place.{Place}
 pub use Rattle.schema.specs.Places.{place_cmp}
 
--- ---- what a schema answers
+-- ---- the abstract schema
 
--- a place, with the type of the action's context
+-- An `EnvironmentOf` is a place, with the type of its action's context.
 pub record EnvironmentOf : Type 0 where
   pub place : Place
   pub context : Cedar
 
+-- A `StatedSchema` has the label and the look-ups of a schema.
 pub record StatedSchema : Type 0 where
   pub label : List ℕ
   pub environments : List EnvironmentOf
@@ -41,52 +42,56 @@ pub record StatedSchema : Type 0 where
   -- of the child's type, and of the parent's
   pub may_have_parent : List ℕ → List ℕ → Bool
 
--- an action is declared, and another is above it
+-- `IsActionAbove v u above` holds if the action `u` is declared, and `above` is its ancestor.
 abbrev pub IsActionAbove : StatedSchema → EntityUid → EntityUid → Type 0
 IsActionAbove v u above = (us : List EntityUid) × (v.ancestors u ≡ Some us) × Contains us above
 
 -- ---- hierarchies
 
--- `memberOf`: each action in turn is given its parents
+-- `with_actions parents as` are the edges by `memberOf`: each action in turn gets its parents.
 abbrev pub with_actions : Parents → List FoundAction → Parents
 with_actions parents [] = parents
 with_actions parents (a ∷ rest) = with_actions (with_parents parents a.uid a.parents) rest
 
+-- `action_parents s` are the parents of each action, as its `memberOf` states them.
 abbrev pub action_parents : FoundSchema → Parents
 action_parents s = with_actions no_parents s.actions
 
--- an entity type stands in a hierarchy as the uid of that type whose id is empty
+-- `type_uid name` is an entity type as a node of a hierarchy: the uid of that type whose id is empty.
 abbrev pub type_uid : List ℕ → EntityUid
 type_uid name = record { type_name = name; id = [] }
 
--- `memberOfTypes`: each entity type in turn is given its parents
+-- `with_types parents es` are the edges by `memberOfTypes`: each entity type in turn gets its parents.
 abbrev pub with_types : Parents → List FoundEntityType → Parents
 with_types parents [] = parents
 with_types parents (e ∷ rest) =
     with_types (with_parents parents (type_uid e.name) (map type_uid e.parents)) rest
 
+-- `type_parents s` are the parents of each entity type, as its `memberOfTypes` states them.
 abbrev pub type_parents : FoundSchema → Parents
 type_parents s = with_types no_parents s.entity_types
 
+-- `SomeActionIsOnCycle s` holds if some action is its own ancestor.
 abbrev pub SomeActionIsOnCycle : FoundSchema → Type 0
 SomeActionIsOnCycle s = (u : EntityUid) × IsOnCycle (action_parents s) u
 
--- ---- types, written out
+-- ---- expanded types
 
--- what a shape or a context is once it is written out; where none is stated, it has no attributes
+-- `IsRecordOf commons r t` holds if `t` is the expansion of a shape or a context; without one it has no attributes.
 abbrev pub IsRecordOf : Declarations → Option Qualified → Cedar → Type 0
 IsRecordOf commons None t = t ≡ record_of no_fields
 IsRecordOf commons (Some r) t = WrittenOut commons r t
 
--- a type of the schema: a common type by its name, a shape or a context
+-- `StandsIn s r` holds if `r` is a type of the schema: a common type by its name, a shape or a context.
 pub data StandsIn (s : FoundSchema) : Qualified → Type 0 where
   common : (q : List ℕ) (r : Qualified) → Declares s.commons q r → StandsIn s (qualified.common q)
   shape_or_context : (r : Qualified) → IsShapeOrContext s r → StandsIn s r
 
--- what a type is once it is written out, within the limits
+-- `IsWritten commons r` holds if `r` has an expansion within the limits.
 abbrev pub IsWritten : Declarations → Qualified → Type 0
 IsWritten commons r = (t : Cedar) × WrittenOut commons r t × (IsTooLarge t → ⊥)
 
+-- `SomeTypeIsTooLarge s` holds if the expansion of some type is too large.
 pub record SomeTypeIsTooLarge (s : FoundSchema) : Type 0 where
   pub type : Qualified
   pub whole : Cedar
@@ -94,15 +99,17 @@ pub record SomeTypeIsTooLarge (s : FoundSchema) : Type 0 where
   pub is_written : WrittenOut s.commons type whole
   pub too_large : IsTooLarge whole
 
--- ---- the schema of a file with each name found
+-- ---- the schema of a file with resolved names
 
+-- `IsAction s u` holds if the action `u` is declared.
 abbrev pub IsAction : FoundSchema → EntityUid → Type 0
 IsAction s u = (a : FoundAction) × Contains s.actions a × (a.uid ≡ u)
 
+-- `IsShape s n t` holds if `t` is the shape of the declared entity type `n`.
 abbrev pub IsShape : FoundSchema → List ℕ → Cedar → Type 0
 IsShape s n t = (e : FoundEntityType) × Contains s.entity_types e × (e.name ≡ n) × IsRecordOf s.commons e.shape t
 
--- some action is of this place by what it applies to
+-- `Applies s p applied` holds if some action applies to the place `p` by `applied`.
 pub record Applies (s : FoundSchema) (p : Place) (applied : FoundUse) : Type 0 where
   pub action : FoundAction
   pub declared : Contains s.actions action
@@ -111,13 +118,16 @@ pub record Applies (s : FoundSchema) (p : Place) (applied : FoundUse) : Type 0 w
   pub principal : Contains applied.principals p.principal
   pub resource : Contains applied.resources p.resource
 
+-- `IsEnvironment s e` holds if some action applies to the place of `e`, with this context.
 abbrev pub IsEnvironment : FoundSchema → EnvironmentOf → Type 0
 IsEnvironment s e = (applied : FoundUse) × Applies s e.place applied × IsRecordOf s.commons applied.context e.context
 
+-- `IsPlace s p` holds if some action applies to the place `p`.
 abbrev pub IsPlace : FoundSchema → Place → Type 0
 IsPlace s p = (applied : FoundUse) × Applies s p applied
 
--- Each look-up finds what is declared, and only that; lists are in ascending order, each item once.
+-- `Answers s v` holds if each look-up of `v` finds exactly what `s` declares; lists are in ascending order, without
+-- duplicates.
 pub record Answers (s : FoundSchema) (v : StatedSchema) : Type 0 where
   pub shapes : (n : List ℕ) (t : Cedar) → v.shape n ≡ Some t → IsShape s n t
   pub all_shapes : (e : FoundEntityType) → Contains s.entity_types e → IsSome (v.shape e.name)
@@ -137,20 +147,20 @@ pub record Answers (s : FoundSchema) (v : StatedSchema) : Type 0 where
 
 -- ---- the schema of bytes
 
--- no action is above itself, and each type can be written out within the limits
+-- `IsSound s` holds if no action is its own ancestor, and each type has an expansion within the limits.
 pub record IsSound (s : FoundSchema) : Type 0 where
   pub no_cycle : SomeActionIsOnCycle s → ⊥
   pub is_written : (r : Qualified) → StandsIn s r → IsWritten s.commons r
 
--- why it is not so: the first of three causes
+-- `IsUnsound s f` holds if `f` is the first of three errors of `s`.
 pub data IsUnsound (s : FoundSchema) : SchemaFault → Type 0 where
   type_cycle : SomeStandsForNone s.commons → IsUnsound s TypeCycle
   action_cycle : (SomeStandsForNone s.commons → ⊥) → SomeActionIsOnCycle s → IsUnsound s ActionCycle
   too_large : (SomeStandsForNone s.commons → ⊥) → (SomeActionIsOnCycle s → ⊥) → SomeTypeIsTooLarge s
       → IsUnsound s TypeTooLarge
 
--- Bytes state this schema. Nothing is declared twice, since no key stands twice in an object that was read: a law of
--- `schema_names`.
+-- `IsSchemaOf bytes v` holds if `bytes` state the schema `v`. Nothing is declared twice, since the keys of a parsed
+-- object are distinct: a theorem of `schema_names`.
 pub record IsSchemaOf (bytes : List ℕ) (v : StatedSchema) : Type 0 where
   pub named : FoundSchema
   pub states : StatesNamed bytes named
@@ -158,7 +168,7 @@ pub record IsSchemaOf (bytes : List ℕ) (v : StatedSchema) : Type 0 where
   pub label : v.label ≡ encode_lower (sha256 bytes)
   pub answers : Answers named v
 
--- the first cause for which bytes state no schema
+-- `RefusedFor bytes f` holds if `bytes` state no schema, and `f` is the first error.
 pub data RefusedFor (bytes : List ℕ) : SchemaFault → Type 0 where
   naming : (f : SchemaFault) → NamingRefused bytes f → RefusedFor bytes f
   unsound : (s : FoundSchema) (f : SchemaFault) → StatesNamed bytes s → IsUnsound s f → RefusedFor bytes f

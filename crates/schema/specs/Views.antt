@@ -1,4 +1,4 @@
--- What a schema answers, as a function of what it keeps.
+-- Defines the abstract schema as a function of its entries.
 use Rattle.std.specs.Prelude.{List, ℕ, map, filter, Option, option_map}
 use Rattle.std.specs.Map.{lookup}
 use Rattle.std.specs.BTreeMap.{is_at}
@@ -13,16 +13,19 @@ pub use Rattle.schema.specs.LookUps.{parents_at, is_ancestor, is_action_above}
 use Rattle.schema.specs.SchemaEntries.{SchemaEntries}
 use Rattle.schema.specs.Schemas.{EnvironmentOf, StatedSchema, IsSchemaOf}
 
+-- `environment_view e` is the environment `e` of the code.
 abbrev pub environment_view : Environment → EnvironmentOf
 environment_view e = record { place = e.place; context = cedar_view e.context }
 
+-- `shape_at types n` is the shape of the entity type `n`, if it is declared.
 abbrev pub shape_at : List (List ℕ × EntityDecl) → List ℕ → Option Cedar
 shape_at types n = option_map (λ d. cedar_view d.shape) (lookup (is_at (text_cmp n)) types)
 
--- those of the actions that are above one, by their numbers
+-- `above_in ..` are the actions that are ancestors of one, by their numbers.
 abbrev pub above_in : List EntityUid → List (EntityUid × ℕ) → List (List Span) → EntityUid → List EntityUid
 above_in actions numbers spans u = filter (λ above. is_action_above numbers spans u above) actions
 
+-- `schema_view k` is the abstract schema with these entries.
 abbrev pub schema_view : SchemaEntries → StatedSchema
 schema_view k = record {
   label = k.label;
@@ -35,6 +38,6 @@ schema_view k = record {
   may_have_parent = is_ancestor k.type_numbers k.types_above;
 }
 
--- some bytes state the schema that this is
+-- `IsStated k` holds if some bytes state the schema with these entries.
 abbrev pub IsStated : SchemaEntries → Type 0
 IsStated k = (bytes : List ℕ) × IsSchemaOf bytes (schema_view k)

@@ -1,4 +1,4 @@
--- What holds of each schema that bytes state.
+-- Defines the invariants of each schema that bytes state.
 use Rattle.std.specs.Prelude.{◌≡◌, ◌↔◌, ℕ, List, map, Contains, IsTrue, IsSome, Option, Some}
 use Rattle.std.specs.List.Sorted.{IsStrictlySortedBy}
 use Rattle.values.specs.declared.entity_uid.EntityUid.{EntityUid}
@@ -9,28 +9,31 @@ use Rattle.schema_types.specs.Ascending.{KeysAscend}
 use Rattle.schema_names.specs.schema_types.Actions.{action_type}
 use Rattle.schema.specs.Schemas.{EnvironmentOf, StatedSchema, IsSchemaOf, place_cmp}
 
--- the attributes of an entity type, or a context: a record within the limits, whose keys ascend, at every depth
+-- `AreAttributes t` holds if `t` are the attributes of an entity type, or a context: a record within the limits,
+-- whose keys ascend, at every depth.
 pub record AreAttributes (t : Cedar) : Type 0 where
   pub fields : CedarFields
   pub is_record : t ≡ record_of fields
   pub ascend : KeysAscend t
   pub small : IsTooLarge t → ⊥
 
--- what the actions of a namespace, or of none, have as their type: a name whose last word is `Action`
+-- `IsActionType name` holds if `name` is the type of the actions of a namespace, or of none: its last word is
+-- `Action`.
 abbrev pub IsActionType : List ℕ → Type 0
 IsActionType name = (namespace : Option (List ℕ)) × (name ≡ action_type namespace)
 
+-- `IsWellFormed v` holds if the schema `v` satisfies these invariants.
 pub record IsWellFormed (v : StatedSchema) : Type 0 where
   pub shapes : (n : List ℕ) (t : Cedar) → v.shape n ≡ Some t → AreAttributes t
   pub contexts : (e : EnvironmentOf) → Contains v.environments e → AreAttributes e.context
-  -- in order, each once, and of actions that are declared
+  -- strictly ascending, and of declared actions
   pub environments_ascend : IsStrictlySortedBy place_cmp (map (λ e. e.place) v.environments)
   pub places : (e : EnvironmentOf) → Contains v.environments e → Contains v.actions e.place.action
-  -- the actions are those that have ancestors, in order, and those whose parents are stated
+  -- the actions are those that have ancestors, in order, and those that have stated parents
   pub actions : (u : EntityUid) → Contains v.actions u ↔ IsSome (v.ancestors u)
   pub actions_stated : (u : EntityUid) → Contains v.actions u ↔ IsSome (v.member_of u)
   pub actions_ascend : IsAscending v.actions
-  -- ancestors ascend; what is above an ancestor is one; and no action is its own
+  -- ancestors ascend; an ancestor's ancestor is one; and no action is its own
   pub ancestors_ascend : (u : EntityUid) (us : List EntityUid) → v.ancestors u ≡ Some us → IsAscending us
   pub ancestors_join : (u w x : EntityUid) (us ws : List EntityUid) → v.ancestors u ≡ Some us → Contains us w
       → v.ancestors w ≡ Some ws → Contains ws x → Contains us x
@@ -38,13 +41,13 @@ pub record IsWellFormed (v : StatedSchema) : Type 0 where
   -- each ancestor is an action
   pub ancestors_declared : (u w : EntityUid) (us : List EntityUid) → v.ancestors u ≡ Some us → Contains us w
       → Contains v.actions w
-  -- actions have the types of actions, and no entity type that is declared is one
+  -- actions have action types, and no declared entity type is one
   pub actions_typed : (u : EntityUid) → Contains v.actions u → IsActionType u.type_name
   pub shapes_apart : (n : List ℕ) → IsSome (v.shape n) → IsActionType n → ⊥
-  -- what may be a parent of a parent may be one
+  -- what may be a parent of a possible parent is a possible parent
   pub parents_join : (child parent above : List ℕ) → IsTrue (v.may_have_parent child parent)
       → IsTrue (v.may_have_parent parent above) → IsTrue (v.may_have_parent child above)
-  -- each entity type that is named is declared: in a shape or a context, as whose an environment is, in the hierarchy
+  -- each named entity type is declared: in a shape or a context, in an environment, in the hierarchy
   pub shapes_name : (n : List ℕ) (t : Cedar) → v.shape n ≡ Some t → (q : List ℕ) → NamesEntity t q
       → IsSome (v.shape q)
   pub contexts_name : (e : EnvironmentOf) → Contains v.environments e → (q : List ℕ) → NamesEntity e.context q
@@ -54,5 +57,6 @@ pub record IsWellFormed (v : StatedSchema) : Type 0 where
   pub children : (child parent : List ℕ) → IsTrue (v.may_have_parent child parent) → IsSome (v.shape child)
   pub parents : (child parent : List ℕ) → IsTrue (v.may_have_parent child parent) → IsSome (v.shape parent)
 
+-- `StatedSchemasAreWellFormed`: each schema that bytes state satisfies the invariants.
 abbrev pub StatedSchemasAreWellFormed : Type 0
 StatedSchemasAreWellFormed = (bytes : List ℕ) (v : StatedSchema) → IsSchemaOf bytes v → IsWellFormed v

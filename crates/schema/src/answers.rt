@@ -1,4 +1,4 @@
-//! What a schema answers.
+//! The schema, and its look-ups.
 
 use crate::laws::stated_schemas_are_well_formed;
 use crate::lookups::{is_action_above, may_have_parent, parents_at};
@@ -9,27 +9,26 @@ use std::collections::BTreeMap;
 use std::marker::Model;
 use values::{EntityUid, TypeName};
 
-/// A schema: entity types with their shapes, actions, and environments. Look-ups take no memory, and logarithmic
-/// time; whether a type may be above another also takes time as there are spans of numbers above this one: one in a
-/// chain or in layers.
+/// A schema: entity types with their shapes, actions, and environments.
 ///
-/// Contracts see what it keeps, which is plain data, and speak of what that answers: `schema_view`. Some bytes state
-/// each schema: [`Schema::is_stated`].
+/// Look-ups do not allocate and take logarithmic time; whether a type may be an ancestor of another also takes time
+/// linear in the spans of numbers of its ancestors: one in a chain or in layers. Contracts see its entries, which are
+/// plain data, and state properties of `schema_view`. Some bytes state each schema: [`Schema::is_stated`].
 #[derive(Drop)]
 pub struct Schema {
     pub(crate) label: Text,
     pub(crate) environments: Items<Environment>,
     pub(crate) actions: Items<EntityUid>,
     pub(crate) shapes: BTreeMap<TypeName, EntityDecl>,
-    /// Of each action its parents.
+    /// The parents of each action.
     pub(crate) member_of: BTreeMap<EntityUid, Items<EntityUid>>,
     /// The number of each action.
     pub(crate) action_numbers: BTreeMap<EntityUid, usize>,
-    /// At each number those of the actions above that one.
+    /// For each number, the numbers of that action's ancestors.
     pub(crate) actions_above: Items<Items<Span>>,
     /// The number of each entity type.
     pub(crate) type_numbers: BTreeMap<TypeName, usize>,
-    /// At each number those of the types above that one.
+    /// For each number, the numbers of that type's ancestors.
     pub(crate) types_above: Items<Items<Span>>,
 }
 
@@ -57,14 +56,14 @@ impl Schema {
     ghost use Rattle.schema.specs.Schemas.{IsActionAbove};
     ghost use Rattle.schema.specs.Views.{environment_view, schema_view, is_action_above, IsStated};
 
-    /// Whoever holds a schema knows by this that some bytes state it. Does nothing.
+    /// Proves the schema's invariant: some bytes state it. No-op.
     pub fn is_stated(&self)
         ensures { IsStated self.now }
     {
         let _ = &self.label;
     }
 
-    /// Returns the environments, ascending by the action, then by the principal's type, then by the resource's.
+    /// Returns the environments, ascending by action, then principal type, then resource type.
     pub fn environments(&self) -> &[Environment]
         ensures { map environment_view result.now ≡ (schema_view self.now).environments }
     {
@@ -78,14 +77,14 @@ impl Schema {
         self.actions.as_slice()
     }
 
-    /// Returns the entity type of this name, where it is declared.
+    /// Returns the entity type of this name, if it is declared.
     pub fn entity_type(&self, name: &TypeName) -> Option<&EntityDecl>
         ensures { option_map (λ d. cedar_view d.now.shape) result ≡ (schema_view self.now).shape name.now }
     {
         self.shapes.get(name)
     }
 
-    /// Returns the parents of an action, as `memberOf` states them; None where it is not declared.
+    /// Returns the parents of an action, as its `memberOf` states them; `None` if it is not declared.
     pub fn action_parents(&self, uid: &EntityUid) -> Option<&[EntityUid]>
         ensures { option_map (λ us. us.now) result ≡ (schema_view self.now).member_of uid.now }
     {
@@ -102,8 +101,8 @@ impl Schema {
         }
     }
 
-    /// Returns whether an action is declared and another is above it: whether one or more steps by `memberOf` lead
-    /// there.
+    /// Returns whether an action is declared and another is its ancestor: whether one or more steps by `memberOf`
+    /// lead there.
     pub fn is_action_above(&self, uid: &EntityUid, above: &EntityUid) -> bool
         ensures { IsTrue result ↔ IsActionAbove (schema_view self.now) uid.now above.now }
     {
@@ -122,7 +121,7 @@ impl Schema {
         self.is_action(uid) && self.is_action(above)
     }
 
-    /// Returns whether the number of the one stands among those above the other.
+    /// Returns whether the number of `above` is among those of the ancestors of `uid`.
     fn has_above(&self, uid: &EntityUid, above: &EntityUid) -> bool
         ensures { result ≡ is_action_above self.now.action_numbers self.now.actions_above uid.now above.now }
     {
@@ -134,8 +133,8 @@ impl Schema {
         )
     }
 
-    /// Returns whether an entity of the child's type may have a parent of the other: whether one or more steps by
-    /// `memberOfTypes` lead there.
+    /// Returns whether an entity of the type `child` may have a parent of the type `parent`: whether one or more
+    /// steps by `memberOfTypes` lead there.
     pub fn may_have_parent(&self, child: &TypeName, parent: &TypeName) -> bool
         ensures { result ≡ (schema_view self.now).may_have_parent child.now parent.now }
     {
@@ -147,7 +146,7 @@ impl Schema {
         )
     }
 
-    /// Returns the label: 64 lower case hexadecimal digits, SHA-256 of the bytes that were read.
+    /// Returns the label: SHA-256 of the parsed bytes, as 64 lower case hexadecimal digits.
     pub fn label(&self) -> &str
         ensures { result.now ≡ (schema_view self.now).label }
     {

@@ -1,4 +1,4 @@
-//! That no action is above itself.
+//! The check that no action is its own ancestor.
 ghost use Rattle.std.specs.Prelude.{◌≡◌, ◌≢◌, ◌↔◌, IfOk, IsTrue, MatchResult};
 ghost use Rattle.ancestor_search.specs.contracts.searched.SearchedAncestry.TheImpl as searched;
 ghost use Rattle.schema_types.specs.declared.fault.SchemaFault.TheVariants as SchemaFault;
@@ -8,7 +8,7 @@ use ancestor_search::{Ancestry, Searched};
 use plain::NoMemory;
 use schema_types::SchemaFault;
 
-/// Returns whether something is above itself.
+/// Returns whether something is its own ancestor.
 fn has_cycle(edges: &Searched) -> Result<bool, NoMemory>
     ensures { IfOk result (λ yes. IsTrue yes ↔ HasCycle (searched.parents-value.it edges.now)) }
 {
@@ -19,9 +19,12 @@ fn has_cycle(edges: &Searched) -> Result<bool, NoMemory>
     }
 }
 
-/// Refuses a hierarchy in which something is above itself.
+/// Rejects a hierarchy in which something is its own ancestor.
 ///
-/// Refused with `ActionCycle` exactly there, and else only for want of memory.
+/// # Errors
+///
+/// - `ActionCycle` (24): something is its own ancestor.
+/// - `NoMemory` (1): an allocation failed; possible at any point.
 pub fn demand_no_cycle(edges: &Searched) -> Result<(), SchemaFault>
     ensures { MatchResult result (λ u. HasCycle (searched.parents-value.it edges.now) → ⊥)
         (λ f. f ≢ SchemaFault.NoMemory

@@ -1,4 +1,4 @@
-//! The places of a schema, with their contexts.
+//! The places of a schema (an action with the types of principal and resource), with their contexts.
 ghost use Rattle.std.specs.Prelude.{◌≢◌, OnOk, MatchResult, map, option_map};
 ghost use Rattle.schema_types.specs.QualifiedViews.{qualified_view};
 ghost use Rattle.schema_types.specs.WrittenOut.{Declarations};
@@ -38,7 +38,7 @@ fn add_place(
     Ok(())
 }
 
-/// Adds the places of a principal's type.
+/// Adds the places of a principal type.
 fn add_resources(
     action: &EntityUid,
     principal: &TypeName,
@@ -54,7 +54,7 @@ fn add_resources(
     Ok(())
 }
 
-/// Adds the places of each type of principals with each type of resources.
+/// Adds the places of each principal type with each resource type.
 fn add_principals(
     action: &EntityUid,
     principals: &[TypeName],
@@ -70,9 +70,8 @@ fn add_principals(
     Ok(())
 }
 
-/// Adds the places to which an action applies.
-///
-/// Refused where the type of its context is too large.
+/// Adds the places to which an action applies. The only errors are that the type of its context is too large, and
+/// `NoMemory`.
 fn add_use(
     alloc: Global,
     action: &EntityUid,
@@ -94,7 +93,7 @@ fn add_use(
     Ok(())
 }
 
-/// Adds the places of an action; there are none where it says to nothing that it applies.
+/// Adds the places of an action; none if it does not apply to anything.
 fn add_action(
     alloc: Global,
     action: &FoundAction,
@@ -113,9 +112,8 @@ fn add_action(
     }
 }
 
-/// Returns the places of all actions, each with the type of its context.
-///
-/// Refused where one of these types is too large.
+/// Returns the places of all actions, each with the type of its context. The only errors are that one of these types
+/// is too large, and `NoMemory`.
 pub(crate) fn make_places(
     alloc: Global,
     actions: &[FoundAction],

@@ -25,7 +25,7 @@ fn copy_uids(alloc: Global, uids: &[EntityUid]) -> Result<Vec<EntityUid>, NoMemo
     Ok(copies)
 }
 
-/// Copies of what references lead to.
+/// Returns copies of these uids.
 fn copy_all(alloc: Global, uids: &[&EntityUid]) -> Result<Items<EntityUid>, NoMemory>
     ensures { IfOk result (λ copies. copies ≡ names uids.now) }
 {
@@ -36,7 +36,7 @@ fn copy_all(alloc: Global, uids: &[&EntityUid]) -> Result<Items<EntityUid>, NoMe
     Ok(Items::from_vec(copies))
 }
 
-/// Returns an entity type as a point of a hierarchy: the uid of that type whose id is empty.
+/// Returns an entity type as a node of a hierarchy: the uid of that type whose id is empty.
 pub(crate) fn type_uid(alloc: Global, name: &TypeName) -> Result<EntityUid, NoMemory>
     ensures { IfOk result (λ u. u ≡ type_uid name.now) }
 {
@@ -55,7 +55,7 @@ fn type_uids(alloc: Global, types: &[TypeName]) -> Result<Vec<EntityUid>, NoMemo
     Ok(uids)
 }
 
-/// Gives an action its parents.
+/// Sets the parents of an action.
 fn set_action(alloc: Global, edges: &mut Searched, action: &FoundAction) -> Result<(), NoMemory>
     ensures { OnOk result (searched.parents-value.it edges.new
         ≡ with_parents (searched.parents-value.it edges.old) action.now.uid action.now.parents) }
@@ -78,7 +78,7 @@ pub(crate) fn action_edges(alloc: Global, actions: &[FoundAction]) -> Result<Sea
     Ok(edges)
 }
 
-/// Gives an entity type its parents.
+/// Sets the parents of an entity type.
 fn set_type(
     alloc: Global,
     edges: &mut Searched,
@@ -109,7 +109,7 @@ pub(crate) fn type_edges(
     Ok(edges)
 }
 
-/// Gives an action its parents.
+/// Adds an action with its parents.
 fn add_member(
     alloc: Global,
     edges: &Searched,

@@ -7,9 +7,7 @@ use plain::{NoMemory, Text};
 use sha2::{Digest, Sha256};
 use std::alloc::Global;
 
-/// Returns the lower case hexadecimal digits of SHA-256 of the bytes: 64 of them.
-///
-/// Refused only for want of memory.
+/// Returns SHA-256 of the bytes, as 64 lower case hexadecimal digits. The only error is `NoMemory`.
 ///
 /// Source: FIPS 180-4.
 pub fn label_of(alloc: Global, bytes: &[u8]) -> Result<Text, NoMemory>

@@ -1,4 +1,4 @@
-//! Laws of the definitions; the functions do nothing.
+//! Theorems about the definitions. The functions are no-ops.
 ghost use Rattle.schema.specs.Outcomes.{OneSchema, NotBoth, OneRefusal, SomeOutcome};
 ghost use Rattle.schema.specs.WellFormed.{StatedSchemasAreWellFormed};
 
@@ -11,7 +11,7 @@ use schema_types::{
     keys_ascend, one_written, types_stand_for_one_or_some_for_none, written_entities_are_named,
 };
 
-/// Bytes state exactly one schema, or are refused for exactly one cause.
+/// Proves that bytes state exactly one schema, or are rejected with exactly one error. No-op.
 pub fn bytes_have_one_outcome()
     ensures some_outcome { SomeOutcome }
     ensures one_schema { OneSchema }
@@ -30,10 +30,11 @@ pub fn bytes_have_one_outcome()
     types_stand_for_one_or_some_for_none();
 }
 
-/// A schema that bytes state has records as attributes and contexts, within the limits and with ascending keys; its
-/// environments, actions and ancestors ascend; no action is above itself; above is transitive; each entity type that
-/// is named is declared, and so is each action that is above one; and actions alone have a type whose last word is
-/// `Action`.
+/// Proves the invariants of a schema that bytes state. No-op.
+///
+/// Attributes and contexts are records, within the limits and with ascending keys; environments, actions and
+/// ancestors ascend; no action is its own ancestor; the ancestor relation is transitive; each named entity type is
+/// declared, and so is each ancestor of an action; and only actions have a type whose last word is `Action`.
 pub fn stated_schemas_are_well_formed()
     ensures { StatedSchemasAreWellFormed }
 {

@@ -1,5 +1,5 @@
-//! The schema that bytes state: which entity types and actions there are, of what shape, above each other how, and in
-//! which environments requests stand; and how it is looked up.
+//! The schema that bytes state: its entity types and actions, their shapes, their hierarchies, and the environments
+//! of requests; and its look-ups.
 #![tactic(auto)]
 
 mod answers;

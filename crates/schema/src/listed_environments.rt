@@ -10,9 +10,7 @@ use std::alloc::Global;
 use std::collections::BTreeMap;
 use values::{EntityUid, TypeName};
 
-/// Returns the place of an action, a type of principals and a type of resources.
-///
-/// Refused only for want of memory.
+/// Creates the place of an action, a principal type and a resource type. The only error is `NoMemory`.
 pub fn make_place(
     action: &EntityUid,
     principal: &TypeName,
@@ -30,9 +28,7 @@ pub fn make_place(
     })
 }
 
-/// Returns the entries of a map as environments, in order, each once.
-///
-/// Refused only for want of memory.
+/// Returns the entries of a map as environments, in order, without duplicates. The only error is `NoMemory`.
 pub fn listed(
     alloc: Global,
     places: BTreeMap<Place, Shared<CedarType>>,

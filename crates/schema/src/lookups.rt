@@ -1,5 +1,5 @@
-//! What is found in the parts of a schema. No look-up takes memory. Each takes logarithmic time; that of a type or an
-//! action above another also the logarithm of the spans of numbers above it, which are few where they form layers.
+//! Look-ups in the parts of a schema. They do not allocate and take logarithmic time; that of a type's or an action's
+//! ancestors also the logarithm of the spans of their numbers, which are few in layers.
 ghost use Rattle.std.specs.Prelude.{◌≡◌, option_map};
 ghost use Rattle.std.specs.List.{slice_get};
 ghost use Rattle.std.specs.BTreeMap.{get};
@@ -11,7 +11,7 @@ use plain::Items;
 use std::collections::BTreeMap;
 use values::{EntityUid, TypeName};
 
-/// Returns the parents of an action; None where it is none.
+/// Returns the parents of an action; `None` if it is not one.
 pub fn parents_at<'a>(
     parents: &'a BTreeMap<EntityUid, Items<EntityUid>>,
     uid: &EntityUid,
@@ -24,7 +24,7 @@ pub fn parents_at<'a>(
     }
 }
 
-/// Returns whether the spans that stand at a place have a number.
+/// Returns whether the spans at an index contain a number.
 fn has_number_at(spans: &[Items<Span>], place: usize, number: usize) -> bool
     ensures { result ≡ has_number_at (slice_get spans.now place) number }
 {
@@ -34,7 +34,7 @@ fn has_number_at(spans: &[Items<Span>], place: usize, number: usize) -> bool
     }
 }
 
-/// Returns whether a type has a number, which is among those at a place.
+/// Returns whether a type has a number, and the spans at an index contain it.
 fn is_numbered_at(
     numbers: &BTreeMap<TypeName, usize>,
     spans: &[Items<Span>],
@@ -49,8 +49,7 @@ fn is_numbered_at(
     }
 }
 
-/// Returns whether the parent is one of the types above the child: at the number of each type stand those of the types
-/// above it.
+/// Returns whether the parent is an ancestor of the child: at the number of each type are those of its ancestors.
 pub fn may_have_parent(
     numbers: &BTreeMap<TypeName, usize>,
     spans: &[Items<Span>],
@@ -65,7 +64,7 @@ pub fn may_have_parent(
     }
 }
 
-/// Returns whether an action has a number, which is among those at a place.
+/// Returns whether an action has a number, and the spans at an index contain it.
 fn is_action_numbered_at(
     numbers: &BTreeMap<EntityUid, usize>,
     spans: &[Items<Span>],
@@ -80,7 +79,7 @@ fn is_action_numbered_at(
     }
 }
 
-/// Returns whether an action is above another: at the number of each action stand those of the actions above it.
+/// Returns whether an action is an ancestor of another: at the number of each action are those of its ancestors.
 pub fn is_action_above(
     numbers: &BTreeMap<EntityUid, usize>,
     spans: &[Items<Span>],

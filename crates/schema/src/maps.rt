@@ -1,11 +1,11 @@
-//! Maps that are filled.
+//! Filling maps.
 ghost use Rattle.std.specs.Prelude.{Some, OnOk};
 ghost use Rattle.std.specs.BTreeMap.{Updates};
 
 use plain::NoMemory;
 use std::collections::BTreeMap;
 
-/// Gives a key its value, whether it had one or not.
+/// Sets the value of a key, whether it had one or not.
 pub(crate) fn put<K: Ord + Drop, V: Drop>(
     map: &mut BTreeMap<K, V>,
     key: K,

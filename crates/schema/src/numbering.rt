@@ -1,8 +1,8 @@
-//! What is above each entity, kept as numbers.
+//! The ancestors of each entity, as numbers.
 //!
-//! Entities are numbered, each behind those above it where these do not lead back to it. So the numbers of those above
-//! one mostly stand in a row, and few spans hold them: one span each in a chain, in layers, and where each is a member
-//! of several before it.
+//! Entities are numbered, each after its ancestors unless these lead back to it. So the numbers of the ancestors of
+//! one entity are mostly consecutive, and few spans contain them: one span each in a chain, in layers, and if each is
+//! a member of several before it.
 ghost use Rattle.std.specs.Prelude.{◌≡◌, ◌++◌, ◌∷◌, ⊤, [], Contains, Some, None, true, IfOk, OnOk, MatchOption};
 ghost use Rattle.std.specs.Prelude.{option_map};
 ghost use Rattle.std.specs.List.{slice_get};
@@ -24,21 +24,21 @@ use std::alloc::Global;
 use std::collections::BTreeMap;
 use values::EntityUid;
 
-/// Entities that have numbers: the number of each is its place in the list.
+/// Numbered entities: the number of each is its index in the list.
 #[derive(Drop)]
 pub(crate) struct Numbered<'e> {
     numbers: BTreeMap<EntityUid, usize>,
     listed: Vec<&'e EntityUid>,
 }
 
-/// The numbers of entities, and at each number those of what is above.
+/// The numbers of entities, and for each number the numbers of its ancestors.
 #[derive(Drop)]
 pub(crate) struct IsAncestor {
     pub(crate) numbers: BTreeMap<EntityUid, usize>,
     pub(crate) spans: Items<Items<Span>>,
 }
 
-/// Returns the place of each in the list.
+/// Returns the index of each in the list.
 fn places_of(alloc: Global, uids: &[EntityUid]) -> Result<BTreeMap<EntityUid, usize>, NoMemory> {
     let mut places = BTreeMap::new(alloc);
     for place in 0..uids.len() {
@@ -48,7 +48,7 @@ fn places_of(alloc: Global, uids: &[EntityUid]) -> Result<BTreeMap<EntityUid, us
     Ok(places)
 }
 
-/// Returns the places of the parents of an entity.
+/// Returns the indices of the parents of an entity.
 fn parents_at(
     alloc: Global,
     edges: &Searched,
@@ -64,7 +64,7 @@ fn parents_at(
     Ok(found)
 }
 
-/// Returns the hierarchy of the list, by places.
+/// Returns the hierarchy of the list, by indices.
 fn edges_by_place(
     alloc: Global,
     edges: &Searched,
@@ -101,8 +101,8 @@ fn append_all<'e>(uids: &'e [EntityUid], found: &mut Vec<&'e EntityUid>) -> Resu
     Ok(())
 }
 
-/// All of the list, and some of them twice: first each behind its parents, as far as these do not lead back to it. In
-/// any order the same is found; in this one it takes least.
+/// Returns all of the list, and some of them twice: first each after its parents, unless these lead back to it. Any
+/// order gives the same result; this one takes the least time.
 fn in_order<'e>(
     alloc: Global,
     edges: &Searched,
@@ -117,7 +117,7 @@ fn in_order<'e>(
     Ok(found)
 }
 
-/// Gives an entity the next number, where it has none.
+/// Gives an entity the next number, if it has none.
 fn add_number<'e>(uid: &'e EntityUid, numbered: &mut Numbered<'e>) -> Result<(), NoMemory>
     ensures { OnOk result (AddsNumber uid.now numbered.old numbered.new) }
 {
@@ -130,7 +130,7 @@ fn add_number<'e>(uid: &'e EntityUid, numbered: &mut Numbered<'e>) -> Result<(),
     Ok(())
 }
 
-/// No entity has a number.
+/// Returns an empty numbering.
 fn none_numbered<'e>(alloc: Global) -> Numbered<'e>
     ensures numbered { IsNumbered result }
     ensures none { (u : EntityUid) → get uid_cmp result.numbers u ≡ None }
@@ -141,7 +141,7 @@ fn none_numbered<'e>(alloc: Global) -> Numbered<'e>
     }
 }
 
-/// Numbers the entities of a list, as they come.
+/// Numbers the entities of a list, in order.
 fn number_all<'e>(alloc: Global, uids: &[&'e EntityUid]) -> Result<Numbered<'e>, NoMemory>
     ensures numbered { IfOk result (λ n. IsNumbered n) }
     ensures all { IfOk result (λ n. NumbersAll (names uids.now) (get uid_cmp n.numbers)) }
@@ -153,7 +153,7 @@ fn number_all<'e>(alloc: Global, uids: &[&'e EntityUid]) -> Result<Numbered<'e>,
     Ok(numbered)
 }
 
-/// Returns what was reached at a number.
+/// Returns the spans that were found at a number.
 fn reached_at(reached: &[Items<Span>], number: usize) -> Option<&[Span]>
     ensures { option_map (λ s. s.now) result ≡ slice_get reached.now number }
 {
@@ -163,7 +163,7 @@ fn reached_at(reached: &[Items<Span>], number: usize) -> Option<&[Span]>
     }
 }
 
-/// Adds a number, and those of what is above it.
+/// Adds a number, and those of its ancestors.
 fn add_reached(
     reached: &[Items<Span>],
     number: usize,
@@ -179,7 +179,7 @@ fn add_reached(
     Ok(true)
 }
 
-/// Adds a parent, and those above it; false where it was not reached yet.
+/// Adds a parent and its ancestors; `false` if they are not found yet.
 fn add_parent(
     numbers: &BTreeMap<EntityUid, usize>,
     reached: &[Items<Span>],
@@ -195,7 +195,7 @@ fn add_parent(
     }
 }
 
-/// Some parents, and those above them; None where one was not reached yet.
+/// Returns parents and their ancestors; `None` if those of one are not found yet.
 fn add_parents(
     alloc: Global,
     numbers: &BTreeMap<EntityUid, usize>,
@@ -225,7 +225,7 @@ fn push_single(number: usize, spans: &mut Vec<Span>) -> Result<(), NoMemory>
     Ok(())
 }
 
-/// Adds the number of an entity, where it has one.
+/// Adds the number of an entity, if it has one.
 fn add_single(
     numbers: &BTreeMap<EntityUid, usize>,
     uid: &EntityUid,
@@ -254,7 +254,7 @@ fn numbers_of(
     Ok(spans)
 }
 
-/// Returns what is above an entity, by a search.
+/// Returns the ancestors of an entity, by a search.
 fn spans_found(
     alloc: Global,
     edges: &Searched,
@@ -270,7 +270,7 @@ fn spans_found(
     joined(alloc, spans)
 }
 
-/// Returns what is above an entity: by its parents, where these were reached, and else by a search.
+/// Returns the ancestors of an entity: by its parents, if theirs are found, and else by a search.
 fn spans_above(
     alloc: Global,
     edges: &Searched,
@@ -290,7 +290,7 @@ fn spans_above(
     }
 }
 
-/// Returns what is above each of the entities that have numbers, in the order of these.
+/// Returns the ancestors of each of the numbered entities, in their order.
 fn all_spans(
     alloc: Global,
     edges: &Searched,
@@ -309,7 +309,7 @@ fn all_spans(
     Ok(reached)
 }
 
-/// Returns what is above each of some entities.
+/// Returns the ancestors of each of these entities.
 pub(crate) fn above_each(
     alloc: Global,
     edges: &Searched,

@@ -1,10 +1,10 @@
-//! What a schema is made of.
+//! The parts of a schema.
 
 use plain::Shared;
 use schema_types::CedarType;
 use values::{EntityUid, TypeName};
 
-/// Who may do which action on what, by types.
+/// A place: an action with the types of principal and resource.
 #[derive(PartialEq, Eq, PartialOrd, Ord, Drop)]
 pub struct Place {
     pub action: EntityUid,
@@ -14,11 +14,11 @@ pub struct Place {
     pub resource: TypeName,
 }
 
-/// A place, and what the context of its action is.
+/// An environment: a place, and the type of its action's context.
 #[derive(Drop)]
 pub struct Environment {
     pub place: Place,
-    /// A record, which all places of an action share.
+    /// A record, shared by all environments of an action.
     pub context: Shared<CedarType>,
 }
 

@@ -39,7 +39,7 @@ struct Types {
     environments: Items<Environment>,
 }
 
-/// Actions, the parents of each and the actions above it, and the types above each entity type.
+/// Actions, their parents and their ancestors, and the ancestors of each entity type.
 #[derive(Drop)]
 struct Hierarchies {
     actions: Items<EntityUid>,
@@ -48,7 +48,7 @@ struct Hierarchies {
     types: TypeNumbers,
 }
 
-/// Returns the hierarchy of actions, in which none is above itself.
+/// Returns the hierarchy of actions, in which none is its own ancestor.
 fn demand_edges(alloc: Global, found: &Found) -> Result<Searched, SchemaFault>
     ensures { MatchResult result (λ s. AreEdges (found_view found.now) (searched.parents-value.it s))
         (λ f. f ≢ SchemaFault.NoMemory → EdgesRefused (found_view found.now) f) }
@@ -59,9 +59,8 @@ fn demand_edges(alloc: Global, found: &Found) -> Result<Searched, SchemaFault>
     Ok(edges)
 }
 
-/// Returns the shapes and the environments of a file whose common types were written out.
-///
-/// Refused where a type is too large.
+/// Returns the shapes and the environments of a file whose common types are expanded. The only errors are that a type
+/// is too large, and `NoMemory`.
 fn make_types(alloc: Global, found: &Found, table: &Table) -> Result<Types, SchemaFault>
     ghost commons: { Declarations }
     requires written { AreWritten commons (knowledge table.now) }
@@ -80,7 +79,7 @@ fn make_types(alloc: Global, found: &Found, table: &Table) -> Result<Types, Sche
     })
 }
 
-/// Returns the hierarchies of a file, whose actions have these edges.
+/// Returns the hierarchies of a file, given the edges of its actions.
 fn make_hierarchies(alloc: Global, found: &Found, edges: &Searched) -> Result<Hierarchies, NoMemory>
     requires { AreEdges (found_view found.now) (searched.parents-value.it edges.now) }
     ensures { IfOk result (λ h. AreHierarchiesOf (found_view found.now) h) }
@@ -100,9 +99,8 @@ fn make_hierarchies(alloc: Global, found: &Found, edges: &Searched) -> Result<Hi
     })
 }
 
-/// Returns the schema of bytes that state this file, once its actions and its common types were seen to be sound.
-///
-/// Refused where a shape or a context is too large.
+/// Returns the schema of bytes that state this file, once its actions and its common types are checked. The only
+/// errors are that a shape or a context is too large, and `NoMemory`.
 fn make_schema(
     alloc: Global,
     bytes: &[u8],
@@ -138,8 +136,14 @@ fn make_schema(
 
 /// Returns the schema of bytes that state this file.
 ///
-/// Refused where a common type leads back to itself, then where an action is above itself, and then where a type is too
-/// large.
+/// # Errors
+///
+/// In this order:
+///
+/// - `TypeCycle` (23): a common type refers to itself.
+/// - `ActionCycle` (24): an action is its own ancestor.
+/// - `TypeTooLarge` (25): a type is too large.
+/// - `NoMemory` (1): an allocation failed; possible at any point.
 fn sound_schema(alloc: Global, bytes: &[u8], found: &Found) -> Result<Schema, SchemaFault>
     requires states { StatesNamed bytes.now (found_view found.now) }
     requires own { NamesItsOwn (found_view found.now) }
@@ -153,10 +157,19 @@ fn sound_schema(alloc: Global, bytes: &[u8], found: &Found) -> Result<Schema, Sc
     make_schema(alloc, bytes, found, &edges, &table)
 }
 
-/// Returns the schema that bytes state.
+/// Parses a schema in JSON.
 ///
-/// Refused for the first of these: the bytes are no JSON; the JSON has not the shape of a schema; a name is declared
-/// nowhere; a common type leads back to itself; an action is above itself; a type, written out in full, is too large.
+/// # Errors
+///
+/// The first of these:
+///
+/// - `NotJson` (20): the bytes are not JSON.
+/// - `BadShape` (21): the JSON does not have the form of a schema.
+/// - `UnknownName` (22): a name is not declared.
+/// - `TypeCycle` (23): a common type refers to itself.
+/// - `ActionCycle` (24): an action is its own ancestor.
+/// - `TypeTooLarge` (25): a type, expanded, is too large.
+/// - `NoMemory` (1): an allocation failed; possible at any point.
 pub fn read_schema(alloc: Global, bytes: &[u8]) -> Result<Schema, SchemaFault>
     ensures { MatchResult result (λ s. IsSchemaOf bytes.now (schema_view s))
         (λ f. f ≢ SchemaFault.NoMemory → RefusedFor bytes.now f) }

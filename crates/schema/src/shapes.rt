@@ -1,4 +1,4 @@
-//! Shapes and contexts, written out.
+//! Shapes and contexts, expanded.
 ghost use Rattle.std.specs.Prelude.{◌≡◌, ◌≢◌, Some, MatchResult, map, option_map};
 ghost use Rattle.schema_types.specs.QualifiedViews.{qualified_view};
 ghost use Rattle.schema_types.specs.Cedar.{record_of, no_fields};
@@ -29,9 +29,8 @@ fn no_attributes(alloc: Global) -> Result<CedarType, SchemaFault>
     Ok(CedarType::Record(fields))
 }
 
-/// Returns a shape or a context, written out; where there is none, a record without attributes.
-///
-/// Refused where it is too large.
+/// Returns a shape or a context, expanded; if there is none, a record without attributes. The only errors are that it
+/// is too large, and `NoMemory`.
 pub(crate) fn make_record(
     alloc: Global,
     ty: &Option<QualifiedType>,
@@ -49,7 +48,7 @@ pub(crate) fn make_record(
     }
 }
 
-/// Gives an entity type its shape.
+/// Adds the shape of an entity type.
 fn add_shape(
     alloc: Global,
     entity_type: &FoundEntityType,
@@ -68,9 +67,7 @@ fn add_shape(
     Ok(())
 }
 
-/// Returns the shapes of entity types, by their names.
-///
-/// Refused where one is too large.
+/// Returns the shapes of entity types, by their names. The only errors are that one is too large, and `NoMemory`.
 pub(crate) fn make_shapes(
     alloc: Global,
     entity_types: &[FoundEntityType],

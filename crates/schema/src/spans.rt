@@ -1,11 +1,11 @@
-//! Spans of numbers, and the sets that lists of them stand for.
+//! Spans of numbers, and the sets that lists of them represent.
 ghost use Rattle.std.specs.Prelude.{◌≡◌, ◌||◌, ℕ, IfOk, OnOk, MatchOption, ⊤};
 ghost use Rattle.schema.specs.Spans.{in_span, has_number};
 
 use plain::{Items, NoMemory};
 use std::alloc::Global;
 
-/// The numbers from one to another, both of them; none where the last is less than the first.
+/// The numbers from the first to the last, inclusive; none if the last is less than the first.
 #[derive(Clone, Copy, PartialEq, Eq, PartialOrd, Ord)]
 pub struct Span {
     pub first: usize,
@@ -19,7 +19,7 @@ fn is_in(span: &Span, number: usize) -> bool
     span.first <= number && number <= span.last
 }
 
-/// Returns whether a number is in one of the spans. Takes no memory.
+/// Returns whether one of the spans contains a number. Does not allocate.
 pub fn has_number(spans: &[Span], number: usize) -> bool
     ensures { result ≡ has_number spans.now number }
 {
@@ -31,7 +31,7 @@ pub fn has_number(spans: &[Span], number: usize) -> bool
     false
 }
 
-/// Returns the span of the numbers of two, where the second begins in the first or right behind it.
+/// Returns the span of the numbers of both, if the second begins in the first or directly after it.
 fn over(span: Span, next: Span) -> Option<Span>
     ensures { MatchOption result ⊤ (λ whole. (n : ℕ) → in_span n whole ≡ (in_span n span || in_span n next)) }
 {
@@ -47,7 +47,7 @@ fn over(span: Span, next: Span) -> Option<Span>
     })
 }
 
-/// Puts a span behind others, the last of which goes on with it where they touch.
+/// Appends a span, merged with the last one if they touch.
 fn append(spans: &mut Vec<Span>, next: Span) -> Result<(), NoMemory>
     ensures { OnOk result ((n : ℕ) → has_number spans.new.items n
         ≡ (has_number spans.old.items n || in_span n next)) }
@@ -66,10 +66,8 @@ fn append(spans: &mut Vec<Span>, next: Span) -> Result<(), NoMemory>
     Ok(())
 }
 
-/// Returns spans of the same numbers, joined where they touch, so that few are left. Only the numbers are promised,
-/// neither how many spans there are nor their order.
-///
-/// Refused only for want of memory.
+/// Returns spans of the same numbers, merged if they touch, so that few remain. Only the numbers are specified,
+/// neither the number of spans nor their order. The only error is `NoMemory`.
 pub fn joined(alloc: Global, spans: Vec<Span>) -> Result<Items<Span>, NoMemory>
     ensures { IfOk result (λ found. (n : ℕ) → has_number found n ≡ has_number spans.items n) }
 {

@@ -1,4 +1,4 @@
-//! What is above each entity type, kept as numbers.
+//! The ancestors of each entity type, as numbers.
 ghost use Rattle.std.specs.Prelude.{◌≡◌, Some, IfOk, OnOk, map};
 ghost use Rattle.std.specs.BTreeMap.{get, Updates};
 ghost use Rattle.values.specs.Names.{uid_cmp, text_cmp};
@@ -17,14 +17,14 @@ use std::alloc::Global;
 use std::collections::BTreeMap;
 use values::{EntityUid, TypeName};
 
-/// The numbers of entity types by their names, and at each number those of what is above.
+/// The numbers of entity types by their names, and for each number those of its ancestors.
 #[derive(Drop)]
 pub(crate) struct TypeNumbers {
     pub(crate) numbers: BTreeMap<TypeName, usize>,
     pub(crate) spans: Items<Items<Span>>,
 }
 
-/// Gives the type of an entity this number.
+/// Sets the number of an entity's type.
 fn put_name(
     uid: &EntityUid,
     number: usize,
@@ -37,7 +37,7 @@ fn put_name(
     Ok(())
 }
 
-/// Gives the type of an entity the number of that entity.
+/// Sets the number of an entity's type to that of the entity.
 fn add_name(
     numbers: &BTreeMap<EntityUid, usize>,
     uid: &EntityUid,
@@ -66,7 +66,7 @@ fn numbers_by_name(
     Ok(named)
 }
 
-/// Entity types as points of a hierarchy.
+/// Returns entity types as nodes of a hierarchy.
 fn points_of(alloc: Global, entity_types: &[FoundEntityType]) -> Result<Vec<EntityUid>, NoMemory>
     ensures { IfOk result (λ uids. uids.items ≡ type_points (map found_entity_type_view entity_types.now)) }
 {
@@ -77,7 +77,7 @@ fn points_of(alloc: Global, entity_types: &[FoundEntityType]) -> Result<Vec<Enti
     Ok(uids)
 }
 
-/// Returns the numbers of entity types, and what is above each.
+/// Returns the numbers of entity types, and the ancestors of each.
 pub(crate) fn number_types(
     alloc: Global,
     edges: &Searched,

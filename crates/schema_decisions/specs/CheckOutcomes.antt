@@ -1,4 +1,4 @@
--- Defines that a check of policies under a schema has exactly one outcome.
+-- Defines the theorem that a check of policies under a schema has exactly one outcome.
 -- Rules of this product: the outcome follows from the texts alone; only `NoMemory` is possible at any call, whatever
 -- the texts.
 use Rattle.std.specs.Prelude.{◌≡◌, ℕ, Bool, List}

@@ -1,4 +1,4 @@
--- Defines that four texts have exactly one outcome: one line or one error, and never both.
+-- Defines the theorem that four texts have exactly one outcome: one line or one error, and never both.
 -- Rules of this product: the outcome follows from the texts alone; only `NoMemory` is possible at any call, whatever
 -- the texts.
 use Rattle.std.specs.Prelude.{◌≡◌, ◌⊎◌, ℕ, List, map}

@@ -1,4 +1,4 @@
--- Laws of what a file states, where the keys of each object ascend, as they do in JSON that was read.
+-- Defines the theorems about the content of a file, if the keys of each object ascend, as in parsed JSON.
 use Rattle.std.specs.Prelude.{◌≡◌, ℕ, List, Contains, Some, Ok}
 use Rattle.serde_json.specs.Data.{Data}
 use Rattle.schema_types.specs.Raw.{Raw}
@@ -6,18 +6,18 @@ use Rattle.schema_types.specs.Ascending.{DataAscends, RawAscends}
 use Rattle.schema_file.specs.Once.{AllStateOnce}
 use Rattle.schema_file.specs.Stated.{EntityTypeOf, UseOf, ActionOf, NamespaceOf, stated}
 
--- nothing is stated twice
+-- `FilesStateOnce`: nothing is stated twice.
 abbrev pub FilesStateOnce : Type 0
 FilesStateOnce = (d : Data) (ns : List NamespaceOf) → stated d ≡ Ok ns → DataAscends d → AllStateOnce ns
 
--- r is a type of the namespace: a common type, a shape or a context
+-- `IsTypeOf n r` holds if `r` is a type of the namespace `n`: a common type, a shape or a context.
 pub data IsTypeOf (n : NamespaceOf) : Raw → Type 0 where
   common : (c : List ℕ × Raw) → Contains n.commons c → IsTypeOf n c.1
   shape : (e : EntityTypeOf) (r : Raw) → Contains n.entity_types e → e.shape ≡ Some r → IsTypeOf n r
   context : (a : ActionOf) (u : UseOf) (r : Raw) → Contains n.actions a → a.applies_to ≡ Some u → u.context ≡ Some r
       → IsTypeOf n r
 
--- in each type the keys ascend
+-- `FilesTypesAscend`: in each type the keys ascend.
 abbrev pub FilesTypesAscend : Type 0
 FilesTypesAscend =
     (d : Data) (ns : List NamespaceOf) → stated d ≡ Ok ns → DataAscends d → (n : NamespaceOf) → Contains ns n

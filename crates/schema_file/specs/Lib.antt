@@ -2,5 +2,5 @@ pub mod Laws
 pub mod Once
 pub mod Stated
 pub mod StatedViews
--- crates below, passed on to those above
+-- Specifications of lower crates, re-exported.
 pub use Rattle.schema_types.specs as schema_types

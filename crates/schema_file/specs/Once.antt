@@ -1,22 +1,22 @@
--- No name stands twice among those that a file states, since no key of an object stands twice.
--- Source: RFC 8259, section 4: names within an object should be unique. Of a key that stands twice the last counts, and
--- is alone seen here: a rule of this product.
+-- Defines that the names that a file states are distinct, since the keys of an object are.
+-- Source: RFC 8259, section 4: names within an object should be unique.
+-- Rules of this product: only the last value of a duplicate key counts.
 use Rattle.std.specs.Prelude.{◌≢◌, ⊤, List, [], ◌∷◌, map}
 use Rattle.std.specs.List.{AllByRecursion}
 use Rattle.schema_file.specs.Stated.{NamespaceOf}
 
--- no two of these are the same
+-- `AreApart xs` holds if no two of `xs` are equal.
 abbrev pub AreApart : {A : Type 0} → List A → Type 0
 AreApart [] = ⊤
 AreApart (x ∷ xs) = AllByRecursion (λ y. x ≢ y) xs × AreApart xs
 
--- in its namespace no common type, no entity type and no action stands twice
+-- `StatesOnce n` holds if in the namespace `n` no common type, no entity type and no action is stated twice.
 pub record StatesOnce (n : NamespaceOf) : Type 0 where
   pub commons : AreApart (map (λ c. c.0) n.commons)
   pub entity_types : AreApart (map (λ e. e.name) n.entity_types)
   pub actions : AreApart (map (λ a. a.id) n.actions)
 
--- nor does a namespace
+-- `AllStateOnce ns` holds if this is so for each of `ns`, and no namespace is stated twice.
 pub record AllStateOnce (ns : List NamespaceOf) : Type 0 where
   pub namespaces : AreApart (map (λ n. n.name) ns)
   pub names : AllByRecursion StatesOnce ns

@@ -1,7 +1,7 @@
--- What a schema file states, before any name is looked for.
+-- Defines the content of a schema file, before names are resolved.
 -- Source: Cedar reference guide, "Schema JSON format": namespaces, `commonTypes`, `entityTypes`, `actions`.
--- Rules of this product: a namespace may lack each of the three; null at an optional key is as missing; `annotations`
--- has any value; an action's `attributes` are none; other keys are refused.
+-- Rules of this product: a namespace may lack each of the three; null at an optional key counts as missing;
+-- `annotations` has any value; an action's `attributes` are none; other keys are rejected.
 use Rattle.std.specs.Prelude.{ℕ, List, [], ◌∷◌, Bool, true, false, not, codes, Option, Some, None, Result, Ok}
 use Rattle.std.specs.Str.{bytes_eq}
 use Rattle.serde_json.specs.Data.{Data, Items, Members, no_members}
@@ -21,70 +21,79 @@ use Rattle.schema_file.specs.declared.stated.StatedParent.{StatedParent}
 use Rattle.schema_types.specs.declared.fault.SchemaFault.{SchemaFault}
 use Rattle.schema_types.specs.declared.fault.SchemaFault.TheVariants.{BadShape}
 
--- ---- what is stated
+-- ---- the content
 
+-- An `EntityTypeOf` is a stated entity type: its name, its parent types and its shape.
 pub record EntityTypeOf : Type 0 where
   pub name : List ℕ
   pub parents : List (List ℕ)
   pub shape : Option Raw
 
--- to what an action applies
+-- A `UseOf` is what an action applies to.
 pub record UseOf : Type 0 where
   pub principals : List (List ℕ)
   pub resources : List (List ℕ)
   pub context : Option Raw
 
+-- An `ActionOf` is a stated action: its id, its parents and what it applies to.
 pub record ActionOf : Type 0 where
   pub id : List ℕ
   pub parents : List StatedParent
   pub applies_to : Option UseOf
 
+-- A `NamespaceOf` is a stated namespace; the empty one has no name.
 pub record NamespaceOf : Type 0 where
   pub name : Option (List ℕ)
   pub commons : List (List ℕ × Raw)
   pub entity_types : List EntityTypeOf
   pub actions : List ActionOf
 
--- ---- words of reading
+-- ---- parsing
 
--- the members of an object that may be missing
+-- `members_in o` are the members of an optional object.
 abbrev pub members_in : Option Data → Result Members SchemaFault
 members_in None = Ok no_members
 members_in (Some d) = or_fault BadShape (as_object d)
 
--- an Ident: a Path of one word
+-- `ident w` checks for an Ident: a Path of one word.
 unfoldable pub ident : List ℕ → Result (List ℕ) SchemaFault
 ident w = do
   path ← type_name w
   one ← demand BadShape (not (is_qualified w))
   Ok path
 
+-- `name_of d` is the name that `d` states.
 unfoldable pub name_of : Data → Result (List ℕ) SchemaFault
 name_of d = do
   w ← or_fault BadShape (as_str d)
   type_name w
 
+-- `names_of ds` are the names that an array states.
 unfoldable pub names_of : Items → Result (List (List ℕ)) SchemaFault
 names_of ds = each (λ i d. name_of d) 0 (list_of ds)
 
+-- `names_in o` are those of an optional array.
 abbrev pub names_in : Option Data → Result (List (List ℕ)) SchemaFault
 names_in None = Ok []
 names_in (Some d) = do
   ds ← or_fault BadShape (as_array d)
   names_of ds
 
+-- `names_at k d` are those of the array at a required key.
 abbrev pub names_at : List ℕ → Data → Result (List (List ℕ)) SchemaFault
 names_at k d = do
   found ← or_fault BadShape (get k d)
   ds ← or_fault BadShape (as_array found)
   names_of ds
 
+-- `type_in o` is an optional type.
 abbrev pub type_in : Option Data → Result (Option Raw) SchemaFault
 type_in None = Ok None
 type_in (Some d) = do
   t ← type_of false d
   Ok (Some t)
 
+-- `name_in_place o` is an optional name.
 abbrev pub name_in_place : Option Data → Result (Option (List ℕ)) SchemaFault
 name_in_place None = Ok None
 name_in_place (Some d) = do
@@ -93,7 +102,7 @@ name_in_place (Some d) = do
 
 -- ---- common types
 
--- a common type may not have the name of a form
+-- `is_common form`: a common type may not have the name of a form.
 abbrev pub is_common : Form → Bool
 is_common Text = false
 is_common Long = false
@@ -105,6 +114,7 @@ is_common Extension = false
 is_common EntityOrCommon = false
 is_common Common = true
 
+-- `common_of k d` is the common type under the key `k`.
 unfoldable pub common_of : List ℕ → Data → Result (List ℕ × Raw) SchemaFault
 common_of k d = do
   name ← ident k
@@ -114,13 +124,14 @@ common_of k d = do
 
 -- ---- entity types
 
--- an entity type may not be called `Action`
+-- `entity_type_name k`: an entity type may not be called `Action`.
 abbrev pub entity_type_name : List ℕ → Result (List ℕ) SchemaFault
 entity_type_name k = do
   name ← ident k
   free ← demand BadShape (not (bytes_eq k (codes "Action")))
   Ok name
 
+-- `entity_type_of k d` is the entity type under the key `k`.
 unfoldable pub entity_type_of : List ℕ → Data → Result EntityTypeOf SchemaFault
 entity_type_of k d = do
   name ← entity_type_name k
@@ -131,7 +142,7 @@ entity_type_of k d = do
 
 -- ---- actions
 
--- an action above: its id, and the type where it is said
+-- `parent_of d` is a parent of an action: its id, and the type if it is stated.
 unfoldable pub parent_of : Data → Result StatedParent SchemaFault
 parent_of d = do
   keys ← demand BadShape (has_only (codes "id" ∷ codes "type" ∷ codes "annotations" ∷ []) d)
@@ -139,15 +150,18 @@ parent_of d = do
   type_name ← name_in_place (optional (codes "type") d)
   Ok (record { type_name = type_name; id = id })
 
+-- `parents_of ds` are the parents of an action in an array.
 unfoldable pub parents_of : Items → Result (List StatedParent) SchemaFault
 parents_of ds = each (λ i d. parent_of d) 0 (list_of ds)
 
+-- `parents_in o` are those of an optional array.
 abbrev pub parents_in : Option Data → Result (List StatedParent) SchemaFault
 parents_in None = Ok []
 parents_in (Some d) = do
   ds ← or_fault BadShape (as_array d)
   parents_of ds
 
+-- `use_of d` is what an action applies to.
 unfoldable pub use_of : Data → Result UseOf SchemaFault
 use_of d = do
   keys ← demand BadShape
@@ -157,17 +171,19 @@ use_of d = do
   context ← type_in (optional (codes "context") d)
   Ok (record { principals = principals; resources = resources; context = context })
 
+-- `use_in o` is that, if it is stated.
 abbrev pub use_in : Option Data → Result (Option UseOf) SchemaFault
 use_in None = Ok None
 use_in (Some d) = do
   applied ← use_of d
   Ok (Some applied)
 
--- an object with no members, or nothing
+-- `is_empty_in o` tests for an absent value, or an object without members.
 abbrev pub is_empty_in : Option Data → Bool
 is_empty_in None = true
 is_empty_in (Some d) = has_only [] d
 
+-- `action_of k d` is the action under the key `k`.
 unfoldable pub action_of : List ℕ → Data → Result ActionOf SchemaFault
 action_of k d = do
   keys ← demand BadShape
@@ -179,13 +195,14 @@ action_of k d = do
 
 -- ---- namespaces
 
--- the empty text is the empty namespace
+-- `namespace_name k`: the empty string is the empty namespace.
 unfoldable pub namespace_name : List ℕ → Result (Option (List ℕ)) SchemaFault
 namespace_name [] = Ok None
 namespace_name (c ∷ cs) = do
   name ← type_name (c ∷ cs)
   Ok (Some name)
 
+-- `commons_of`, `entity_types_of` and `actions_of` are the declarations under the keys of an object.
 unfoldable pub commons_of : Members → Result (List (List ℕ × Raw)) SchemaFault
 commons_of ms = each_member common_of ms
 
@@ -195,6 +212,7 @@ entity_types_of ms = each_member entity_type_of ms
 unfoldable pub actions_of : Members → Result (List ActionOf) SchemaFault
 actions_of ms = each_member action_of ms
 
+-- `commons_in`, `entity_types_in` and `actions_in` are those of an optional object.
 abbrev pub commons_in : Option Data → Result (List (List ℕ × Raw)) SchemaFault
 commons_in found = do
   ms ← members_in found
@@ -210,6 +228,7 @@ actions_in found = do
   ms ← members_in found
   actions_of ms
 
+-- `namespace_of k d` is the namespace under the key `k`.
 unfoldable pub namespace_of : List ℕ → Data → Result NamespaceOf SchemaFault
 namespace_of k d = do
   name ← namespace_name k
@@ -220,10 +239,11 @@ namespace_of k d = do
   actions ← actions_in (optional (codes "actions") d)
   Ok (record { name = name; commons = commons; entity_types = entity_types; actions = actions })
 
+-- `namespaces_of ms` are the namespaces of an object.
 unfoldable pub namespaces_of : Members → Result (List NamespaceOf) SchemaFault
 namespaces_of ms = each_member namespace_of ms
 
--- a schema file: an object of namespaces
+-- `stated d` are the namespaces of a schema file, an object of namespaces.
 unfoldable pub stated : Data → Result (List NamespaceOf) SchemaFault
 stated d = do
   ms ← or_fault BadShape (as_object d)

@@ -1,4 +1,4 @@
-//! What a schema file states, before any name is looked for: namespaces, common types, entity types and actions.
+//! The content of a schema file, before names are resolved: namespaces, common types, entity types and actions.
 #![tactic(auto)]
 
 mod laws;

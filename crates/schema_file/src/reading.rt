@@ -1,4 +1,4 @@
-//! Reading the shape of a schema file.
+//! Parsing of a schema file.
 ghost use Rattle.std.specs.Prelude.{map, option_map};
 ghost use Rattle.serde_json.specs.View.{view, members_view};
 ghost use Rattle.json_words.specs.ReadsAs.{ReadsAs};
@@ -162,7 +162,10 @@ fn read_namespaces(
 
 /// Returns the namespaces of a schema file.
 ///
-/// Refused where the value has not the shape of a schema.
+/// # Errors
+///
+/// - `BadShape` (21): the value does not have the form of a schema.
+/// - `NoMemory` (1): an allocation failed; possible at any point.
 #[tactic(auto, unfolding(crate::specs::Stated::stated))]
 pub fn read_stated(alloc: Global, value: &Value) -> Result<Items<StatedNamespace>, SchemaFault>
     ensures { ReadsAs SchemaFault.NoMemory (map namespace_view) result (stated (view value.now)) }

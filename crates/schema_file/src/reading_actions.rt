@@ -1,4 +1,4 @@
-//! Reading the actions of a schema file.
+//! Parsing of the actions of a schema file.
 ghost use Rattle.std.specs.Prelude.{◌≡◌, option_map};
 ghost use Rattle.serde_json.specs.View.{view, items_view};
 ghost use Rattle.json_words.specs.ReadsAs.{ReadsAs};
@@ -15,7 +15,7 @@ use schema_types::{SchemaFault, optional, required_text};
 use serde_json::Value;
 use std::alloc::Global;
 
-/// One of the actions above an action.
+/// Returns one of the parents of an action.
 #[tactic(auto, unfolding(crate::specs::Stated::parent_of))]
 fn read_parent(alloc: Global, value: &Value) -> Result<StatedParent, SchemaFault>
     ensures { ReadsAs SchemaFault.NoMemory (λ p. p) result (parent_of (view value.now)) }
@@ -40,7 +40,7 @@ fn read_parents(alloc: Global, values: &[Value]) -> Result<Items<StatedParent>, 
     Ok(parents)
 }
 
-/// Returns the actions above an action, in an array that may be missing.
+/// Returns the parents of an action, in an optional array.
 fn read_optional_parents(
     alloc: Global,
     found: Option<&Value>,
@@ -56,7 +56,7 @@ fn read_optional_parents(
     }
 }
 
-/// To what an action applies.
+/// Returns what an action applies to.
 #[tactic(auto, unfolding(crate::specs::Stated::use_of))]
 fn read_use(alloc: Global, value: &Value) -> Result<StatedUse, SchemaFault>
     ensures { ReadsAs SchemaFault.NoMemory use_view result (use_of (view value.now)) }
@@ -77,7 +77,7 @@ fn read_use(alloc: Global, value: &Value) -> Result<StatedUse, SchemaFault>
     })
 }
 
-/// To what an action applies, where that is said.
+/// Returns what an action applies to, if it is stated.
 fn read_optional_use(alloc: Global, found: Option<&Value>) -> Result<Option<StatedUse>, SchemaFault>
     ensures { ReadsAs SchemaFault.NoMemory (option_map use_view) result
         (use_in (option_map (λ v. view v.now) found.entry)) }
@@ -88,7 +88,7 @@ fn read_optional_use(alloc: Global, found: Option<&Value>) -> Result<Option<Stat
     }
 }
 
-/// Returns whether nothing stands there, or an object with no members.
+/// Returns whether the value is absent or an object without members.
 fn is_empty(found: Option<&Value>) -> bool
     ensures { result ≡ is_empty_in (option_map (λ v. view v.now) found.entry) }
 {

@@ -1,4 +1,4 @@
-//! Reading the names that a schema file has.
+//! Parsing of the names in a schema file.
 ghost use Rattle.std.specs.Prelude.{option_map};
 ghost use Rattle.serde_json.specs.View.{view, items_view};
 ghost use Rattle.json_words.specs.ReadsAs.{ReadsAs};
@@ -11,7 +11,7 @@ use serde_json::Value;
 use std::alloc::Global;
 use values::TypeName;
 
-/// Returns the identifier that a text is.
+/// Returns the identifier of a string.
 #[tactic(auto, unfolding(crate::specs::Stated::ident))]
 pub(crate) fn read_ident(alloc: Global, text: &str) -> Result<TypeName, SchemaFault>
     ensures { ReadsAs SchemaFault.NoMemory (λ t. t) result (ident text.now) }
@@ -23,7 +23,7 @@ pub(crate) fn read_ident(alloc: Global, text: &str) -> Result<TypeName, SchemaFa
     Ok(name)
 }
 
-/// Returns the name that a value is.
+/// Returns the name of a value.
 #[tactic(auto, unfolding(crate::specs::Stated::name_of))]
 fn read_name(alloc: Global, value: &Value) -> Result<TypeName, SchemaFault>
     ensures { ReadsAs SchemaFault.NoMemory (λ t. t) result (name_of (view value.now)) }
@@ -45,7 +45,7 @@ fn read_names(alloc: Global, values: &[Value]) -> Result<Items<TypeName>, Schema
     Ok(names)
 }
 
-/// Returns the names in an array that may be missing.
+/// Returns the names in an optional array.
 pub(crate) fn read_optional_names(
     alloc: Global,
     found: Option<&Value>,
@@ -78,7 +78,7 @@ pub(crate) fn read_names_at(
     }
 }
 
-/// Returns a name that may be missing.
+/// Returns an optional name.
 pub(crate) fn read_optional_name(
     alloc: Global,
     found: Option<&Value>,

@@ -1,4 +1,4 @@
-//! Reading the types of a schema file: common ones and those of entities.
+//! Parsing of the types of a schema file: common types and entity types.
 ghost use Rattle.std.specs.Prelude.{◌≡◌, option_map};
 ghost use Rattle.serde_json.specs.View.{view};
 ghost use Rattle.json_words.specs.ReadsAs.{ReadsAs};
@@ -16,7 +16,7 @@ use serde_json::Value;
 use std::alloc::Global;
 use values::TypeName;
 
-/// Returns a type that may be missing.
+/// Returns an optional type.
 pub(crate) fn read_optional_type(
     alloc: Global,
     found: Option<&Value>,

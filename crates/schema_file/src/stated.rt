@@ -1,4 +1,4 @@
-//! What a schema file states, before any name is looked for.
+//! The content of a schema file, before names are resolved.
 
 use plain::{Items, Text};
 use schema_types::RawType;
@@ -15,12 +15,12 @@ pub struct StatedCommon {
 #[derive(Drop)]
 pub struct StatedEntityType {
     pub name: TypeName,
-    /// The names of the types of which its entities may be members.
+    /// The names of the types that its entities may have as parents.
     pub parents: Items<TypeName>,
     pub shape: Option<RawType>,
 }
 
-/// To what an action applies.
+/// What an action applies to.
 #[derive(Drop)]
 pub struct StatedUse {
     pub principals: Items<TypeName>,
@@ -28,7 +28,7 @@ pub struct StatedUse {
     pub context: Option<RawType>,
 }
 
-/// An action above another: its id, and its type where that is said.
+/// A parent of an action: its id, and its type if it is stated.
 #[derive(Drop)]
 pub struct StatedParent {
     pub type_name: Option<TypeName>,

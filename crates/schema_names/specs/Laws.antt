@@ -1,4 +1,5 @@
--- That bytes state one file or are refused for one cause, and that a file names what it declares.
+-- Defines the theorems that bytes state one file or are rejected with one error, and that a file names what it
+-- declares.
 use Rattle.std.specs.Prelude.{◌≡◌, ◌⊎◌, ℕ, List, Contains, map, Some}
 use Rattle.schema_types.specs.Qualified.{Qualified}
 use Rattle.schema_types.specs.Cedar.{Cedar, CedarFields, record_of}
@@ -12,30 +13,33 @@ use Rattle.schema_file.specs.Once.{AreApart}
 use Rattle.schema_names.specs.Qualifying.{FoundEntityType, FoundUse, FoundAction, FoundSchema}
 use Rattle.schema_names.specs.Naming.{StatesNamed, NamingRefused}
 
--- no common type, no entity type and no action is declared twice
+-- `DeclaresOnce s` holds if no common type, no entity type and no action is declared twice.
 pub record DeclaresOnce (s : FoundSchema) : Type 0 where
   pub commons : AreOnce s.commons
   pub entity_types : AreApart (map (λ e. e.name) s.entity_types)
   pub actions : AreApart (map (λ a. a.uid) s.actions)
 
--- r is the shape of an entity type, or the context of an action
+-- `IsShapeOrContext s r` holds if `r` is the shape of an entity type, or the context of an action.
 abbrev pub IsShapeOrContext : FoundSchema → Qualified → Type 0
 IsShapeOrContext s r =
     ((e : FoundEntityType) × Contains s.entity_types e × (e.shape ≡ Some r))
     ⊎ ((a : FoundAction) × Contains s.actions a × ((u : FoundUse) × (a.applies_to ≡ Some u) × (u.context ≡ Some r)))
 
--- each common type that is named is declared
+-- `NamesItsOwn s` holds if each common type that is named is declared.
 pub record NamesItsOwn (s : FoundSchema) : Type 0 where
   pub commons : AreClosed s.commons
   pub records : (r : Qualified) → IsShapeOrContext s r → IsClosed s.commons r
 
+-- `FilesNameTheirOwn`: in each file that bytes state, each common type that is named is declared.
 abbrev pub FilesNameTheirOwn : Type 0
 FilesNameTheirOwn = (bytes : List ℕ) (s : FoundSchema) → StatesNamed bytes s → NamesItsOwn s
 
+-- `IsEntityType s q` holds if the entity type `q` is declared.
 abbrev pub IsEntityType : FoundSchema → List ℕ → Type 0
 IsEntityType s q = (e : FoundEntityType) × Contains s.entity_types e × (e.name ≡ q)
 
--- each entity type that is named is declared: in a type, above another, and in what an action applies to
+-- `NamesItsEntityTypes s` holds if each entity type that is named is declared: in a type, as a parent type, and in
+-- what an action applies to.
 pub record NamesItsEntityTypes (s : FoundSchema) : Type 0 where
   pub commons : (p : List ℕ) (r : Qualified) → Declares s.commons p r → (q : List ℕ) → MentionsEntity r q
       → IsEntityType s q
@@ -47,41 +51,48 @@ pub record NamesItsEntityTypes (s : FoundSchema) : Type 0 where
   pub resources : (a : FoundAction) (u : FoundUse) → Contains s.actions a → a.applies_to ≡ Some u → (q : List ℕ)
       → Contains u.resources q → IsEntityType s q
 
+-- `FilesNameTheirEntityTypes`: in each file that bytes state, each entity type that is named is declared.
 abbrev pub FilesNameTheirEntityTypes : Type 0
 FilesNameTheirEntityTypes = (bytes : List ℕ) (s : FoundSchema) → StatesNamed bytes s → NamesItsEntityTypes s
 
--- nothing is declared twice, since no key stands twice in an object that was read
+-- `FilesDeclareOnce`: nothing is declared twice, since the keys of a parsed object are distinct.
 abbrev pub FilesDeclareOnce : Type 0
 FilesDeclareOnce = (bytes : List ℕ) (s : FoundSchema) → StatesNamed bytes s → DeclaresOnce s
 
--- in each common type, shape and context the keys ascend
+-- `TypesAscend s` holds if in each common type, shape and context the keys ascend.
 pub record TypesAscend (s : FoundSchema) : Type 0 where
   pub commons : AllAscend s.commons
   pub records : (r : Qualified) → IsShapeOrContext s r → QualifiedAscends r
 
+-- `FilesTypesAscend`: in each file that bytes state, the keys of each type ascend.
 abbrev pub FilesTypesAscend : Type 0
 FilesTypesAscend = (bytes : List ℕ) (s : FoundSchema) → StatesNamed bytes s → TypesAscend s
 
--- a shape or a context that is written out is a record
+-- `ShapesAreRecords`: the expansion of a shape or a context is a record.
 abbrev pub ShapesAreRecords : Type 0
 ShapesAreRecords =
     (bytes : List ℕ) (s : FoundSchema) → StatesNamed bytes s → (r : Qualified) → IsShapeOrContext s r → (t : Cedar)
     → WrittenOut s.commons r t → (fs : CedarFields) × (t ≡ record_of fs)
 
--- ---- bytes state one file, or are refused for one cause, and never both
+-- ---- bytes state one file, or are rejected with one error, and never both
 
+-- `NamesOrRefusal bytes` holds if `bytes` state a file, or are rejected.
 pub data NamesOrRefusal (bytes : List ℕ) : Type 0 where
   states : (s : FoundSchema) → StatesNamed bytes s → NamesOrRefusal bytes
   refused : (f : SchemaFault) → NamingRefused bytes f → NamesOrRefusal bytes
 
+-- `SomeOutcome`: all bytes state a file, or are rejected.
 abbrev pub SomeOutcome : Type 0
 SomeOutcome = (bytes : List ℕ) → NamesOrRefusal bytes
 
+-- `OneFile`: bytes state at most one file.
 abbrev pub OneFile : Type 0
 OneFile = (bytes : List ℕ) (s t : FoundSchema) → StatesNamed bytes s → StatesNamed bytes t → s ≡ t
 
+-- `OneRefusal`: bytes are rejected with at most one error.
 abbrev pub OneRefusal : Type 0
 OneRefusal = (bytes : List ℕ) (f g : SchemaFault) → NamingRefused bytes f → NamingRefused bytes g → f ≡ g
 
+-- `NotBoth`: bytes that state a file are not rejected.
 abbrev pub NotBoth : Type 0
 NotBoth = (bytes : List ℕ) (s : FoundSchema) (f : SchemaFault) → StatesNamed bytes s → NamingRefused bytes f → ⊥

@@ -4,6 +4,6 @@ pub mod Naming
 pub mod Qualifying
 pub mod Records
 pub mod inner
--- crates below, passed on to those above
+-- Specifications of lower crates, re-exported.
 pub use Rattle.schema_file.specs as schema_file
 pub use Rattle.schema_file.specs.schema_types

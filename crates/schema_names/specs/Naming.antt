@@ -1,6 +1,6 @@
--- What bytes state, with each name found, and why they state nothing.
--- A rule of this product: the order of refusals. No JSON goes before a bad shape, over the whole file, and that before
--- a name that is declared nowhere.
+-- Defines the schema file that bytes state, with resolved names, and the error if they state none.
+-- Rules of this product: the order of errors. `NotJson` comes before `BadShape`, over the whole file, and that before
+-- a name that is not declared.
 use Rattle.std.specs.Prelude.{◌≡◌, ℕ, List, Some, None, Ok, Err}
 use Rattle.json_words.specs.Json.{json_of}
 use Rattle.serde_json.specs.Data.{Data}
@@ -10,15 +10,17 @@ use Rattle.schema_names.specs.Records.{SomeIsNoRecord}
 use Rattle.schema_types.specs.declared.fault.SchemaFault.{SchemaFault}
 use Rattle.schema_types.specs.declared.fault.SchemaFault.TheVariants.{NotJson, BadShape}
 
--- shapes and contexts are records, and s is these namespaces with each name found
+-- `IsNamed ns s` holds if shapes and contexts are records, and `s` are these namespaces with resolved names.
 pub record IsNamed (ns : List NamespaceOf) (s : FoundSchema) : Type 0 where
   pub records : SomeIsNoRecord ns → ⊥
   pub found : qualified ns ≡ Ok s
 
+-- `NamesRefused ns f` holds if `f` is the error of the names of these namespaces.
 pub data NamesRefused (ns : List NamespaceOf) : SchemaFault → Type 0 where
   no_record : SomeIsNoRecord ns → NamesRefused ns BadShape
   unknown : (f : SchemaFault) → (SomeIsNoRecord ns → ⊥) → qualified ns ≡ Err f → NamesRefused ns f
 
+-- `StatesNamed bytes s` holds if `bytes` state the file `s`, with resolved names.
 pub record StatesNamed (bytes : List ℕ) (s : FoundSchema) : Type 0 where
   pub value : Data
   pub namespaces : List NamespaceOf
@@ -26,6 +28,7 @@ pub record StatesNamed (bytes : List ℕ) (s : FoundSchema) : Type 0 where
   pub shape : stated value ≡ Ok namespaces
   pub named : IsNamed namespaces s
 
+-- `NamingRefused bytes f` holds if `bytes` state no such file, and `f` is the first error.
 pub data NamingRefused (bytes : List ℕ) : SchemaFault → Type 0 where
   not_json : json_of bytes ≡ None → NamingRefused bytes NotJson
   bad_shape : (d : Data) (f : SchemaFault) → json_of bytes ≡ Some d → stated d ≡ Err f → NamingRefused bytes f

@@ -1,8 +1,8 @@
--- A schema file with each name found.
+-- Defines a schema file with resolved names.
 -- Source: Cedar reference guide, "Schema JSON format": action types, `memberOf`, `memberOfTypes`, `appliesTo`.
--- Rules of this product: an action of the empty namespace has the type `Action`, one of another `NS::Action`; a member
--- of `memberOf` without a type is of the same namespace, and one with an unqualified type is looked for in the own
--- namespace and then in the empty one.
+-- Rules of this product: an action of the empty namespace has the type `Action`, one of another `NS::Action`; a
+-- member of `memberOf` without a type is of the same namespace, and one with an unqualified type is resolved in the
+-- own namespace and then in the empty one.
 use Rattle.std.specs.Prelude.{ℕ, List, [], ◌∷◌, ◌++◌, map, Bool, Option, Some, None, Result, Ok}
 use Rattle.std.specs.Ordering.{is_eq}
 use Rattle.std.specs.List.{list_any}
@@ -21,98 +21,119 @@ use Rattle.schema_file.specs.declared.stated.StatedParent.{StatedParent}
 use Rattle.schema_types.specs.declared.fault.SchemaFault.{SchemaFault}
 use Rattle.schema_types.specs.declared.fault.SchemaFault.TheVariants.{UnknownName}
 
--- ---- what is declared
+-- ---- declarations
 
+-- `all_of f xs` are the lists `f x` of each of `xs`, one after another.
 abbrev pub all_of : {A B : Type 0} → (A → List B) → List A → List B
 all_of f [] = []
 all_of f (x ∷ xs) = f x ++ all_of f xs
 
--- a common type as it was declared: its full name, its namespace, and its type
+-- A `CommonOf` is a declared common type: its full name, its namespace, and its type.
 pub record CommonOf : Type 0 where
   pub name : List ℕ
   pub own : Option (List ℕ)
   pub type : Raw
 
+-- `common_in own c` is the common type `c` of the namespace `own`.
 abbrev pub common_in : Option (List ℕ) → List ℕ × Raw → CommonOf
 common_in own c = record { name = full_name own c.0; own = own; type = c.1 }
 
+-- `commons_declared ns` are the declared common types.
 abbrev pub commons_declared : List NamespaceOf → List CommonOf
 commons_declared ns = all_of (λ n. map (λ c. common_in n.name c) n.commons) ns
 
+-- `entity_types_declared ns` are the full names of the declared entity types.
 abbrev pub entity_types_declared : List NamespaceOf → List (List ℕ)
 entity_types_declared ns = all_of (λ n. map (λ e. full_name n.name e.name) n.entity_types) ns
 
+-- `actions_declared ns` are the uids of the declared actions.
 abbrev pub actions_declared : List NamespaceOf → List EntityUid
 actions_declared ns = all_of (λ n. map (λ a. action_uid (action_type n.name) a.id) n.actions) ns
 
+-- `scope_in ns` are the full names that are declared.
 abbrev pub scope_in : List NamespaceOf → Scope
 scope_in ns = record {
   commons = λ q. list_any (λ c. bytes_eq c.name q) (commons_declared ns);
   entities = λ q. list_any (λ e. bytes_eq e q) (entity_types_declared ns);
 }
 
+-- `is_action_in ns u` tests whether the action `u` is declared.
 abbrev pub is_action_in : List NamespaceOf → EntityUid → Bool
 is_action_in ns u = list_any (λ a. is_eq (uid_cmp a u)) (actions_declared ns)
 
--- ---- with each name found
+-- ---- resolved names
 
+-- A `FoundEntityType` is an entity type by its full name.
 pub record FoundEntityType : Type 0 where
   pub name : List ℕ
   pub parents : List (List ℕ)
   pub shape : Option Qualified
 
+-- A `FoundUse` is what an action applies to.
 pub record FoundUse : Type 0 where
   pub principals : List (List ℕ)
   pub resources : List (List ℕ)
   pub context : Option Qualified
 
+-- A `FoundAction` is an action by its uid.
 pub record FoundAction : Type 0 where
   pub uid : EntityUid
   pub parents : List EntityUid
   pub applies_to : Option FoundUse
 
+-- A `FoundSchema` has the declarations of a namespace, or of a whole file.
 pub record FoundSchema : Type 0 where
   pub commons : Declarations
   pub entity_types : List FoundEntityType
   pub actions : List FoundAction
 
+-- `entity_type_named s own w` is the full name of the entity type that `w` means, or an error.
 abbrev pub entity_type_named : Scope → Option (List ℕ) → List ℕ → Result (List ℕ) SchemaFault
 entity_type_named s own w = or_fault UnknownName (found s.entities own w)
 
+-- `entity_types_named s own ws` are those of several names.
 unfoldable pub entity_types_named : Scope → Option (List ℕ) → List (List ℕ) → Result (List (List ℕ)) SchemaFault
 entity_types_named s own ws = each (λ i w. entity_type_named s own w) 0 ws
 
+-- `type_named s own o` is an optional type with resolved names.
 abbrev pub type_named : Scope → Option (List ℕ) → Option Raw → Result (Option Qualified) SchemaFault
 type_named s own None = Ok None
 type_named s own (Some r) = do
   t ← qualified_of s own r
   Ok (Some t)
 
+-- `action_meant_at is_action own o id` is the action of this type and id, if it is declared.
 abbrev pub action_meant_at : (EntityUid → Bool) → Option (List ℕ) → Option (List ℕ) → List ℕ → Option EntityUid
 action_meant_at is_action own None id = declared_action is_action (action_type own) id
 action_meant_at is_action own (Some w) id = action_of_type is_action own w id
 
+-- `action_meant is_action own p` is the action that a member of `memberOf` means, if it is declared.
 abbrev pub action_meant : (EntityUid → Bool) → Option (List ℕ) → StatedParent → Option EntityUid
 action_meant is_action own p = action_meant_at is_action own p.type_name p.id
 
+-- `parent_named is_action own p` is that action, or an error.
 unfoldable pub parent_named : (EntityUid → Bool) → Option (List ℕ) → StatedParent → Result EntityUid SchemaFault
 parent_named is_action own p = or_fault UnknownName (action_meant is_action own p)
 
+-- `parents_named is_action own ps` are those of several members.
 unfoldable pub parents_named : (EntityUid → Bool) → Option (List ℕ) → List StatedParent
     → Result (List EntityUid) SchemaFault
 parents_named is_action own ps = each (λ i p. parent_named is_action own p) 0 ps
 
+-- `qualified_common s own c` is the common type `c` with resolved names.
 unfoldable pub qualified_common : Scope → Option (List ℕ) → List ℕ × Raw → Result (List ℕ × Qualified) SchemaFault
 qualified_common s own c = do
   t ← qualified_of s own c.1
   Ok (full_name own c.0, t)
 
+-- `qualified_entity_type s own e` is the entity type `e` with resolved names.
 unfoldable pub qualified_entity_type : Scope → Option (List ℕ) → EntityTypeOf → Result FoundEntityType SchemaFault
 qualified_entity_type s own e = do
   parents ← entity_types_named s own e.parents
   shape ← type_named s own e.shape
   Ok (record { name = full_name own e.name; parents = parents; shape = shape })
 
+-- `qualified_use s own u` is what an action applies to, with resolved names.
 unfoldable pub qualified_use : Scope → Option (List ℕ) → UseOf → Result FoundUse SchemaFault
 qualified_use s own u = do
   principals ← entity_types_named s own u.principals
@@ -120,12 +141,14 @@ qualified_use s own u = do
   context ← type_named s own u.context
   Ok (record { principals = principals; resources = resources; context = context })
 
+-- `use_named s own o` is that, if it is stated.
 abbrev pub use_named : Scope → Option (List ℕ) → Option UseOf → Result (Option FoundUse) SchemaFault
 use_named s own None = Ok None
 use_named s own (Some u) = do
   applied ← qualified_use s own u
   Ok (Some applied)
 
+-- `qualified_action s is_action own a` is the action `a` with resolved names.
 unfoldable pub qualified_action : Scope → (EntityUid → Bool) → Option (List ℕ) → ActionOf
     → Result FoundAction SchemaFault
 qualified_action s is_action own a = do
@@ -133,6 +156,7 @@ qualified_action s is_action own a = do
   applies_to ← use_named s own a.applies_to
   Ok (record { uid = action_uid (action_type own) a.id; parents = parents; applies_to = applies_to })
 
+-- `qualified_commons`, `qualified_entity_types` and `qualified_actions` are lists of these.
 unfoldable pub qualified_commons : Scope → Option (List ℕ) → List (List ℕ × Raw)
     → Result (List (List ℕ × Qualified)) SchemaFault
 qualified_commons s own cs = each (λ i x. qualified_common s own x) 0 cs
@@ -145,7 +169,8 @@ unfoldable pub qualified_actions : Scope → (EntityUid → Bool) → Option (Li
     → Result (List FoundAction) SchemaFault
 qualified_actions s is_action own us = each (λ i x. qualified_action s is_action own x) 0 us
 
--- a namespace, or a whole file, with each name found: refused where one is declared nowhere
+-- `qualified_namespace s is_action n` is a namespace with resolved names, or the error of a name that is not
+-- declared.
 unfoldable pub qualified_namespace : Scope → (EntityUid → Bool) → NamespaceOf → Result FoundSchema SchemaFault
 qualified_namespace s is_action n = do
   commons ← qualified_commons s n.name n.commons
@@ -153,11 +178,12 @@ qualified_namespace s is_action n = do
   actions ← qualified_actions s is_action n.name n.actions
   Ok (record { commons = commons; entity_types = entity_types; actions = actions })
 
+-- `qualified_namespaces s is_action ns` are several namespaces with resolved names.
 unfoldable pub qualified_namespaces : Scope → (EntityUid → Bool) → List NamespaceOf
     → Result (List FoundSchema) SchemaFault
 qualified_namespaces s is_action ns = each (λ i n. qualified_namespace s is_action n) 0 ns
 
--- what two declare
+-- `both a b` are the declarations of both.
 abbrev pub both : FoundSchema → FoundSchema → FoundSchema
 both a b = record {
   commons = a.commons ++ b.commons;
@@ -165,7 +191,7 @@ both a b = record {
   actions = a.actions ++ b.actions;
 }
 
--- what several namespaces declare
+-- `together parts` are the declarations of several namespaces.
 abbrev pub together : List FoundSchema → FoundSchema
 together parts = record {
   commons = all_of (λ p. p.commons) parts;
@@ -173,6 +199,7 @@ together parts = record {
   actions = all_of (λ p. p.actions) parts;
 }
 
+-- `qualified ns` is a file of these namespaces with resolved names, or the error.
 unfoldable pub qualified : List NamespaceOf → Result FoundSchema SchemaFault
 qualified ns = do
   parts ← qualified_namespaces (scope_in ns) (is_action_in ns) ns

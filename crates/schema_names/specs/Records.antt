@@ -1,6 +1,6 @@
--- Shapes and contexts are records, written out or by name.
--- Source: Cedar reference guide, "Schema JSON format": `shape`, `context`. A rule of this product: names are followed
--- as far as they are declared.
+-- Defines that shapes and contexts are records, directly or by name.
+-- Source: Cedar reference guide, "Schema JSON format": `shape`, `context`.
+-- Rules of this product: names are followed as far as they are declared.
 use Rattle.std.specs.Prelude.{◌≡◌, ◌⊎◌, ℕ, List, Contains, Bool, true, false, Option, Some, None, is_some}
 use Rattle.schema_types.specs.Raw as raw
 use Rattle.schema_types.specs.Raw.{Raw}
@@ -8,7 +8,7 @@ use Rattle.schema_types.specs.Names.{Scope, found, or_entity, built_in}
 use Rattle.schema_file.specs.Stated.{EntityTypeOf, UseOf, ActionOf, NamespaceOf}
 use Rattle.schema_names.specs.Qualifying.{CommonOf, commons_declared, scope_in}
 
--- the common type that a type names, where it names one that is declared
+-- `common_meant s own r` is the declared common type that `r` names, if it names one.
 abbrev pub common_meant : Scope → Option (List ℕ) → Raw → Option (List ℕ)
 common_meant s own raw.text = None
 common_meant s own raw.long = None
@@ -21,7 +21,7 @@ common_meant s own (raw.entity w) = None
 common_meant s own (raw.common w) = found s.commons own w
 common_meant s own (raw.entity_or_common w) = found s.commons own w
 
--- what is no record, where it names no common type that is declared
+-- `is_no_record s own r` tests, for a type that names no declared common type, that it is not a record.
 abbrev pub is_no_record : Scope → Option (List ℕ) → Raw → Bool
 is_no_record s own raw.text = true
 is_no_record s own raw.long = true
@@ -34,7 +34,7 @@ is_no_record s own (raw.entity w) = true
 is_no_record s own (raw.common w) = false
 is_no_record s own (raw.entity_or_common w) = is_some (or_entity (found s.entities own w) (built_in w))
 
--- following the names leads to a form that is no record
+-- `MeansNoRecord ns own r` holds if following the names from `r` leads to a form that is not a record.
 pub data MeansNoRecord (ns : List NamespaceOf) : Option (List ℕ) → Raw → Type 0 where
   form : (own : Option (List ℕ)) (r : Raw) → common_meant (scope_in ns) own r ≡ None
       → is_no_record (scope_in ns) own r ≡ true → MeansNoRecord ns own r
@@ -42,15 +42,17 @@ pub data MeansNoRecord (ns : List NamespaceOf) : Option (List ℕ) → Raw → T
       → Contains (commons_declared ns) c → MeansNoRecord ns c.own c.type
       → MeansNoRecord ns own r
 
+-- `HasContext a r` holds if `r` is the context of the action `a`.
 abbrev pub HasContext : ActionOf → Raw → Type 0
 HasContext a r = (u : UseOf) × (a.applies_to ≡ Some u) × (u.context ≡ Some r)
 
--- r is the shape of an entity type, or the context of an action
+-- `StandsAsRecord n r` holds if `r` is the shape of an entity type, or the context of an action.
 abbrev pub StandsAsRecord : NamespaceOf → Raw → Type 0
 StandsAsRecord n r =
     ((e : EntityTypeOf) × Contains n.entity_types e × (e.shape ≡ Some r))
     ⊎ ((a : ActionOf) × Contains n.actions a × HasContext a r)
 
+-- `SomeIsNoRecord ns` holds if some shape or context is not a record.
 pub record SomeIsNoRecord (ns : List NamespaceOf) : Type 0 where
   pub namespace : NamespaceOf
   pub type : Raw

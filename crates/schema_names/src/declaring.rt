@@ -19,7 +19,7 @@ use std::alloc::Global;
 use std::collections::BTreeSet;
 use values::{EntityUid, TypeName};
 
-/// Returns the full name of a declaration, as a text of its own.
+/// Returns the full name of a declaration, as a new string.
 pub(crate) fn full_text(
     alloc: Global,
     own: &Option<TypeName>,
@@ -123,7 +123,7 @@ fn add_namespace(
     Ok(())
 }
 
-/// Returns the names that these namespaces declare. Fails for memory alone.
+/// Returns the names that these namespaces declare. The only error is `NoMemory`.
 pub(crate) fn declare(alloc: Global, stated: &[StatedNamespace]) -> Result<Names, NoMemory>
     ensures { IfOk result (λ n. Declares (map namespace_view stated.now) n) }
 {

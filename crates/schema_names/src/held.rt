@@ -1,10 +1,10 @@
-//! Values that wait while others are read. Generic, so that what is let go where reading failed is one step of a proof.
+//! Values held while others are parsed. Generic, so that the drop after an error is one step of a proof.
 ghost use Rattle.std.specs.Prelude.{◌≡◌, ◌≢◌, ◌++◌, ◌∷◌, [], IfOk, IfErr, Ok, Err};
 
 use plain::Items;
 use schema_types::SchemaFault;
 
-/// Returns the items, and behind them the one that was read.
+/// Returns the items with the parsed one appended, or the error.
 pub(crate) fn followed_by<T: Drop>(
     items: Items<T>,
     read: Result<T, SchemaFault>,

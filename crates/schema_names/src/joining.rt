@@ -1,4 +1,4 @@
-//! What several namespaces declare, in one.
+//! The declarations of several namespaces, joined.
 ghost use Rattle.std.specs.Prelude.{◌≡◌, ◌++◌, IfOk, map};
 ghost use Rattle.schema_names.specs.Qualifying.{both, together};
 ghost use Rattle.schema_names.specs.FoundViews.{found_view};
@@ -7,7 +7,7 @@ use crate::qualifying::Found;
 use plain::{Items, NoMemory, both};
 use std::alloc::Global;
 
-/// Returns the items of the one list and then those of the other.
+/// Returns the items of both lists.
 fn append<T: Drop>(items: Items<T>, more: Items<T>) -> Result<Items<T>, NoMemory>
     ensures { IfOk result (λ whole. whole ≡ items ++ more) }
 {
@@ -17,7 +17,7 @@ fn append<T: Drop>(items: Items<T>, more: Items<T>) -> Result<Items<T>, NoMemory
     Ok(Items::from_vec(whole))
 }
 
-/// Returns what the one declares and then what the other declares.
+/// Returns the declarations of both.
 fn join(first: Found, second: Found) -> Result<Found, NoMemory>
     ensures { IfOk result (λ found. found_view found ≡ both (found_view first) (found_view second)) }
 {
@@ -32,7 +32,7 @@ fn join(first: Found, second: Found) -> Result<Found, NoMemory>
     })
 }
 
-/// Returns what all of them declare.
+/// Returns the declarations of all.
 pub(crate) fn join_all(alloc: Global, parts: Items<Found>) -> Result<Found, NoMemory>
     ensures { IfOk result (λ found. found_view found ≡ together (map found_view parts)) }
 {

@@ -1,25 +1,27 @@
-//! Laws of a file with each name found.
+//! Theorems about a schema file with resolved names. The functions are no-ops.
 ghost use Rattle.schema_names.specs.Laws.{FilesNameTheirOwn, ShapesAreRecords, SomeOutcome, OneFile, OneRefusal};
 ghost use Rattle.schema_names.specs.Laws.{NotBoth, FilesDeclareOnce, FilesTypesAscend, FilesNameTheirEntityTypes};
 
 use schema_file::stated_files_are_in_order;
 use schema_types::{found_names_are_declared, keys_ascend};
 
-/// Each common type that a file names is declared there.
+/// Proves that each common type that a file names is declared there. No-op.
 pub fn files_name_their_own()
     ensures { FilesNameTheirOwn }
 {
     found_names_are_declared();
 }
 
-/// Each entity type that a file names is declared there: in a type, above another, and in what an action applies to.
+/// Proves that each entity type that a file names is declared there: in a type, as a parent type, and in what an
+/// action applies to. No-op.
 pub fn files_name_their_entity_types()
     ensures { FilesNameTheirEntityTypes }
 {
     found_names_are_declared();
 }
 
-/// No common type, no entity type and no action is declared twice, and in each type the keys ascend strictly.
+/// Proves that no common type, no entity type and no action is declared twice, and that in each type the keys ascend
+/// strictly. No-op.
 pub fn files_are_in_order()
     ensures once { FilesDeclareOnce }
     ensures types { FilesTypesAscend }
@@ -28,27 +30,27 @@ pub fn files_are_in_order()
     stated_files_are_in_order();
 }
 
-/// A shape or a context that is written out is a record.
+/// Proves that the expansion of a shape or a context is a record. No-op.
 pub fn shapes_are_records()
     ensures { ShapesAreRecords }
 {}
 
-/// Bytes state a file or are refused.
+/// Proves that bytes state a file or are rejected. No-op.
 pub fn some_outcome()
     ensures { SomeOutcome }
 {}
 
-/// Bytes state one file at most.
+/// Proves that bytes state at most one file. No-op.
 pub fn one_file()
     ensures { OneFile }
 {}
 
-/// Bytes are refused for one cause at most.
+/// Proves that bytes are rejected with at most one error. No-op.
 pub fn one_refusal()
     ensures { OneRefusal }
 {}
 
-/// Bytes that state a file are not refused.
+/// Proves that bytes that state a file are not rejected. No-op.
 pub fn not_both()
     ensures { NotBoth }
 {}

@@ -1,5 +1,4 @@
-//! A schema file with each name found: its namespaces as they are stated, what they declare, and which declaration
-//! each name means.
+//! A schema file with resolved names: its namespaces, their declarations, and which declaration each name means.
 #![tactic(auto)]
 
 mod declaring;

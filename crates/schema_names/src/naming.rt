@@ -1,4 +1,4 @@
-//! From bytes to a schema file with each name found.
+//! From bytes to a schema file with resolved names.
 ghost use Rattle.std.specs.Prelude.{◌≢◌, MatchResult, map};
 ghost use Rattle.serde_json.specs.View.{view};
 ghost use Rattle.json_words.specs.ReadsAs.{ReadsAs, or_fault};
@@ -29,9 +29,13 @@ fn read_value(alloc: Global, bytes: &[u8]) -> Result<Value, SchemaFault>
     }
 }
 
-/// Returns the namespaces with each name found.
+/// Returns the namespaces with resolved names.
 ///
-/// Refused where a shape or a context is no record, and then where a name is declared nowhere.
+/// # Errors
+///
+/// - In this order: `BadShape` (21), a shape or a context is not a record; `UnknownName` (22), a name is not
+///   declared.
+/// - `NoMemory` (1): an allocation failed; possible at any point.
 fn name_all(alloc: Global, stated: &[StatedNamespace]) -> Result<Items<Found>, SchemaFault>
     ensures { MatchResult result (λ ps. IsNamed (map namespace_view stated.now) (together (map found_view ps)))
         (λ f. f ≢ SchemaFault.NoMemory → NamesRefused (map namespace_view stated.now) f) }
@@ -41,7 +45,7 @@ fn name_all(alloc: Global, stated: &[StatedNamespace]) -> Result<Items<Found>, S
     qualify_namespaces(alloc, &names, stated)
 }
 
-/// Returns the namespaces that bytes state, with each name found.
+/// Returns the namespaces that bytes state, with resolved names.
 fn read_parts(alloc: Global, bytes: &[u8]) -> Result<Items<Found>, SchemaFault>
     ensures { MatchResult result (λ ps. StatesNamed bytes.now (together (map found_view ps)))
         (λ f. f ≢ SchemaFault.NoMemory → NamingRefused bytes.now f) }
@@ -51,10 +55,16 @@ fn read_parts(alloc: Global, bytes: &[u8]) -> Result<Items<Found>, SchemaFault>
     name_all(alloc, stated.as_slice())
 }
 
-/// Returns what the namespaces that bytes state declare, with each name found.
+/// Returns the declarations of the namespaces that bytes state, with resolved names.
 ///
-/// Refused where the bytes are no JSON, then where the JSON has not the shape of a schema, and then where a name is
-/// declared nowhere.
+/// # Errors
+///
+/// In this order:
+///
+/// - `NotJson` (20): the bytes are not JSON.
+/// - `BadShape` (21): the JSON does not have the form of a schema; then, a shape or a context is not a record.
+/// - `UnknownName` (22): a name is not declared.
+/// - `NoMemory` (1): an allocation failed; possible at any point.
 pub fn read_named(alloc: Global, bytes: &[u8]) -> Result<Found, SchemaFault>
     ensures { MatchResult result (λ found. StatesNamed bytes.now (found_view found))
         (λ f. f ≢ SchemaFault.NoMemory → NamingRefused bytes.now f) }

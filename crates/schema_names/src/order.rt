@@ -1,5 +1,4 @@
-//! The common types of a file, and an order of them that spares rounds: the one that a common type is a name of stands
-//! before it.
+//! The common types of a file, in an order that saves rounds: a common type comes after the one that it is a name of.
 ghost use Rattle.std.specs.Prelude.{◌≡◌, ◌++◌, ℕ, List, IfOk, OnOk, map};
 ghost use Rattle.std.specs.BTreeMap.{get_by_text};
 ghost use Rattle.schema_written_types.specs.Orders.{graph_of, IsEndsFirst};
@@ -27,7 +26,7 @@ pub(crate) struct ListedCommon<'a> {
     pub(crate) common: &'a StatedCommon,
 }
 
-/// Adds the common types that a namespace declares, in their order.
+/// Adds the common types that a namespace declares, in order.
 fn add_all<'a>(
     own: &'a Option<TypeName>,
     commons: &'a [StatedCommon],
@@ -42,7 +41,7 @@ fn add_all<'a>(
     Ok(())
 }
 
-/// Returns the common types that a file declares, in their order.
+/// Returns the common types that a file declares, in order.
 pub(crate) fn list_all<'a>(
     alloc: Global,
     stated: &'a [StatedNamespace],
@@ -57,7 +56,7 @@ pub(crate) fn list_all<'a>(
     Ok(listed)
 }
 
-/// Returns the place of each name that is declared; of one that is declared twice, the last.
+/// Returns the index of each declared name; for one that is declared twice, the last.
 fn places_of(
     alloc: Global,
     commons: &[ListedCommon<'_>],
@@ -80,7 +79,7 @@ fn place_at(name: &str, places: &BTreeMap<String, usize>) -> Option<usize>
     places.get(name).copied()
 }
 
-/// Returns the place of the common type that a type names, where it names one.
+/// Returns the index of the common type that a type names, if it names one.
 fn place_meant(
     alloc: Global,
     names: &Names,
@@ -97,7 +96,7 @@ fn place_meant(
     }
 }
 
-/// Returns a list of the place, where there is one.
+/// Returns a list of the index, if there is one.
 fn in_list(alloc: Global, place: Option<usize>) -> Result<Vec<usize>, NoMemory>
     ensures { IfOk result (λ places. places.items ≡ in_list place) }
 {
@@ -108,7 +107,7 @@ fn in_list(alloc: Global, place: Option<usize>) -> Result<Vec<usize>, NoMemory>
     Ok(places)
 }
 
-/// Returns the place of the common type that a common type is a name of, where it is one.
+/// Returns the index of the common type that a common type is a name of, if it is one.
 fn use_of(
     alloc: Global,
     names: &Names,
@@ -122,7 +121,7 @@ fn use_of(
     in_list(alloc, place)
 }
 
-/// Of each common type the place of the one that it is a name of.
+/// Returns for each common type the index of the one that it is a name of.
 fn uses_of(
     alloc: Global,
     names: &Names,
@@ -141,8 +140,8 @@ fn uses_of(
     Ok(edges)
 }
 
-/// Returns the places of common types, each once, and behind that of the one that it is a name of, but where that leads
-/// back: in this order one round finds each that means no record.
+/// Returns the indices of common types, without duplicates, each after that of the one that it is a name of, except
+/// if that leads back: in this order one round finds each that is not a record.
 pub(crate) fn order_of(
     alloc: Global,
     names: &Names,

@@ -1,4 +1,4 @@
-//! A schema file with each name found.
+//! The resolution of the names in a schema file.
 ghost use Rattle.std.specs.Prelude.{◌≡◌, IfOk, map, option_map};
 ghost use Rattle.json_words.specs.ReadsAs.{ReadsAs};
 ghost use Rattle.schema_types.specs.Views.{raw_view};
@@ -32,7 +32,7 @@ pub struct FoundEntityType {
     pub shape: Option<QualifiedType>,
 }
 
-/// To what an action applies.
+/// What an action applies to.
 #[derive(Drop)]
 pub struct FoundUse {
     pub principals: Items<TypeName>,
@@ -48,7 +48,7 @@ pub struct FoundAction {
     pub applies_to: Option<FoundUse>,
 }
 
-/// What a namespace declares, or a whole file.
+/// The declarations of a namespace, or of a whole file.
 #[derive(Drop)]
 pub struct Found {
     pub commons: Items<FoundCommon>,
@@ -56,7 +56,7 @@ pub struct Found {
     pub actions: Items<FoundAction>,
 }
 
-/// Returns the entity type that a word means.
+/// Returns the entity type that a name means.
 fn qualify_name(
     alloc: Global,
     names: &Names,
@@ -87,7 +87,7 @@ fn qualify_names(
     Ok(found)
 }
 
-/// Returns a type that may be missing.
+/// Returns an optional type with resolved names.
 fn qualify_optional(
     alloc: Global,
     names: &Names,
@@ -103,7 +103,7 @@ fn qualify_optional(
     }
 }
 
-/// Returns the common type of a namespace.
+/// Returns a common type of a namespace with resolved names.
 #[tactic(auto, unfolding(crate::specs::Qualifying::qualified_common))]
 fn qualify_common(
     alloc: Global,
@@ -119,7 +119,7 @@ fn qualify_common(
     Ok(FoundCommon { name, ty })
 }
 
-/// Returns the entity type of a namespace.
+/// Returns an entity type of a namespace with resolved names.
 #[tactic(auto, unfolding(crate::specs::Qualifying::qualified_entity_type))]
 fn qualify_entity_type(
     alloc: Global,
@@ -142,7 +142,7 @@ fn qualify_entity_type(
     })
 }
 
-/// To what an action applies.
+/// Returns what an action applies to, with resolved names.
 #[tactic(auto, unfolding(crate::specs::Qualifying::qualified_use))]
 fn qualify_use(
     alloc: Global,
@@ -165,7 +165,7 @@ fn qualify_use(
     })
 }
 
-/// To what an action applies, where that is said.
+/// Returns what an action applies to, if it is stated, with resolved names.
 fn qualify_optional_use(
     alloc: Global,
     names: &Names,
@@ -196,7 +196,7 @@ fn find_action(
     }
 }
 
-/// Returns the action above, which must be declared.
+/// Returns the parent action, which must be declared.
 #[tactic(auto, unfolding(crate::specs::Qualifying::parent_named))]
 fn qualify_parent(
     alloc: Global,
@@ -241,7 +241,7 @@ pub(crate) fn uid_of(
     Ok(EntityUid { type_name, id })
 }
 
-/// Returns the action of a namespace.
+/// Returns an action of a namespace with resolved names.
 #[tactic(auto, unfolding(crate::specs::Qualifying::qualified_action))]
 fn qualify_action(
     alloc: Global,
@@ -312,7 +312,7 @@ fn qualify_actions(
     Ok(found)
 }
 
-/// Returns a namespace with each name found.
+/// Returns a namespace with resolved names.
 #[tactic(auto, unfolding(crate::specs::Qualifying::qualified_namespace))]
 pub(crate) fn qualify_namespace(
     alloc: Global,
@@ -335,9 +335,12 @@ pub(crate) fn qualify_namespace(
     })
 }
 
-/// Returns the namespaces with each name found.
+/// Returns the namespaces with resolved names.
 ///
-/// Refused where a name is declared nowhere.
+/// # Errors
+///
+/// - `UnknownName` (22): a name is not declared.
+/// - `NoMemory` (1): an allocation failed; possible at any point.
 pub(crate) fn qualify_namespaces(
     alloc: Global,
     names: &Names,

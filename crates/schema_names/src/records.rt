@@ -1,4 +1,4 @@
-//! Shapes and contexts are records.
+//! The check that shapes and contexts are records.
 ghost use Rattle.std.specs.Prelude.{◌≡◌, ◌∷◌, [], ◌<◌, ◌^◌, OnOk, IfOk, MatchResult, map, option_map, true};
 ghost use Rattle.std.specs.Prelude.{false, slice_get};
 ghost use Rattle.std.specs.BTreeSet.{btree_set_len};
@@ -25,7 +25,7 @@ use std::alloc::Global;
 use std::collections::BTreeSet;
 use values::TypeName;
 
-/// Returns the common type that a type names, where it names one that is declared.
+/// Returns the declared common type that a type names, if it names one.
 pub(crate) fn find_common(
     alloc: Global,
     names: &Names,
@@ -48,7 +48,7 @@ pub(crate) fn find_common(
     }
 }
 
-/// Returns whether a type is no record, where it names no common type that is declared.
+/// Returns whether a type that names no declared common type is not a record.
 fn is_no_record(
     alloc: Global,
     names: &Names,
@@ -70,7 +70,7 @@ fn is_no_record(
     }
 }
 
-/// Returns whether a type means no record, as far as it is known which common types mean none.
+/// Returns whether a type is not a record, as far as it is known which common types are not.
 fn means_none(
     alloc: Global,
     names: &Names,
@@ -87,7 +87,7 @@ fn means_none(
     }
 }
 
-/// Adds a common type that means no record.
+/// Adds a common type that is not a record.
 fn add_if_none(
     alloc: Global,
     names: &Names,
@@ -148,7 +148,7 @@ fn spread(
     Ok(())
 }
 
-/// Tries each common type once, and tells whether one was added.
+/// Tries each common type once, and returns whether one was added.
 fn has_spread(
     alloc: Global,
     names: &Names,
@@ -167,7 +167,7 @@ fn has_spread(
     Ok(known.len() != before)
 }
 
-/// Tries the common type at a place, where there is one.
+/// Tries the common type at an index, if there is one.
 fn spread_at(
     alloc: Global,
     names: &Names,
@@ -204,7 +204,7 @@ fn spread_in_order(
     Ok(())
 }
 
-/// Returns the common types that mean no record, by their full names.
+/// Returns the full names of the common types that are not records.
 fn no_records(
     alloc: Global,
     names: &Names,
@@ -227,7 +227,7 @@ fn no_records(
     Ok(known)
 }
 
-/// Returns whether a type, where there is one, means a record.
+/// Returns whether a type, if there is one, is a record.
 fn is_record(
     alloc: Global,
     names: &Names,
@@ -244,7 +244,7 @@ fn is_record(
     }
 }
 
-/// Returns whether the context of an action, where it has one, is a record.
+/// Returns whether the context of an action, if it has one, is a record.
 fn is_context(
     alloc: Global,
     names: &Names,
@@ -334,7 +334,7 @@ fn are_records(
     Ok(true)
 }
 
-/// Refuses a shape or a context that is no record.
+/// Checks that each shape and each context is a record. The error is `BadShape` (21).
 pub(crate) fn demand_records(
     alloc: Global,
     names: &Names,

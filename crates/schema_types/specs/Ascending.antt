@@ -1,4 +1,4 @@
--- In each record the keys ascend strictly by their bytes, at every depth, as they do in the JSON that states it.
+-- Defines that in each record the keys ascend strictly by their bytes, at every depth, as in the JSON that states it.
 use Rattle.std.specs.Prelude.{⊤, ℕ, List, [], ◌∷◌}
 pub use Rattle.json_words.specs.Ascending.{Ascend, member_keys, DataAscends, ItemsAscend, MembersAscend}
 use Rattle.schema_types.specs.Raw as raw
@@ -10,6 +10,7 @@ use Rattle.schema_types.specs.Cedar.{entity, CedarFields, no_fields, field}
 
 -- ---- types as they are written
 
+-- `raw_keys rs` are the keys of fields; `RawAscends r` holds if those of each record in `r` ascend.
 abbrev pub raw_keys : RawFields → List (List ℕ)
 raw_keys raw.no_fields = []
 raw_keys (raw.field k r required rs) = k ∷ raw_keys rs
@@ -31,8 +32,9 @@ abbrev mutual
   RawFieldsAscend raw.no_fields = ⊤
   RawFieldsAscend (raw.field k r required rs) = RawAscends r × RawFieldsAscend rs
 
--- ---- types whose names were found
+-- ---- types with resolved names
 
+-- `qualified_keys rs` are the keys of fields; `QualifiedAscends r` holds if those of each record in `r` ascend.
 abbrev pub qualified_keys : QualifiedFields → List (List ℕ)
 qualified_keys qualified.no_fields = []
 qualified_keys (qualified.field k r required rs) = k ∷ qualified_keys rs
@@ -53,8 +55,9 @@ abbrev mutual
   QualifiedFieldsAscend qualified.no_fields = ⊤
   QualifiedFieldsAscend (qualified.field k r required rs) = QualifiedAscends r × QualifiedFieldsAscend rs
 
--- ---- types written out
+-- ---- expanded types
 
+-- `keys_of fs` are the keys of fields; `KeysAscend t` holds if those of each record in `t` ascend.
 abbrev pub keys_of : CedarFields → List (List ℕ)
 keys_of no_fields = []
 keys_of (field k t required fs) = k ∷ keys_of fs

@@ -1,9 +1,11 @@
--- The refusals by number. The numbers are a rule of this product.
+-- Defines the codes of errors.
+-- Rules of this product: the codes.
 use Rattle.std.specs.Prelude.{ℕ}
 use Rattle.schema_types.specs.declared.fault.SchemaFault.{SchemaFault}
 use Rattle.schema_types.specs.declared.fault.SchemaFault.TheVariants.{NoMemory, NotJson, BadShape, UnknownName}
 use Rattle.schema_types.specs.declared.fault.SchemaFault.TheVariants.{TypeCycle, ActionCycle, TypeTooLarge}
 
+-- `code_of f` is the code of the error `f`.
 abbrev pub code_of : SchemaFault → ℕ
 code_of NoMemory = 1
 code_of NotJson = 20

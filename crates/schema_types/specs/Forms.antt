@@ -1,12 +1,13 @@
--- The forms that a type's JSON has, by the word at its key `type`, and the keys of each.
--- Source: Cedar reference guide 4.0, "Schema JSON format". A rule of this product: other keys are refused.
+-- Defines the forms of a type's JSON, by the word at its key `type`, and the keys of each.
+-- Source: Cedar reference guide 4.0, "Schema JSON format".
+-- Rules of this product: other keys are rejected.
 use Rattle.std.specs.Prelude.{ℕ, List, [], ◌∷◌, Bool, codes, if◌then◌else◌}
 use Rattle.std.specs.Str.{bytes_eq}
 use Rattle.schema_types.specs.declared.forms.Form.{Form}
 use Rattle.schema_types.specs.declared.forms.Form.TheVariants.{Text, Long, Boolean, Set, Record, Entity, Extension}
 use Rattle.schema_types.specs.declared.forms.Form.TheVariants.{EntityOrCommon, Common}
 
--- any other word names a common type
+-- `form_named w` is the form of the word `w`; any other word names a common type.
 unfoldable pub form_named : List ℕ → Form
 form_named w =
     if bytes_eq w (codes "String") then Text else
@@ -19,7 +20,7 @@ form_named w =
     if bytes_eq w (codes "Extension") then Extension else
     if bytes_eq w (codes "EntityOrCommon") then EntityOrCommon else Common
 
--- the keys of a form beside `type` and `annotations`
+-- `own_keys form` are the keys of a form, other than `type` and `annotations`.
 abbrev pub own_keys : Form → List (List ℕ)
 own_keys Text = []
 own_keys Long = []
@@ -31,7 +32,7 @@ own_keys Extension = codes "name" ∷ []
 own_keys EntityOrCommon = codes "name" ∷ []
 own_keys Common = []
 
--- where a type stands: as an attribute's it may say whether it is required
+-- `keys_of is_attribute form` are all its keys: an attribute may have `required`.
 abbrev pub keys_of : Bool → Form → List (List ℕ)
 keys_of is_attribute form =
     codes "type" ∷ codes "annotations" ∷ (if is_attribute then codes "required" ∷ own_keys form else own_keys form)

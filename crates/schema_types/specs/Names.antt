@@ -1,7 +1,7 @@
--- The one declaration that a name means, and the types of a schema with each name found.
--- Source: Cedar reference guide, "Schema JSON format": namespaces, `EntityOrCommon`. Rules of this product: an
--- unqualified name is looked for in its own namespace and then in the empty one; a common type goes before an entity
--- type, and that before a primitive.
+-- Defines the one declaration that a name means, and the types of a schema with resolved names.
+-- Source: Cedar reference guide, "Schema JSON format": namespaces, `EntityOrCommon`.
+-- Rules of this product: an unqualified name is resolved in its own namespace and then in the empty one; a common
+-- type goes before an entity type, and that before a primitive.
 use Prim.Native.Char.{code}
 use Rattle.std.specs.Prelude.{ℕ, List, ◌++◌, ◌==◌, Bool, codes, Option, Some, None, Result, Ok, if◌then◌else◌}
 use Rattle.std.specs.List.{list_any}
@@ -14,30 +14,31 @@ use Rattle.schema_types.specs.Qualified.{Qualified, QualifiedFields}
 use Rattle.schema_types.specs.declared.fault.SchemaFault.{SchemaFault}
 use Rattle.schema_types.specs.declared.fault.SchemaFault.TheVariants.{UnknownName}
 
--- the full names that are declared
+-- A `Scope` has the full names that are declared.
 pub record Scope : Type 0 where
   pub commons : List ℕ → Bool
   pub entities : List ℕ → Bool
 
--- a name with a namespace in it
+-- `is_qualified w` tests for a name with a namespace in it.
 abbrev pub is_qualified : List ℕ → Bool
 is_qualified w = list_any (λ b. b == code ":") w
 
--- a namespace is a Path, or none: the empty one
+-- `full_name own w` is the name `w` in its namespace, a Path or `None`, the empty one.
 abbrev pub full_name : Option (List ℕ) → List ℕ → List ℕ
 full_name None w = w
 full_name (Some namespace) w = namespace ++ codes "::" ++ w
 
+-- `as_declared declared w` is the name `w`, if it is declared.
 unfoldable pub as_declared : (List ℕ → Bool) → List ℕ → Option (List ℕ)
 as_declared declared w = if declared w then Some w else None
 
--- An unqualified name is looked for in its own namespace, then in the empty one.
+-- `found declared own w` resolves a name: an unqualified one in its own namespace, then in the empty one.
 unfoldable pub found : (List ℕ → Bool) → Option (List ℕ) → List ℕ → Option (List ℕ)
 found declared own w =
     if is_qualified w then as_declared declared w else
     if declared (full_name own w) then Some (full_name own w) else as_declared declared w
 
--- a primitive or an extension by its name
+-- `built_in w` is a primitive or an extension type by its name.
 unfoldable pub built_in : List ℕ → Option Qualified
 built_in w =
     if bytes_eq w (codes "String") then Some qualified.text else
@@ -47,28 +48,33 @@ built_in w =
     if bytes_eq w (codes "ipaddr") then Some qualified.ipaddr else
     if bytes_eq w (codes "decimal") then Some qualified.decimal else None
 
+-- `or_entity o later` is the entity type `o`, or `later` if there is none.
 abbrev pub or_entity : Option (List ℕ) → Option Qualified → Option Qualified
 or_entity (Some q) later = Some (qualified.entity q)
 or_entity None later = later
 
+-- `or_common o later` is the common type `o`, or `later` if there is none.
 abbrev pub or_common : Option (List ℕ) → Option Qualified → Option Qualified
 or_common (Some q) later = Some (qualified.common q)
 or_common None later = later
 
--- a common type, else an entity type, else a primitive or an extension
+-- `any_named s own w` is a common type, else an entity type, else a primitive or an extension type.
 unfoldable pub any_named : Scope → Option (List ℕ) → List ℕ → Option Qualified
 any_named s own w = or_common (found s.commons own w) (or_entity (found s.entities own w) (built_in w))
 
+-- `entity_named s own w` is the entity type that `w` means, or an error.
 unfoldable pub entity_named : Scope → Option (List ℕ) → List ℕ → Result Qualified SchemaFault
 entity_named s own w = do
   q ← or_fault UnknownName (found s.entities own w)
   Ok (qualified.entity q)
 
+-- `common_named s own w` is the common type that `w` means, or an error.
 unfoldable pub common_named : Scope → Option (List ℕ) → List ℕ → Result Qualified SchemaFault
 common_named s own w = do
   q ← or_fault UnknownName (found s.commons own w)
   Ok (qualified.common q)
 
+-- `qualified_of s own r` is the type `r` with resolved names, or the error.
 unfoldable mutual
   pub qualified_of : Scope → Option (List ℕ) → Raw → Result Qualified SchemaFault
   qualified_of s own raw.text = Ok qualified.text

@@ -1,8 +1,8 @@
--- Types whose names were found, and types with no common type left in them.
+-- Defines types with resolved names.
 -- Source: Cedar reference guide 4.0, "Schema JSON format".
 use Rattle.std.specs.Prelude.{ℕ, List, Bool}
 
--- A name that was found is written in full.
+-- A `Qualified` is a type whose names are full names.
 mutual
   pub data Qualified : Type 0 where
     text : Qualified

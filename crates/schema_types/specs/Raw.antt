@@ -1,7 +1,8 @@
--- Types as a schema writes them, before any name is looked for.
+-- Defines types as a schema writes them, before names are resolved.
 -- Source: Cedar reference guide 4.0, "Schema JSON format".
 use Rattle.std.specs.Prelude.{ℕ, List, Bool}
 
+-- A `Raw` is a type as written.
 mutual
   pub data Raw : Type 0 where
     text : Raw

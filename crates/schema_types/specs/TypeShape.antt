@@ -1,7 +1,8 @@
--- The type that JSON states, all forms of it, before any name is looked for.
+-- Defines the type that JSON states, in all its forms, before names are resolved.
 -- Source: Cedar reference guide, "Schema JSON format": types `String`, `Long`, `Boolean`, `Set`, `Record`, `Entity`,
--- `Extension`, `EntityOrCommon`, names of common types. Rules of this product: other keys are refused, `annotations`
--- has any value, null at an optional key is as missing.
+-- `Extension`, `EntityOrCommon`, names of common types.
+-- Rules of this product: other keys are rejected, `annotations` has any value, null at an optional key counts as
+-- missing.
 use Rattle.std.specs.Prelude.{ℕ, List, Bool, true, false, codes, Option, Some, None, Result, Ok, Err}
 use Rattle.std.specs.Prelude.{if◌then◌else◌}
 use Rattle.std.specs.Str.{bytes_eq}
@@ -19,18 +20,19 @@ use Rattle.schema_types.specs.declared.forms.Form.TheVariants.{EntityOrCommon, C
 use Rattle.schema_types.specs.declared.fault.SchemaFault.{SchemaFault}
 use Rattle.schema_types.specs.declared.fault.SchemaFault.TheVariants.{BadShape}
 
--- a name is a Path without blanks or comments
+-- `type_name w` checks that a name is a Path without whitespace or comments.
 unfoldable pub type_name : List ℕ → Result (List ℕ) SchemaFault
 type_name w = do
   path ← demand BadShape (is_path w)
   Ok w
 
+-- `name_in d` is the name at the key `name`.
 abbrev pub name_in : Data → Result (List ℕ) SchemaFault
 name_in d = do
   w ← required_text (codes "name") d
   type_name w
 
--- a primitive or an extension, with `__cedar::` in front
+-- `reserved_type w` is a primitive or an extension type, after `__cedar::`.
 unfoldable pub reserved_type : List ℕ → Option Raw
 reserved_type w =
     if bytes_eq w (codes "__cedar::String") then Some raw.text else
@@ -40,27 +42,30 @@ reserved_type w =
     if bytes_eq w (codes "__cedar::ipaddr") then Some raw.ipaddr else
     if bytes_eq w (codes "__cedar::decimal") then Some raw.decimal else None
 
+-- `or_path o w` is the type `o`, or that of the name `w` if there is none.
 abbrev pub or_path : Option Raw → List ℕ → Result Raw SchemaFault
 or_path (Some t) w = Ok t
 or_path None w = do
   n ← type_name w
   Ok (raw.entity_or_common n)
 
--- what the name of an `EntityOrCommon` says before it is looked for
+-- `entity_or_common w` is the type of the name of an `EntityOrCommon`, before it is resolved.
 abbrev pub entity_or_common : List ℕ → Result Raw SchemaFault
 entity_or_common w = or_path (reserved_type w) w
 
+-- `extension_named w` is the extension type `w`.
 unfoldable pub extension_named : List ℕ → Option Raw
 extension_named w =
     if bytes_eq w (codes "ipaddr") then Some raw.ipaddr else
     if bytes_eq w (codes "decimal") then Some raw.decimal else None
 
--- what is read at a key that must be there
+-- `there o` is the result at a required key.
 abbrev pub there : {A : Type 0} → Option (Result A SchemaFault) → Result A SchemaFault
 there None = Err BadShape
 there (Some read) = read
 
--- One case a form. The parts of d that are types are read already: `element`, and the `fields` of `attributes`.
+-- `by_form form w d element fields` is the type of one form. The parts of `d` that are types are given: `element`,
+-- and the `fields` of `attributes`.
 abbrev pub by_form : Form → List ℕ → Data → Option (Result Raw SchemaFault) → Option (Result RawFields SchemaFault)
     → Result Raw SchemaFault
 by_form Text w d element fields = Ok raw.text
@@ -86,6 +91,7 @@ by_form Common w d element fields = do
   n ← type_name w
   Ok (raw.common n)
 
+-- `formed is_attribute d element fields` is the type that `d` states, whose keys must be those of its form.
 unfoldable pub formed : Bool → Data → Option (Result Raw SchemaFault) → Option (Result RawFields SchemaFault)
     → Result Raw SchemaFault
 formed is_attribute d element fields = do
@@ -93,7 +99,7 @@ formed is_attribute d element fields = do
   keys ← demand BadShape (has_only (keys_of is_attribute (form_named w)) d)
   by_form (form_named w) w d element fields
 
--- an attribute is required unless it says that it isn't
+-- `required_in d`: an attribute is required unless it says that it is not.
 abbrev pub required_in : Data → Result Bool SchemaFault
 required_in d = truth_or true (optional (codes "required") d)
 

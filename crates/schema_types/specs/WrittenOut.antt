@@ -1,4 +1,4 @@
--- What a type is once each common type in it is replaced by what it stands for.
+-- Defines the expansion of a type: each common type in it is replaced by its definition.
 -- Source: Cedar reference guide 4.0, "Schema JSON format".
 use Rattle.std.specs.Prelude.{◌≡◌, ◌⊎◌, ℕ, List, [], ◌∷◌, Bool}
 use Rattle.schema_types.specs.Qualified as qualified
@@ -6,15 +6,17 @@ use Rattle.schema_types.specs.Qualified.{Qualified, QualifiedFields}
 use Rattle.schema_types.specs.Cedar as cedar
 use Rattle.schema_types.specs.Cedar.{Cedar, CedarFields}
 
--- the names of common types, each with what it stands for
+-- `Declarations` are the names of common types, each with its definition.
 abbrev pub Declarations : Type 0
 Declarations = List (List ℕ × Qualified)
 
+-- `Declares ds q r` holds if `ds` has the definition `r` for the name `q`.
 abbrev pub Declares : Declarations → List ℕ → Qualified → Type 0
 Declares [] q r = ⊥
 Declares (d ∷ ds) q r = ((d.0 ≡ q) × (d.1 ≡ r)) ⊎ Declares ds q r
 
--- One case a form. A type that leads back to itself has no such form, since none would be finite.
+-- `WrittenOut commons r t` holds if `t` is the expansion of `r`, by one case for each form. A type that refers to
+-- itself has none, since it would not be finite.
 mutual
   pub data WrittenOut (commons : Declarations) : Qualified → Cedar → Type 0 where
     text : WrittenOut commons qualified.text cedar.text
@@ -35,6 +37,6 @@ mutual
         → WrittenOut commons r t → FieldsWrittenOut commons rs ts
         → FieldsWrittenOut commons (qualified.field k r required rs) (cedar.field k t required ts)
 
--- nothing finite is what q stands for
+-- `StandsForNone commons q` holds if the common type `q` has no expansion.
 abbrev pub StandsForNone : Declarations → List ℕ → Type 0
 StandsForNone commons q = (t : Cedar) → WrittenOut commons (qualified.common q) t → ⊥

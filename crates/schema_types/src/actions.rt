@@ -1,4 +1,4 @@
-//! Finding the action that a type and an id mean.
+//! The action that a type and an id mean.
 ghost use Rattle.std.specs.Prelude.{◌≡◌, IfOk};
 ghost use Rattle.schema_types.specs.Actions.{action_type, action_uid, declared_action, action_of_type};
 ghost use Rattle.schema_types.specs.NamesViews.{is_action_of};
@@ -23,7 +23,7 @@ fn action_uid(alloc: Global, type_name: TypeName, id: &Text) -> Result<EntityUid
     Ok(EntityUid { type_name, id })
 }
 
-/// Returns the action of this type and id, where it is declared.
+/// Returns the action of this type and id, if it is declared.
 pub fn declared_action(
     alloc: Global,
     names: &Names,
@@ -39,7 +39,7 @@ pub fn declared_action(
     Ok(None)
 }
 
-/// Returns the action that a type as written and an id mean: in the own namespace, then in the empty one.
+/// Returns the action that a written type and an id mean: in the own namespace, then in the empty one.
 #[tactic(auto, unfolding(crate::specs::Actions::action_of_type))]
 pub fn find_action_of_type(
     alloc: Global,

@@ -1,4 +1,4 @@
-//! Types written out.
+//! Expanded types.
 ghost use Rattle.std.specs.Prelude.{◌≡◌, IfOk, IfErr};
 ghost use Rattle.schema_types.specs.Cedar.{HoldsOthers};
 ghost use Rattle.schema_types.specs.CedarViews.{cedar_view};
@@ -6,10 +6,9 @@ ghost use Rattle.schema_types.specs.CedarViews.{cedar_view};
 use plain::{Items, NoMemory, Shared, Text};
 use values::TypeName;
 
-/// A type of the policy language, with no name of a common type left in it.
+/// A type of the policy language, with every common type expanded.
 ///
-/// What is inside a type is kept once and held by each of its copies, so that however often a common type is used, it
-/// takes memory once.
+/// The content of a type is shared by its copies, so that a common type is stored once, however often it is used.
 ///
 /// Source: Cedar reference guide, "Schema JSON format".
 #[derive(Drop)]
@@ -28,10 +27,10 @@ pub enum CedarType {
 }
 
 impl CedarType {
-    /// Returns the same type, or `NoMemory`; memory is taken for the name of an entity type alone.
+    /// Returns a copy of the type, or `NoMemory`. Only the name of an entity type allocates.
     ///
-    /// A set or a record is `NoMemory` only where what is inside it has as many holders as can be counted; a primitive
-    /// type and one of an extension never are.
+    /// A set or a record is `NoMemory` only if the count of references to its content would overflow; a primitive or
+    /// extension type never is.
     pub fn copy(&self) -> Result<CedarType, NoMemory>
         ensures same { IfOk result (λ ty. ty ≡ self.now) }
         ensures memory { IfErr result (λ e. HoldsOthers (cedar_view self.now)) }

@@ -1,32 +1,32 @@
-//! Why no schema was read.
+//! Errors of parsing a schema.
 ghost use Rattle.std.specs.Prelude.{◌≡◌};
 
 use plain::NoMemory;
 use std::alloc::AllocFailed;
 use thiserror::Error;
 
-/// The first cause for which bytes state no schema.
+/// The first error of bytes as a schema.
 #[derive(Clone, Copy, PartialEq, Eq, Debug, Error)]
 pub enum SchemaFault {
-    /// An allocation was refused.
+    /// An allocation failed.
     #[error("schema 1: out of memory")]
     NoMemory,
-    /// The bytes are no JSON.
+    /// The bytes are not JSON.
     #[error("schema 20: not JSON")]
     NotJson,
-    /// The JSON has not the shape of a schema.
+    /// The JSON does not have the form of a schema.
     #[error("schema 21: JSON without the form of a schema")]
     BadShape,
-    /// A name is declared nowhere.
+    /// A name is not declared.
     #[error("schema 22: name of no declared type or action")]
     UnknownName,
-    /// A common type leads back to itself.
+    /// A common type refers to itself, directly or indirectly.
     #[error("schema 23: common type that contains itself")]
     TypeCycle,
-    /// An action is above itself.
+    /// An action is its own ancestor.
     #[error("schema 24: action that is its own ancestor")]
     ActionCycle,
-    /// A type, written out in full, has over 10,000 parts or is over 64 deep.
+    /// A type, expanded, has over 10,000 nodes or is over 64 deep.
     #[error("schema 25: type of over 10,000 parts, or over 64 deep")]
     TypeTooLarge,
 }
@@ -34,7 +34,7 @@ pub enum SchemaFault {
 impl SchemaFault {
     ghost use Rattle.schema_types.specs.Codes.{code_of};
 
-    /// Returns the number by which the refusal is told.
+    /// Returns the error's code.
     pub fn code(self) -> u8
         ensures { result ≡ code_of self }
     {

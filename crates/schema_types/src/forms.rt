@@ -7,7 +7,7 @@ ghost use Rattle.schema_types.specs.Forms.{form_named as form_of, keys_of};
 use json_words::only_keys;
 use serde_json::Value;
 
-/// What stands at the key `type`.
+/// The form at the key `type`.
 #[derive(Clone, Copy)]
 pub enum Form {
     Text,
@@ -49,7 +49,7 @@ pub fn form_named(word: &str) -> Form
     }
 }
 
-/// Returns whether a value has no keys but those of its form; `required` is an attribute's alone.
+/// Returns whether a value has only the keys of its form; only an attribute may have `required`.
 pub(crate) fn has_keys_of(value: &Value, is_attribute: bool, form: Form) -> bool
     ensures { result ≡ has_only (keys_of is_attribute form) (view value.now) }
 {

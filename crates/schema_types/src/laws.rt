@@ -1,4 +1,4 @@
-//! Laws of types: of writing out, of the names in them, and of the order of their keys.
+//! Theorems about types: their expansion, the names in them, and the order of their keys. The functions are no-ops.
 ghost use Rattle.schema_types.specs.AscendingLaw.{JsonAscends, StatedTypesAscend, FoundTypesAscend, WrittenTypesAscend};
 ghost use Rattle.schema_types.specs.Law.{OneWritten, CyclesStandForNone, WhatStandsForNoneLeadsBack};
 ghost use Rattle.schema_types.specs.Law.{TypesStandForOneOrSomeForNone};
@@ -6,41 +6,43 @@ ghost use Rattle.schema_types.specs.Law.{FoundCommonsAreDeclared, FoundEntitiesA
 
 use json_words::json_keys_ascend;
 
-/// A type stands for one type at most.
+/// Proves that a type has at most one expansion. No-op.
 pub fn one_written()
     ensures { OneWritten }
 {}
 
-/// A common type that leads back to itself stands for no type.
+/// Proves that a common type that refers to itself has no expansion. No-op.
 pub fn cycles_stand_for_none()
     ensures { CyclesStandForNone }
 {}
 
-/// A common type that stands for no type leads to one that leads back to itself, where all that is named is declared.
+/// Proves that a common type without an expansion leads to one that refers to itself, if all names are declared.
+/// No-op.
 pub fn what_stands_for_none_leads_back()
     ensures { WhatStandsForNoneLeadsBack }
 {}
 
-/// Where each name is declared, once, a type stands for one, or some common type for none.
+/// Proves that, if each name is declared exactly once, a type has an expansion, or some common type has none. No-op.
 pub fn types_stand_for_one_or_some_for_none()
     ensures { TypesStandForOneOrSomeForNone }
 {
     cycles_stand_for_none();
 }
 
-/// The names of a type whose names were found are declared.
+/// Proves that the names of a type with resolved names are declared. No-op.
 pub fn found_names_are_declared()
     ensures commons { FoundCommonsAreDeclared }
     ensures entities { FoundEntitiesAreDeclared }
 {}
 
-/// An entity type that is named in a type written out is named in that type, or in a common type that is declared.
+/// Proves that an entity type that is named in an expanded type is named in the type itself, or in a declared common
+/// type. No-op.
 pub fn written_entities_are_named()
     ensures { WrittenEntitiesAreNamed }
 {}
 
-/// The keys of each record ascend strictly: in JSON that was read, in the types that it states, in these with each name
-/// found, and in what they are once they are written out.
+/// Proves that the keys of each record ascend strictly: in parsed JSON, in the types that it states, in these with
+/// resolved names, and in their expansions. No-op.
 pub fn keys_ascend()
     ensures json { JsonAscends }
     ensures stated { StatedTypesAscend }

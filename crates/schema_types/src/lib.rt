@@ -1,5 +1,5 @@
-//! Types of a schema: as JSON writes them, with each name found (which declaration it means in its namespace, and which
-//! action), and what they are once each common type is written out; with the laws of all three.
+//! Types of a schema: as JSON writes them, with resolved names (the declaration that each name means in its
+//! namespace, and which action), and expanded; with the theorems about all three.
 #![tactic(auto)]
 
 mod actions;

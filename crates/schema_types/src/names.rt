@@ -1,4 +1,4 @@
-//! Finding the one declaration that a name means.
+//! The resolution of names: the one declaration that a name means.
 ghost use Rattle.std.specs.Prelude.{◌≡◌, ◌==◌, IfOk, option_map, is_some};
 ghost use Rattle.std.specs.BTreeSet.{contains_text};
 ghost use Rattle.json_words.specs.ReadsAs.{ReadsAs};
@@ -19,7 +19,7 @@ use std::alloc::Global;
 use std::collections::BTreeSet;
 use values::{EntityUid, TypeName};
 
-/// What a schema declares: the full names of its common types and of its entity types, and its actions.
+/// The declarations of a schema: the full names of its common types and of its entity types, and its actions.
 #[derive(Drop)]
 pub struct Names {
     pub commons: BTreeSet<String>,
@@ -27,14 +27,14 @@ pub struct Names {
     pub actions: BTreeSet<EntityUid>,
 }
 
-/// Returns whether a name has a namespace in it.
+/// Returns whether a name is qualified by a namespace.
 pub fn is_qualified(word: &str) -> bool
     ensures { result ≡ is_in_namespace word.now }
 {
     word.as_bytes().iter().any(|byte| *byte == b':')
 }
 
-/// Returns a name in full, as it stands in its namespace; None is the empty namespace.
+/// Returns the full name of a name in its namespace; `None` is the empty namespace.
 pub fn full_name(
     alloc: Global,
     own: &Option<TypeName>,
@@ -58,7 +58,7 @@ fn as_declared(declared: &BTreeSet<String>, word: &TypeName) -> Result<Option<Ty
     Ok(None)
 }
 
-/// Returns the full name of the declaration that a word means in its namespace.
+/// Returns the full name of the declaration that a name means in its namespace.
 #[tactic(auto, unfolding(crate::specs::Names::found))]
 pub fn find(
     alloc: Global,
@@ -78,7 +78,7 @@ pub fn find(
     as_declared(declared, word)
 }
 
-/// Returns the type that a word names without any declaration, if it does.
+/// Returns the built-in type of a name, if there is one.
 #[tactic(auto, unfolding(crate::specs::Names::built_in))]
 pub fn built_in(word: &str) -> Option<QualifiedType>
     ensures { option_map qualified_view result ≡ built_in_of word.now }
@@ -100,7 +100,7 @@ pub fn built_in(word: &str) -> Option<QualifiedType>
     }
 }
 
-/// Returns whether a word means an entity type, a primitive or an extension.
+/// Returns whether a name means an entity type, a primitive or an extension type.
 pub fn is_other(
     alloc: Global,
     names: &Names,
@@ -165,9 +165,12 @@ fn resolve_common(
     }
 }
 
-/// Returns the type with each name found, as a type that stands in the namespace `own`.
+/// Returns the type with resolved names, for a type in the namespace `own`.
 ///
-/// Refused where a name is declared nowhere.
+/// # Errors
+///
+/// - `UnknownName` (22): a name is not declared.
+/// - `NoMemory` (1): an allocation failed; possible at any point.
 #[cycle(resolve)]
 #[tactic(auto, unfolding(crate::specs::Names::qualified_of))]
 pub fn resolve(

@@ -1,8 +1,8 @@
-//! Types whose names were found.
+//! Types with resolved names.
 
 use values::TypeName;
 
-/// A type in which each name is written in full.
+/// A type in which each name is a full name.
 #[derive(Drop)]
 pub enum QualifiedType {
     Text,

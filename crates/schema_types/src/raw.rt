@@ -2,7 +2,7 @@
 
 use values::TypeName;
 
-/// A type before its names are looked for.
+/// A type before its names are resolved.
 #[derive(Drop)]
 pub enum RawType {
     Text,
@@ -17,6 +17,6 @@ pub enum RawType {
     Entity(TypeName),
     /// A common type.
     Common(TypeName),
-    /// A name that may be either, or a primitive or an extension.
+    /// A name that may be either, or a primitive or an extension type.
     EntityOrCommon(TypeName),
 }

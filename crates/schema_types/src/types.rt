@@ -16,7 +16,7 @@ use serde_json::{Map, Value};
 use std::alloc::Global;
 use values::{TypeName, paths_are_told};
 
-/// Returns the name that a text is.
+/// Returns the type name of a string.
 pub fn read_type_name(alloc: Global, word: &str) -> Result<TypeName, SchemaFault>
     ensures { ReadsAs SchemaFault.NoMemory (λ t. t) result (type_name word.now) }
 {
@@ -35,7 +35,7 @@ fn name_in(alloc: Global, value: &Value) -> Result<TypeName, SchemaFault>
     read_type_name(alloc, word)
 }
 
-/// Returns a primitive or an extension by its name behind `__cedar::`.
+/// Returns a primitive or an extension type by its name after `__cedar::`.
 #[tactic(auto, unfolding(crate::specs::TypeShape::reserved_type))]
 fn reserved_type(word: &str) -> Option<RawType>
     ensures { option_map raw_view result ≡ reserved_type word.now }
@@ -61,7 +61,7 @@ fn reserved_type(word: &str) -> Option<RawType>
     None
 }
 
-/// Returns what the name of an `EntityOrCommon` says before it is looked for.
+/// Returns the type of the name of an `EntityOrCommon`, before it is resolved.
 fn entity_or_common(alloc: Global, word: &str) -> Result<RawType, SchemaFault>
     ensures { ReadsAs SchemaFault.NoMemory raw_view result (entity_or_common word.now) }
 {
@@ -84,7 +84,7 @@ fn extension_named(word: &str) -> Option<RawType>
     None
 }
 
-/// Returns whether an attribute is required, as it is where nothing is said.
+/// Returns whether an attribute is required, which is the default.
 fn is_required(value: &Value) -> Result<bool, SchemaFault>
     ensures { AlwaysReadsAs (λ b. b) result (required_in (view value.now)) }
 {
@@ -93,7 +93,10 @@ fn is_required(value: &Value) -> Result<bool, SchemaFault>
 
 /// Returns the type that a value states, which may be an attribute's.
 ///
-/// Refused where the value has the shape of no form.
+/// # Errors
+///
+/// - `BadShape` (21): the value does not have any of the forms.
+/// - `NoMemory` (1): an allocation failed; possible at any point.
 #[cycle(read_type)]
 pub fn read_type(alloc: Global, value: &Value, is_attribute: bool) -> Result<RawType, SchemaFault>
     ensures { ReadsAs SchemaFault.NoMemory raw_view result (type_of is_attribute (view value.now)) }

@@ -1,4 +1,4 @@
--- What a table of common types says.
+-- Defines the abstract view of a table of common types.
 use Rattle.std.specs.Prelude.{option_map, String}
 use Rattle.std.specs.BTreeMap.{BTreeMap, get_by_text}
 use Rattle.std.specs.declared.alloc.Global.{Global}
@@ -7,6 +7,7 @@ use Rattle.schema_written_types.specs.declared.table.Known.{Known}
 use Rattle.schema_types.specs.CedarViews.{cedar_view}
 use Rattle.schema_written_types.specs.Knowledge.{Extent, KnownType, Knowledge}
 
+-- `size_view`, `known_view` and `knowledge` are the views of a size, of an entry and of a table.
 abbrev pub size_view : Size → Extent
 size_view s = record { parts = s.parts; deep = s.deep }
 

@@ -1,4 +1,4 @@
-//! The common types of a schema, each written out.
+//! The common types of a schema, expanded.
 ghost use Rattle.std.specs.Prelude.{◌≡◌, ◌≢◌, ◌<◌, ◌^◌, OnOk, IfOk, MatchResult, map, option_map, is_some, Some, false};
 ghost use Rattle.std.specs.Prelude.{true};
 ghost use Rattle.std.specs.BTreeMap.{btree_map_len};
@@ -21,7 +21,7 @@ use schema_types::{CedarType, FoundCommon, QualifiedType, SchemaFault};
 use std::alloc::Global;
 use std::collections::BTreeMap;
 
-/// Returns a type of a size that was counted, unless it is too large: then nothing is built.
+/// Returns a type whose size was computed, unless it is too large: then nothing is built.
 #[tactic(auto, using(crate::proofs::Sizes::counted))]
 fn write_within(
     alloc: Global,
@@ -39,7 +39,7 @@ fn write_within(
     write(alloc, ty, table)
 }
 
-/// Adds what a name stands for, once each name in that is known.
+/// Adds the expansion of a common type, once each name in it is known.
 fn add_if_ready(
     alloc: Global,
     name: &str,
@@ -60,7 +60,7 @@ fn add_if_ready(
     Ok(())
 }
 
-/// Tries the declaration at a place, where there is one.
+/// Tries the declaration at an index, if there is one.
 fn add_at(
     alloc: Global,
     commons: &[FoundCommon],
@@ -76,7 +76,7 @@ fn add_at(
     Ok(())
 }
 
-/// Tries the declarations at these places, one after the other.
+/// Tries the declarations at these indices, in order.
 fn add_in_order(
     alloc: Global,
     commons: &[FoundCommon],
@@ -101,7 +101,7 @@ fn round(alloc: Global, commons: &[FoundCommon], table: &mut Table) -> Result<()
     Ok(())
 }
 
-/// Tries each declaration once, and tells whether one was added.
+/// Tries each declaration once, and returns whether one was added.
 fn has_grown(alloc: Global, commons: &[FoundCommon], table: &mut Table) -> Result<bool, NoMemory>
     ensures rounds { OnOk result (Rounds (map found_common_view commons.now) table.old table.new) }
     ensures grown { IfOk result (λ b. b ≡ true → btree_map_len table.old < btree_map_len table.new) }
@@ -134,9 +134,12 @@ fn are_all_known(commons: &[FoundCommon], table: &Table) -> bool
     true
 }
 
-/// Each common type, written out where it isn't too large.
+/// Returns each common type with its size, and expanded if it is not too large.
 ///
-/// Refused where a type leads back to itself.
+/// # Errors
+///
+/// - `TypeCycle` (23): a common type refers to itself.
+/// - `NoMemory` (1): an allocation failed; possible at any point.
 pub fn write_commons(alloc: Global, commons: &[FoundCommon]) -> Result<Table, SchemaFault>
     ensures { MatchResult result (λ table. AreWritten (map found_common_view commons.now) (knowledge table))
         (λ f. f ≢ SchemaFault.NoMemory → CommonsRefused (map found_common_view commons.now) f) }
@@ -171,7 +174,7 @@ fn are_all_small(commons: &[FoundCommon], table: &Table) -> bool
     true
 }
 
-/// Refuses common types of which some type, written out in full, is too large.
+/// Checks that no common type, expanded, is too large. The error is `TypeTooLarge` (25).
 pub fn demand_sizes(commons: &[FoundCommon], table: &Table) -> Result<(), SchemaFault>
     requires { AreWritten (map found_common_view commons.now) (knowledge table.now) }
     ensures { MatchResult result (λ u. AreWhole (map found_common_view commons.now) (knowledge table.now))

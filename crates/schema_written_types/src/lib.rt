@@ -1,5 +1,5 @@
-//! Types of a schema, each common type in them written out: how large they are, and what is built of them; and in which
-//! order of a graph's places each stands behind those that it leads to.
+//! The expansion of a schema's types: their sizes, and the expanded types; and an order of a graph's nodes in which
+//! each comes after its successors.
 #![tactic(auto)]
 
 mod commons;

@@ -1,4 +1,4 @@
-//! An order of common types that spares rounds: those that a common type names stand before it.
+//! An order of common types that saves rounds: a common type comes after those that it names.
 ghost use Rattle.std.specs.Prelude.{◌≡◌, ◌++◌, ℕ, List, IfOk, OnOk, map};
 ghost use Rattle.std.specs.BTreeMap.{get_by_text};
 ghost use Rattle.schema_written_types.specs.Orders.{graph_of, IsEndsFirst};
@@ -11,7 +11,7 @@ use schema_types::{FoundCommon, QualifiedType};
 use std::alloc::Global;
 use std::collections::BTreeMap;
 
-/// Adds the places of the common types that a type names.
+/// Adds the indices of the common types that a type names.
 #[cycle(add_named)]
 #[tactic(auto, unfolding(crate::specs::inner::Order::places_named))]
 fn add_named(
@@ -66,7 +66,7 @@ fn add_place(place: Option<usize>, found: &mut Vec<usize>) -> Result<(), NoMemor
     Ok(())
 }
 
-/// Returns the place of each name that is declared; of one that is declared twice, the last.
+/// Returns the index of each declared name; for one that is declared twice, the last.
 fn places_of(alloc: Global, commons: &[FoundCommon]) -> Result<BTreeMap<String, usize>, NoMemory>
     ensures { IfOk result (λ places. (q : List ℕ)
         → get_by_text places q ≡ place_of (map found_common_view commons.now) q) }
@@ -79,7 +79,7 @@ fn places_of(alloc: Global, commons: &[FoundCommon]) -> Result<BTreeMap<String, 
     Ok(places)
 }
 
-/// Returns the places of the common types that a type names.
+/// Returns the indices of the common types that a type names.
 fn named_in(
     alloc: Global,
     ty: &QualifiedType,
@@ -93,7 +93,7 @@ fn named_in(
     Ok(named)
 }
 
-/// Of each common type the places of those that it names.
+/// Returns for each common type the indices of those that it names.
 fn uses_of(
     alloc: Global,
     commons: &[FoundCommon],
@@ -110,8 +110,8 @@ fn uses_of(
     Ok(edges)
 }
 
-/// Returns the places of common types, each once, and behind those of the common types that it names, but for those
-/// that lead back to it: in this order one round writes out each that has an end.
+/// Returns the indices of common types, without duplicates, each after those of the common types that it names,
+/// except those that lead back to it: in this order one round expands each that has an expansion.
 pub(crate) fn order_of(alloc: Global, commons: &[FoundCommon]) -> Result<Vec<usize>, NoMemory>
     ensures { IfOk result (λ order. IsEndsFirst (uses (map found_common_view commons.now)) order.items) }
 {

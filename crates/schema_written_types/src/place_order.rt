@@ -1,4 +1,4 @@
-//! An order of the places of a graph in which each stands behind those that it leads to.
+//! An order of the nodes of a graph in which each comes after its successors.
 ghost use Rattle.std.specs.Prelude.{◌≡◌, ◌∷◌, ◌<◌, [], true, false, length, replicate, slice_set, IfOk, OnOk};
 ghost use Rattle.schema_written_types.specs.Orders.{graph_of, ends_of as ends_at, IsEndsFirst};
 ghost use Rattle.schema_written_types.specs.inner.Ordering.{is_new, entered, IsWalk, WalksOn, KeepsSeen, one_if_seen};
@@ -7,14 +7,14 @@ use plain::NoMemory;
 use std::alloc::Global;
 use std::collections::VecDeque;
 
-/// A place on the way, and how many of its edges were followed.
+/// A node on the path, and how many of its edges were followed.
 #[derive(Clone, Copy)]
 pub(crate) struct Step {
     place: usize,
     followed: usize,
 }
 
-/// Returns the places to which the edges of a place lead; none past the end.
+/// Returns the successors of a node; none past the end.
 fn ends_of(edges: &[Vec<usize>], place: usize) -> &[usize]
     ensures { result.now ≡ ends_at (graph_of edges.now) place }
 {
@@ -25,7 +25,7 @@ fn ends_of(edges: &[Vec<usize>], place: usize) -> &[usize]
     }
 }
 
-/// Returns whether a place was not seen before, which is seen from now on; nothing past the end.
+/// Returns whether a node was not seen before, and marks it as seen; no-op past the end.
 fn mark(seen: &mut Vec<bool>, place: usize) -> bool
     ensures new { result ≡ is_new seen.old.items place }
     ensures marks { seen.new.items ≡ slice_set seen.old.items place true }
@@ -38,7 +38,7 @@ fn mark(seen: &mut Vec<bool>, place: usize) -> bool
     !was_seen
 }
 
-/// Goes on to a place that was not seen before.
+/// Pushes a node that was not seen before.
 fn enter(place: usize, path: &mut VecDeque<Step>, seen: &mut Vec<bool>) -> Result<(), NoMemory>
     ensures path { OnOk result (path.new.items ≡ entered seen.old.items place path.old.items) }
     ensures seen { OnOk result (seen.new.items ≡ slice_set seen.old.items place true) }
@@ -49,7 +49,7 @@ fn enter(place: usize, path: &mut VecDeque<Step>, seen: &mut Vec<bool>) -> Resul
     Ok(())
 }
 
-/// Follows the next edge of a place that was last on the path, or lists the place where none is left.
+/// Follows the next edge of a node that was last on the path, or appends the node to the order if none is left.
 fn go_on(
     edges: &[Vec<usize>],
     step: Step,
@@ -75,7 +75,7 @@ fn go_on(
     Ok(())
 }
 
-/// Lists what can be reached from a place and was not seen before, depth first.
+/// Appends the nodes that are reachable from a node and were not seen before, depth first.
 fn add_from(
     alloc: Global,
     edges: &[Vec<usize>],
@@ -97,17 +97,16 @@ fn add_from(
     Ok(())
 }
 
-/// As many places as there are, none of them seen.
+/// Returns that none of so many nodes was seen.
 fn none_seen(alloc: Global, places: usize) -> Result<Vec<bool>, NoMemory>
     ensures { IfOk result (λ seen. seen.items ≡ replicate places false) }
 {
     Ok(vec![in alloc; false; places]?)
 }
 
-/// Returns the places of a graph, each once, and behind those that its edges lead to, but for those that lead back to
-/// it.
+/// Returns the nodes of a graph, without duplicates, each after its successors, except those that lead back to it.
 ///
-/// An edge past the end leads nowhere. Takes time as there are places and edges. Fails for memory alone.
+/// An edge past the end is ignored. Takes time linear in nodes and edges. The only error is `NoMemory`.
 pub fn ends_first(alloc: Global, edges: &[Vec<usize>]) -> Result<Vec<usize>, NoMemory>
     ensures { IfOk result (λ order. IsEndsFirst (graph_of edges.now) order.items) }
 {

@@ -1,4 +1,4 @@
-//! How large a type is when it is written out.
+//! The size of an expanded type.
 ghost use Rattle.std.specs.Prelude.{◌≡◌, option_map};
 ghost use Rattle.schema_written_types.specs.inner.Table.{leaf_size, no_size as none_of, above as above_of};
 ghost use Rattle.schema_written_types.specs.inner.Table.{beside as beside_of};
@@ -55,7 +55,7 @@ fn known_size(name: &str, table: &Table) -> Option<Size>
     }
 }
 
-/// Returns the size of a type, where each common type in it is known.
+/// Returns the size of a type, if each common type in it is known.
 #[cycle(size_of)]
 #[tactic(auto, unfolding(crate::specs::inner::Table::size_in))]
 pub(crate) fn size_of(ty: &QualifiedType, table: &Table) -> Option<Size>

@@ -1,16 +1,16 @@
-//! What is known of the common types that were written out.
+//! The table of expanded common types.
 
 use schema_types::CedarType;
 use std::collections::BTreeMap;
 
-/// A size, each part of it counted to one beyond its limit.
+/// A size; each part saturates at one beyond its limit.
 #[derive(Clone, Copy)]
 pub struct Size {
     pub parts: u32,
     pub deep: u32,
 }
 
-/// The size of a common type, and the type itself unless it is too large.
+/// The size of a common type, and its expansion unless it is too large.
 #[derive(Drop)]
 pub struct Known {
     pub size: Size,

@@ -1,4 +1,4 @@
-//! Types written out in full.
+//! Expanded types.
 ghost use Rattle.std.specs.Prelude.{◌≢◌, MatchResult};
 ghost use Rattle.schema_types.specs.QualifiedViews.{qualified_view};
 ghost use Rattle.schema_types.specs.CedarViews.{cedar_view};
@@ -15,9 +15,12 @@ use crate::write::write;
 use schema_types::{CedarType, QualifiedType, SchemaFault};
 use std::alloc::Global;
 
-/// Returns a type whose common types are all declared, written out in full.
+/// Returns the expansion of a type whose common types are all declared.
 ///
-/// Refused where it is too large.
+/// # Errors
+///
+/// - `TypeTooLarge` (25): the expansion is too large.
+/// - `NoMemory` (1): an allocation failed; possible at any point.
 pub fn write_whole(
     alloc: Global,
     ty: &QualifiedType,

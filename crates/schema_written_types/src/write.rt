@@ -1,4 +1,4 @@
-//! Replacing each common type by what it stands for.
+//! The replacement of each common type by its definition.
 ghost use Rattle.std.specs.Prelude.{◌≡◌, IfOk, option_map, option_and_then};
 ghost use Rattle.schema_written_types.specs.inner.Table.{IsCounted, written_in, fields_in};
 ghost use Rattle.schema_written_types.specs.TableViews.{knowledge};
@@ -10,7 +10,7 @@ use plain::{Items, NoMemory, Shared, Text};
 use schema_types::{CedarType, QualifiedType};
 use std::alloc::Global;
 
-/// Returns a known type that is at hand.
+/// Returns the expansion of a common type, if it is in the table.
 fn known_type(name: &str, table: &Table) -> Result<Option<CedarType>, NoMemory>
     ensures { IfOk result (λ o. option_map cedar_view o
         ≡ option_and_then (λ k. k.whole) (knowledge table.now name.now)) }
@@ -24,9 +24,9 @@ fn known_type(name: &str, table: &Table) -> Result<Option<CedarType>, NoMemory>
     }
 }
 
-/// Returns a type that is not too large, with each common type in it replaced, where each is at hand.
+/// Returns a type that is not too large, with each common type in it replaced, if all are in the table.
 ///
-/// So nothing that is too large is ever built: whoever calls this has counted before.
+/// So nothing that is too large is ever built: the caller has computed the size before.
 pub(crate) fn write(
     alloc: Global,
     ty: &QualifiedType,
@@ -38,7 +38,7 @@ pub(crate) fn write(
     write_type(alloc, ty, table)
 }
 
-/// Returns the type, with each common type in it replaced, where each is at hand.
+/// Returns the type, with each common type in it replaced, if all are in the table.
 #[cycle(write_type)]
 #[tactic(auto, unfolding(crate::specs::inner::Table::written_in))]
 fn write_type(

@@ -1,6 +1,7 @@
--- By what a policy is found among many: by an entity that its scope names for the principal, or else for the resource.
--- A rule of this product: the principal comes first; a part names an entity by `==` or `in`; `is` alone names none.
--- Source: Cedar reference guide 4.0, "Policy scope", for what a scope asks.
+-- Defines the key of a policy in the index: an entity that its scope names for the principal, or else for the
+-- resource.
+-- Rules of this product: the principal comes first; a part names an entity by `==` or `in`; `is` alone names none.
+-- Source: Cedar reference guide 4.0, "Policy scope", for the meaning of a scope.
 use Rattle.std.specs.Prelude.{◌≡◌, ℕ, List, Option, Some, None, string_bytes, map}
 use Rattle.std.specs.BTreeMap.{is_at}
 use Rattle.std.specs.Map.{lookup}
@@ -17,13 +18,14 @@ use Rattle.policy_grammar.specs.declared.policy.EntityScope.TheVariants.{Any, Eq
 use Rattle.policy_grammar.specs.declared.policy.Scope.{Scope}
 use Rattle.policy_grammar.specs.declared.policy.Policy.{Policy}
 
--- by every request; by one whose principal, or whose resource, is this entity or below it
+-- An `IndexKey` matches every request; or those whose principal, or whose resource, is this entity or a descendant of
+-- it.
 pub data IndexKey : Type 0 where
   Always : IndexKey
   Principal : EntityUid → IndexKey
   Resource : EntityUid → IndexKey
 
--- the entity that a part of a scope names by `==` or `in`
+-- `entity_named part` is the entity that a part of a scope names by `==` or `in`.
 abbrev pub entity_named : EntityScope → Option EntityUid
 entity_named Any = None
 entity_named (Equal e) = Some e
@@ -31,41 +33,43 @@ entity_named (In e) = Some e
 entity_named (Is t) = None
 entity_named (IsOfTypeIn t e) = Some e
 
--- by the entity named for the principal, else by that for the resource
+-- `key_by p r` is the key of the entity named for the principal, else of that for the resource.
 abbrev pub key_by : Option EntityUid → Option EntityUid → IndexKey
 key_by (Some e) r = Principal e
 key_by None (Some e) = Resource e
 key_by None None = Always
 
+-- `index_key scope` is the key of a policy with this scope.
 abbrev pub index_key : Scope → IndexKey
 index_key scope = key_by (entity_named scope.principal) (entity_named scope.resource)
 
--- a request finds what stands under this key
+-- `IsMet parents q key` holds if the request `q` matches `key`.
 abbrev pub IsMet : Parents → Request → IndexKey → Type 0
 IsMet parents q Always = Unit {0}
 IsMet parents q (Principal e) = IsIn parents q.principal e
 IsMet parents q (Resource e) = IsIn parents q.resource e
 
--- the policies that are kept, by their ids
+-- `Kept` are the policies of an index, by their ids.
 abbrev pub Kept : Type 0
 Kept = List (String Global × Policy)
 
--- the policy whose id has these bytes
+-- `kept_at kept id` is the policy whose id has these bytes.
 abbrev pub kept_at : Kept → List ℕ → Option Policy
 kept_at kept id = lookup (is_at (λ k. slice_cmp nat_cmp id (string_bytes k))) kept
 
--- a policy with its id
+-- An `Offer` is a policy with its id.
 abbrev pub Offer : Type 0
 Offer = List ℕ × Policy
 
--- what references to ids and policies refer to
+-- `lent ps` are the ids and policies `ps` without their borrows.
 abbrev pub lent : List (Bor (List ℕ) × Bor Policy) → List Offer
 lent ps = map (λ p. (p.0.now, p.1.now)) ps
 
+-- `ids os` are the ids of candidates.
 abbrev pub ids : List Offer → List (List ℕ)
 ids os = map (λ o. o.0) os
 
--- this policy is kept under this id, and the request finds it
+-- `IsOffered kept parents q o` holds if the policy `o` is in the index, and its key matches the request `q`.
 pub record IsOffered (kept : Kept) (parents : Parents) (q : Request) (o : Offer) : Type 0 where
   pub is_kept : kept_at kept o.0 ≡ Some o.1
   pub met : IsMet parents q (index_key o.1.scope)

@@ -1,4 +1,4 @@
-//! Policies by id, under the key by which each is found.
+//! Policies by id, in a bucket for each key.
 ghost use Rattle.std.specs.Prelude.{◌≡◌, ◌&&◌, IsTrue, IfOk, OnOk, OnErr, ℕ, List, Some, None, cond, string_bytes};
 ghost use Rattle.std.specs.Str.{bytes_eq};
 ghost use Rattle.scope_index.specs.Keys.{index_key, kept_at};
@@ -16,11 +16,11 @@ use values::{EntityUid, SharedText, TypeName};
 /// The buckets of entities of one type, by their ids.
 pub(crate) type Named = BTreeMap<SharedText, BTreeMap<String, Policy>>;
 
-/// The buckets of entities, by their types and then by their ids: so a look-up compares types once, and not at each
+/// The buckets of entities, by their types and then by their ids: a look-up compares types once, and not at each
 /// entity on its way.
 pub(crate) type Under = BTreeMap<TypeName, Named>;
 
-/// Policies by id, under the key by which each is found.
+/// Policies by id, in a bucket for each key.
 #[derive(Drop)]
 pub(crate) struct Buckets {
     pub(crate) always: BTreeMap<String, Policy>,
@@ -28,7 +28,7 @@ pub(crate) struct Buckets {
     pub(crate) resources: Under,
 }
 
-// A bucket of one policy.
+// Returns a bucket of one policy.
 fn alone(alloc: Global, id: String, policy: Policy) -> Result<BTreeMap<String, Policy>, NoMemory>
     ensures { IfOk result (λ bucket. (q : List ℕ) → kept_at bucket.entries q
         ≡ cond (bytes_eq (string_bytes id) q) (Some policy) None) }
@@ -38,7 +38,7 @@ fn alone(alloc: Global, id: String, policy: Policy) -> Result<BTreeMap<String, P
     Ok(bucket)
 }
 
-// Puts a policy among those under the entity of this id, of one type.
+// Puts a policy into the bucket of the entity of this id, of one type.
 fn put_named(
     alloc: Global,
     named: &mut Named,
@@ -58,7 +58,7 @@ fn put_named(
     Ok(())
 }
 
-// The buckets of a type of which one entity has one policy.
+// Returns the buckets of a type, of which one entity has one policy.
 fn only(alloc: Global, entity: &SharedText, id: String, policy: Policy) -> Result<Named, NoMemory>
     ensures { IfOk result (λ named. (e q : List ℕ) → held_at named e q
         ≡ cond (is_text entity.now e && bytes_eq (string_bytes id) q) (Some policy) None) }
@@ -68,7 +68,7 @@ fn only(alloc: Global, entity: &SharedText, id: String, policy: Policy) -> Resul
     Ok(named)
 }
 
-// Puts a policy among those under an entity.
+// Puts a policy into the bucket of an entity.
 fn put_under(
     alloc: Global,
     under: &mut Under,
@@ -87,7 +87,7 @@ fn put_under(
     Ok(())
 }
 
-// Takes the policy of an id away from those under an entity of one type, and answers whether none is left there.
+// Removes the policy of an id from the bucket of an entity of one type; returns whether the bucket is then empty.
 fn strike(named: &mut Named, entity: &SharedText, id: &str) -> bool
     ensures turns { TurnsNamed entity.now id.now None named.old named.new }
     ensures none { IsTrue result → (q : List ℕ) → held_at named.new entity.now q ≡ None }
@@ -101,7 +101,7 @@ fn strike(named: &mut Named, entity: &SharedText, id: &str) -> bool
     }
 }
 
-// Takes the policy of an id away from those under an entity of one type; the entity goes with the last of them.
+// Removes the policy of an id from the bucket of an entity of one type; an empty bucket is removed too.
 fn take_named(named: &mut Named, entity: &SharedText, id: &str)
     ensures { TurnsNamed entity.now id.now None named.old named.new }
 {
@@ -110,7 +110,7 @@ fn take_named(named: &mut Named, entity: &SharedText, id: &str)
     }
 }
 
-// Takes the policy of an id away from those under an entity, and answers whether none is left under its type.
+// Removes the policy of an id from the bucket of an entity; returns whether its type then has no bucket.
 fn strike_type(under: &mut Under, uid: &EntityUid, id: &str) -> bool
     ensures turns { Turns uid.now id.now None under.old under.new }
     ensures none { IsTrue result → (u : PlainUid) (q : List ℕ) → IsTrue (is_text uid.now.type_name u.type_name)
@@ -125,7 +125,7 @@ fn strike_type(under: &mut Under, uid: &EntityUid, id: &str) -> bool
     }
 }
 
-// Takes the policy of an id away from those under an entity; what has no policy left goes with it.
+// Removes the policy of an id from the bucket of an entity; a bucket or type that is then empty is removed too.
 fn take_under(under: &mut Under, uid: &EntityUid, id: &str)
     ensures { Turns uid.now id.now None under.old under.new }
 {
@@ -135,7 +135,7 @@ fn take_under(under: &mut Under, uid: &EntityUid, id: &str)
 }
 
 impl Buckets {
-    /// No policy.
+    /// Creates empty buckets.
     pub(crate) fn new(alloc: Global) -> Self
         ensures { AreEmpty result }
     {
@@ -147,7 +147,7 @@ impl Buckets {
     }
 }
 
-/// Puts a policy under the key of a scope. Where memory is refused, nothing changes.
+/// Puts a policy into the bucket of a scope's key. If an allocation fails, nothing changes.
 pub(crate) fn put(
     alloc: Global,
     buckets: &mut Buckets,
@@ -168,7 +168,7 @@ pub(crate) fn put(
     }
 }
 
-/// Takes the policy of an id away from under the key of a scope. Takes no memory.
+/// Removes the policy of an id from the bucket of a scope's key. Does not allocate.
 pub(crate) fn take(buckets: &mut Buckets, scope: &Scope, id: &str)
     ensures { TurnsAt (index_key scope.now) id.now None buckets.old buckets.new }
 {

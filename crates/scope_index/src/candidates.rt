@@ -1,4 +1,4 @@
-//! The policies that a request may meet.
+//! The candidate policies of a request.
 ghost use Rattle.std.specs.Prelude.{◌≡◌, ◌↔◌, ◌⊎◌, Some, Contains, IfOk, OnOk};
 ghost use Rattle.std.specs.Option.{option_copied};
 ghost use Rattle.std.specs.List.Sorted.{IsStrictlySortedBy};
@@ -16,7 +16,7 @@ use std::alloc::Global;
 use std::collections::BTreeMap;
 use values::{EntityUid, Request};
 
-// Offers the policies of a bucket.
+// Adds the policies of a bucket.
 fn offer<'a>(
     bucket: &'a BTreeMap<String, Policy>,
     found: &mut Vec<(&'a str, &'a Policy)>,
@@ -31,7 +31,7 @@ fn offer<'a>(
     Ok(())
 }
 
-// The bucket of an entity.
+// Returns the bucket of an entity.
 fn bucket_at<'a>(under: &'a Under, uid: &EntityUid) -> Option<&'a BTreeMap<String, Policy>>
     ensures { option_copied result ≡ bucket_at under.now uid.now }
 {
@@ -41,7 +41,7 @@ fn bucket_at<'a>(under: &'a Under, uid: &EntityUid) -> Option<&'a BTreeMap<Strin
     }
 }
 
-// Offers the policies under an entity.
+// Adds the policies under an entity.
 fn offer_under<'a>(
     under: &'a Under,
     uid: &EntityUid,
@@ -56,7 +56,7 @@ fn offer_under<'a>(
     }
 }
 
-// Offers the policies that every request finds.
+// Adds the policies that are candidates of every request.
 fn offer_unbound<'a>(
     buckets: &'a Buckets,
     found: &mut Vec<(&'a str, &'a Policy)>,
@@ -67,7 +67,7 @@ fn offer_unbound<'a>(
     offer(&buckets.always, found)
 }
 
-// Offers the policies that are found by the entity itself.
+// Adds the policies under the entity itself.
 fn offer_own<'a>(
     under: &'a Under,
     uid: &EntityUid,
@@ -79,7 +79,7 @@ fn offer_own<'a>(
     offer_under(under, uid, found)
 }
 
-// Offers the policies under each of these entities.
+// Adds the policies under each of these entities.
 fn offer_each<'a>(
     under: &'a Under,
     entities: &[&EntityUid],
@@ -95,7 +95,7 @@ fn offer_each<'a>(
     Ok(())
 }
 
-// Offers the policies under an entity and under each of its ancestors.
+// Adds the policies under an entity and under each of its ancestors.
 fn offer_above<'a, A: Ancestry>(
     under: &'a Under,
     ancestry: &A,
@@ -112,7 +112,7 @@ fn offer_above<'a, A: Ancestry>(
     Ok(())
 }
 
-// The policies that a request finds, in any order.
+// Returns the candidate policies of a request, in any order.
 fn found_by<'a, A: Ancestry>(
     alloc: Global,
     buckets: &'a Buckets,
@@ -134,7 +134,7 @@ fn found_by<'a, A: Ancestry>(
     Ok(found)
 }
 
-// These policies, ascending and each once.
+// Returns these policies, ascending and without duplicates.
 fn in_order<'a>(found: Vec<(&'a str, &'a Policy)>) -> Vec<(&'a str, &'a Policy)>
     requires { AreOneAtEach (lent found.items) }
     ensures same { (o : Offer) → Contains (lent result.items) o ↔ Contains (lent found.entry.items) o }
@@ -146,7 +146,7 @@ fn in_order<'a>(found: Vec<(&'a str, &'a Policy)>) -> Vec<(&'a str, &'a Policy)>
     policies
 }
 
-/// Returns the policies that a request finds, ascending by id.
+/// Returns the candidate policies of a request, ascending by id.
 pub(crate) fn offered<'a, A: Ancestry>(
     alloc: Global,
     buckets: &'a Buckets,

@@ -1,4 +1,4 @@
-//! The policies that are kept, beside the buckets.
+//! The policies of the index by id, with the buckets.
 ghost use Rattle.std.specs.Prelude.{◌≡◌, ℕ, List, Some, None, cond, IfOk, OnOk, OnErr, string_bytes};
 ghost use Rattle.std.specs.Str.{bytes_eq};
 ghost use Rattle.scope_index.specs.Keys.{kept_at};
@@ -10,7 +10,7 @@ use policy_grammar::Policy;
 use std::alloc::Global;
 use std::collections::BTreeMap;
 
-/// Takes a policy away. Takes no memory.
+/// Removes a policy. Does not allocate.
 pub(crate) fn forget(kept: &mut BTreeMap<String, Policy>, buckets: &mut Buckets, id: &str)
     requires { AreFiled kept.old.entries buckets.old }
     ensures filed { AreFiled kept.new.entries buckets.new }
@@ -22,7 +22,7 @@ pub(crate) fn forget(kept: &mut BTreeMap<String, Policy>, buckets: &mut Buckets,
     }
 }
 
-// Keeps a policy whose id is not there: `own` and `second` are the id and a share of it.
+// Adds a policy whose id is new: `own` and `second` are its id and a shared reference to it.
 fn enter(
     alloc: Global,
     kept: &mut BTreeMap<String, Policy>,
@@ -53,7 +53,7 @@ fn enter(
     filed
 }
 
-// An id and a share of its policy, both to be kept.
+// Returns an id and a shared reference to its policy, to be added.
 fn entry_of(alloc: Global, id: &str, policy: &Policy) -> Result<(String, Policy), NoMemory>
     ensures id { IfOk result (λ entry. string_bytes entry.0 ≡ id.now) }
     ensures share { IfOk result (λ entry. entry.1 ≡ policy.now) }
@@ -61,7 +61,7 @@ fn entry_of(alloc: Global, id: &str, policy: &Policy) -> Result<(String, Policy)
     beside(String::from_str(alloc, id)?, policy.share())
 }
 
-/// Keeps a share of a policy, in place of what is kept under its id. Where memory is refused, the policy is not kept.
+/// Adds a shared reference to a policy, replacing the policy of its id. If an allocation fails, the id has no policy.
 pub(crate) fn keep(
     alloc: Global,
     kept: &mut BTreeMap<String, Policy>,

@@ -1,4 +1,4 @@
-//! By what a policy is found.
+//! The key of a policy in the index.
 ghost use Rattle.std.specs.Prelude.{◌≡◌, option_map};
 ghost use Rattle.scope_index.specs.Keys.{entity_named, index_key};
 ghost use Rattle.scope_index.specs.Buckets.{key_said};
@@ -6,14 +6,14 @@ ghost use Rattle.scope_index.specs.Buckets.{key_said};
 use policy_grammar::{EntityScope, Scope};
 use values::EntityUid;
 
-/// By what a policy is found, borrowed from its scope.
+/// The key of a policy, borrowed from its scope.
 #[derive(Clone, Copy)]
 pub(crate) enum FoundBy<'a> {
-    /// By every request: its scope names no entity for the principal, and none for the resource.
+    /// Every request: the scope names no entity for the principal or for the resource.
     Always,
-    /// By a request whose principal is this entity, or below it.
+    /// Requests whose principal is this entity or a descendant of it.
     Principal(&'a EntityUid),
-    /// By a request whose resource is this entity, or below it.
+    /// Requests whose resource is this entity or a descendant of it.
     Resource(&'a EntityUid),
 }
 
@@ -30,7 +30,7 @@ fn entity_named(part: &EntityScope) -> Option<&EntityUid>
     }
 }
 
-/// Returns by what a policy with this scope is found.
+/// Returns the key of a policy with this scope.
 pub(crate) fn key_of(scope: &Scope) -> FoundBy<'_>
     ensures { key_said result ≡ index_key scope.now }
 {

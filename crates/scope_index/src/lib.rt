@@ -1,7 +1,7 @@
-//! Policies found by the scope: those that a request may meet, without a look at the others.
+//! An index of policies by scope: finds the candidates of a request without visiting the other policies.
 //!
-//! A policy whose scope names an entity for the principal (or else for the resource) is found by that entity and by
-//! those below it; every other policy is offered to each request.
+//! A policy whose scope names an entity for the principal (or else for the resource) is a candidate for that entity
+//! and for its descendants; every other policy is a candidate for each request.
 #![tactic(auto)]
 
 mod buckets;

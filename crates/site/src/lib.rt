@@ -12,8 +12,8 @@ mod world;
 pub use event::{Event, EventReply, Operation};
 pub use laws::{answers_fix_worlds, first_sites_are_distinct, worlds_keep_promises};
 pub use site_steps::{
-    EntityFault, Found, Input, Put, Reply, Site, SiteFault, SiteName, Stamp, Taken, answer,
-    inputs_have_one_outcome, is_site_name, run, runs_are_sound, runs_leave_what_they_took,
-    take_bytes,
+    EntityFault, Found, Input, Put, Reply, Scratch, Site, SiteFault, SiteName, Stamp, Taken,
+    answer, inputs_have_one_outcome, is_site_name, run, runs_are_sound, runs_leave_what_they_took,
+    site_names_are_told, take_bytes,
 };
 pub use world::{World, simulate};

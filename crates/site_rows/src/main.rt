@@ -25,6 +25,9 @@
 //!   one), the number of unread bytes, the numbers of whole replies and of bytes behind them, and the site's state.
 //! - `reads STREAM` prints the outcome if the first read fails, if the second read fails, and so on, up to a read that
 //!   never happens. `writes SIZE STREAM` does the same for writes, each of at most SIZE bytes.
+//! - `logs SIZE STREAM` serves with a log whose first write fails, whose second write fails, and so on, up to a write
+//!   that never happens, each of at most SIZE bytes. An outcome is the code of the error, the numbers of whole replies
+//!   and of bytes behind them, and what the log has.
 //! - `cuts STREAM` prints the outcome if two reads cut the stream behind its first byte, behind its second byte, and so
 //!   on, as `serve` does; and then the outcome if the second of these reads fails.
 //!
@@ -66,7 +69,7 @@ fn push_outcome(alloc: Global, given: &mut Given, row: &str, line: &mut Line) {
         "start" => given.start(alloc, text, line),
         "world" => worlds::push_world(alloc, given.schema(), text, line),
         "context" => contexts::push_context(alloc, given.schema(), text, line),
-        "serve" | "reads" | "writes" | "cuts" => {
+        "serve" | "reads" | "writes" | "logs" | "cuts" => {
             streams::push_stream(alloc, given.schema(), word, text, line)
         }
         "prefixes" => prefixes::push_prefixes(alloc, given, text, line),

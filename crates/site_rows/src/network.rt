@@ -7,6 +7,7 @@ pub(crate) fn push_network(text: &str, line: &mut Line) {
     match text {
         "served read" => line.push_shown(&StreamFault::Read),
         "served write" => line.push_shown(&StreamFault::Write),
+        "served log" => line.push_shown(&StreamFault::Log),
         "served memory" => line.push_shown(&StreamFault::NoMemory),
         "read" => line.push_shown(&FetchFault::Read),
         "write" => line.push_shown(&FetchFault::Write),

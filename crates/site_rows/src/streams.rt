@@ -5,7 +5,7 @@ use crate::repeats::Repeats;
 use crate::replies::push_state;
 use crate::written::{first_word, number_of, push_escaped, push_unescaped, text_in};
 use entities::Schema;
-use http_service::{Fed, Kept, Plan, Site, SiteName, StreamFault, serve};
+use http_service::{Fed, Kept, Plan, Site, SiteName, StreamFault, serve, serve_logged};
 use plain::{NoMemory, Shared, beside};
 use std::alloc::Global;
 
@@ -112,6 +112,7 @@ fn push_fault(line: &mut Line, fault: Option<StreamFault>) {
         None => line.push(b"-, "),
         Some(StreamFault::Read) => line.push(b"70, "),
         Some(StreamFault::Write) => line.push(b"71, "),
+        Some(StreamFault::Log) => line.push(b"76, "),
         Some(StreamFault::NoMemory) => line.push(b"1, "),
     }
 }
@@ -217,9 +218,50 @@ fn push_each_cut(
     repeats.push_to(line);
 }
 
+/// Serves an empty site with a log and appends the error, the replies, and what the log has. Returns whether the log
+/// failed.
+fn push_served_logged(
+    alloc: Global,
+    schema: &Shared<Schema>,
+    stream: &Stream,
+    log: Plan<'_>,
+    line: &mut Line,
+) -> bool {
+    line.begin_part();
+    let Ok(mut site) = new_site(alloc, schema, SiteName::from_number(1)) else {
+        line.push(NO_MEMORY);
+        return false;
+    };
+    let mut reader = Fed::new(&stream.bytes, Plan::new(&stream.reads, None));
+    let mut writer = Kept::new(alloc, Plan::new(&[], None));
+    let mut log = Kept::new(alloc, log);
+    let fault = serve_logged(alloc, &mut site, &mut reader, &mut writer, &mut log).err();
+    push_fault(line, fault);
+    push_count(line, text_in(writer.bytes()));
+    push_escaped(line, log.bytes());
+    matches!(fault, Some(StreamFault::Log))
+}
+
+/// Serves a stream once for each write of the log, which fails, up to a write that never happens.
+fn push_logged_in_turn(
+    alloc: Global,
+    schema: &Shared<Schema>,
+    stream: &Stream,
+    size: usize,
+    line: &mut Line,
+) {
+    let writes = [size];
+    for number in 0..MOST {
+        let log = Plan::new(&writes, Some(number));
+        if !push_served_logged(alloc, schema, stream, log, line) {
+            break;
+        }
+    }
+}
+
 /// Returns the largest size of a write, and the string that describes the stream.
 fn size_and_text<'a>(word: &str, text: &'a str) -> (usize, &'a str) {
-    if word != "writes" {
+    if word != "writes" && word != "logs" {
         return (usize::MAX, text);
     }
     let (size, text) = first_word(text);
@@ -244,6 +286,7 @@ pub(crate) fn push_stream(
             push_each_cut(alloc, schema, &stream.bytes, false, line);
             push_each_cut(alloc, schema, &stream.bytes, true, line);
         }
+        Ok(stream) if word == "logs" => push_logged_in_turn(alloc, schema, &stream, size, line),
         Ok(stream) => push_in_turn(alloc, schema, word, &stream, size, line),
         Err(_) => line.push(NO_MEMORY),
     }

@@ -1,4 +1,4 @@
--- Defines that what is read under a schema has the types that the schema declares.
+-- Defines the theorem that what is read under a schema has the types that the schema declares.
 -- Source: cedar-spec, cedar-lean/Cedar/Validation/RequestEntityValidator.lean (`instanceOfType`,
 -- `instanceOfEntitySchema`, `instanceOfRequestType`).
 use Rattle.std.specs.Prelude.{◌≡◌, List, Contains, Ok}

@@ -1,4 +1,4 @@
--- Defines that what is read under a schema conforms to it, and that validation is sound over it.
+-- Defines the theorem that what is read under a schema conforms to it, and that validation is sound over it.
 -- Sources: cedar-spec, cedar-lean/Cedar/Validation/RequestEntityValidator.lean (`validateRequest`,
 -- `validateEntities`, by which `InstanceOfWellFormedEnvironment` holds) and cedar-lean/Cedar/Thm/Validation.lean
 -- (`validation_is_sound`).

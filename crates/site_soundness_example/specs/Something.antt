@@ -1,4 +1,4 @@
--- Defines that the example meets the premises of soundness: none of them is vacuous.
+-- Defines the theorem that the example meets the premises of soundness: none of them is vacuous.
 use Rattle.std.specs.Prelude.{[], ◌∷◌, true, Ok}
 use Rattle.values.specs.Values.{boolean}
 use Rattle.site_soundness.specs.policy_grammar.Whole.{expression_of}

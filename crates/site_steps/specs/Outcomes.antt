@@ -1,4 +1,4 @@
--- Defines that each input of a site has one outcome if there is memory: one reply, and one store.
+-- Defines the theorem that each input of a site has one outcome if there is memory: one reply, and one store.
 -- Rules of this product: a failed allocation is reported as such, and nothing else is left open.
 use Rattle.std.specs.Prelude.{◌≡◌, ℕ, List, Result, Ok, Err}
 use Rattle.site_store.specs.schema.Schemas.{StatedSchema}

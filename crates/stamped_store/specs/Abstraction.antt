@@ -1,5 +1,5 @@
--- What the entries of a map of the code show as a store: names without where they lie in memory, and
--- entries without what their texts were read as.
+-- Defines the abstract view of a map of the code: names without their addresses in memory, and entries without the
+-- parsed forms of their texts.
 use Rattle.std.specs.Prelude.{ℕ, max, List, [], ◌∷◌, map}
 use Rattle.std.specs.FinMap.{FinMap, from_entries}
 use Rattle.std.specs.declared.cmp.Ordering.{Ordering}
@@ -16,7 +16,7 @@ module _ {K N P : Type 0} (name : K → N) where
   abbrev pub abstract_map : {R : N → N → Ordering} → List (K × Entry P) → FinMap R PlainEntry
   abstract_map es = from_entries (abstract_entries es)
 
--- the greatest count of entries, and 0 of none
+-- `greatest_kept es` is the greatest count of these entries, 0 for none.
 abbrev pub greatest_kept : {K P : Type 0} → List (K × Entry P) → ℕ
 greatest_kept [] = 0
 greatest_kept (e ∷ es) = max e.1.stamp.count (greatest_kept es)

@@ -1,6 +1,7 @@
--- Entries as their stamp and body alone, and their order. A rule of this product: entries are ordered by count, then
--- site, then body; sites are ordered by the bytes of their names; nothing (a tombstone) is the least body; texts are
--- ordered by their bytes. Sites once had numbers (Raised), so an entry is one at sites of any type that has an order.
+-- Defines entries as a stamp and a body, and their order.
+-- Rules of this product: entries are ordered by count, then site, then body; sites are ordered by the bytes of their
+-- names; a tombstone is the least body; texts are ordered by their bytes. Sites once had numbers (Raised), so an
+-- entry has a site of any type with an order.
 use Rattle.std.specs.Prelude.{ℕ, List, Bool, Option, Some, None, if◌then◌else◌}
 use Rattle.std.specs.Ordering.{nat_cmp, ordering_then, is_le}
 use Rattle.std.specs.Cmp.Lexicographic.{slice_cmp}
@@ -9,59 +10,62 @@ use Rattle.std.specs.declared.cmp.Ordering.TheVariants.{Less, Equal, Greater}
 use Rattle.stamped_store.specs.declared.entry.Entry.{Entry}
 use Rattle.stamped_store.specs.declared.entry.ReadText.{ReadText}
 
--- an entry without what its text was read as: a stamp, and a body that is nothing or the bytes of a text
+-- An `EntryAt Site` is an entry without the parsed form of its text: a stamp, and a body that is the bytes of a text
+-- or a tombstone.
 pub record EntryAt (Site : Type 0) : Type 0 where
   pub count : ℕ
   pub site : Site
   pub body : Option (List ℕ)
 
--- an entry at a site with a name
+-- A `PlainEntry` is an entry of a named site.
 abbrev pub PlainEntry : Type 0
 PlainEntry = EntryAt (List ℕ)
 
+-- `body_bytes body` is the body without its parsed form.
 abbrev pub body_bytes : {P : Type 0} → Option (ReadText P) → Option (List ℕ)
 body_bytes None = None
 body_bytes (Some t) = Some t.text
 
+-- `plain_entry e` is the entry `e` without its parsed form.
 abbrev pub plain_entry : {P : Type 0} → Entry P → PlainEntry
 plain_entry e = record { count = e.stamp.count; site = e.stamp.site; body = body_bytes e.body }
 
--- nothing is the least body; texts go by their bytes
+-- `body_cmp a b` orders bodies: a tombstone is the least, and texts are ordered by their bytes.
 abbrev pub body_cmp : Option (List ℕ) → Option (List ℕ) → Ordering
 body_cmp None None = Equal
 body_cmp None (Some b) = Less
 body_cmp (Some a) None = Greater
 body_cmp (Some a) (Some b) = slice_cmp nat_cmp a b
 
--- by count, then site in the order of sites, then body
+-- `entry_cmp_by sites a b` orders entries by count, then by site in the order `sites`, then by body.
 abbrev pub entry_cmp_by : {Site : Type 0} → (Site → Site → Ordering) → EntryAt Site → EntryAt Site → Ordering
 entry_cmp_by sites a b =
     ordering_then (ordering_then (nat_cmp a.count b.count) (sites a.site b.site)) (body_cmp a.body b.body)
 
--- sites by the bytes of their names
+-- `site_cmp a b` orders sites by the bytes of their names.
 abbrev pub site_cmp : List ℕ → List ℕ → Ordering
 site_cmp a b = slice_cmp nat_cmp a b
 
--- by count, then site, then body
+-- `entry_cmp a b` orders entries by count, then site, then body.
 abbrev pub entry_cmp : PlainEntry → PlainEntry → Ordering
 entry_cmp a b = entry_cmp_by site_cmp a b
 
--- the greater of two in an order; of two that tie the first
+-- `greater_of cmp a b` is the greater of `a` and `b`; `a` if they are equal.
 abbrev pub greater_of : {V : Type 0} → (V → V → Ordering) → V → V → V
 greater_of cmp a b = if is_le (cmp b a) then a else b
 
--- the greater of two entries
+-- `greater_entry a b` is the greater of two entries.
 abbrev pub greater_entry : PlainEntry → PlainEntry → PlainEntry
 greater_entry a b = greater_of entry_cmp a b
 
--- the order of entries that were read: that of their stamps and bodies; what a text was read as doesn't count
+-- `read_cmp a b` orders entries by their stamps and bodies; parsed forms do not matter.
 abbrev pub read_cmp : {P : Type 0} → Entry P → Entry P → Ordering
 read_cmp a b = entry_cmp (plain_entry a) (plain_entry b)
 
--- the greater of two entries that were read
+-- `greater a b` is the greater of two entries with their parsed forms.
 abbrev pub greater : {P : Type 0} → Entry P → Entry P → Entry P
 greater a b = greater_of read_cmp a b
 
--- a is at most b
+-- `entry_below a b` tests whether `a` is at most `b`.
 abbrev pub entry_below : {P : Type 0} → Entry P → Entry P → Bool
 entry_below a b = is_le (read_cmp a b)

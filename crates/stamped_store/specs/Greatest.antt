@@ -1,5 +1,5 @@
--- The store of a set of updates: each name has the greatest entry that the updates have for it. An entry is here of any
--- type, and which is the greater is asked of an order.
+-- Defines the store of a set of updates: each name has the greatest entry that the updates have for it, for any type
+-- of entry with an order.
 use Rattle.std.specs.Prelude.{◌≡◌, ℕ, max, List, [], ◌∷◌, ◌++◌, Option, Some, None, true, if◌then◌else◌}
 use Rattle.std.specs.List.{Contains}
 use Rattle.std.specs.Ordering.{eq_by_cmp, is_le}
@@ -9,40 +9,42 @@ use Rattle.stamped_store.specs.Joins.{option_below}
 use Rattle.stamped_store.specs.EntryOrder.{PlainEntry, greater_of}
 use Rattle.stamped_store.specs.Stored.{joined_onto}
 
--- the greatest count among entries
+-- `max_count es` is the greatest count of the entries `es`.
 abbrev pub max_count : {N : Type 0} → List (N × PlainEntry) → ℕ
 max_count [] = 0
 max_count (e ∷ es) = max e.1.count (max_count es)
 
--- the greatest count in a store, 0 for the empty one
+-- `greatest_count s` is the greatest count in the store `s`, 0 if it is empty.
 abbrev pub greatest_count : {N : Type 0} {R : N → N → Ordering} → FinMap R PlainEntry → ℕ
 greatest_count s = max_count (entries s)
 
 module _ {N V : Type 0} (cmp : V → V → Ordering) where
-  -- the updates have no entry for the name, or this is one of theirs and none of theirs is greater
+  -- `IsGreatestAt us q e` holds if `e` is the greatest entry that the updates `us` have for `q`, or `None` if they
+  -- have none.
   abbrev pub IsGreatestAt : List (N × V) → N → Option V → Type 0
   IsGreatestAt us q None = (e : V) → ¬ (Contains us (q, e))
   IsGreatestAt us q (Some e) = Contains us (q, e) × ((f : V) → Contains us (q, f) → is_le (cmp f e) ≡ true)
 
-  -- each name has the greatest entry that the updates have for it, and no other name has one
+  -- `IsStoreOf us s` holds if each name has in `s` the greatest entry that the updates `us` have for it, and no other
+  -- name has one.
   abbrev pub IsStoreOf : {R : N → N → Ordering} → List (N × V) → FinMap R V → Type 0
   IsStoreOf us s = (q : N) → IsGreatestAt us q (get s q)
 
-  -- each name of s is a name of t, with an entry at least as great
+  -- `IsStoreBelow s t` holds if each name of `s` has an entry in `t` that is at least as great.
   abbrev pub IsStoreBelow : {R : N → N → Ordering} → FinMap R V → FinMap R V → Type 0
   IsStoreBelow s t = (q : N) → option_below (λ a b. is_le (cmp a b)) (get s q) (get t q) ≡ true
 
 module _ {N V : Type 0} (cmp : V → V → Ordering) (R : N → N → Ordering) where
-  -- the store of the updates, one after another
+  -- `store_of us` is the store of the updates `us`, applied one after another.
   abbrev pub store_of : List (N × V) → FinMap R V
   store_of [] = empty
   store_of (u ∷ us) = insert (store_of us) u.0 (joined_onto (greater_of cmp) (get (store_of us) u.0) u.1)
 
-  -- the join of two stores: the store of the updates of both
+  -- `joined_stores s t` is the join of two stores: the store of the updates of both.
   abbrev pub joined_stores : FinMap R V → FinMap R V → FinMap R V
   joined_stores s t = store_of (entries s ++ entries t)
 
-  -- the greatest entry that the updates have for a name
+  -- `greatest_at us q` is the greatest entry that the updates `us` have for `q`.
   abbrev pub greatest_at : List (N × V) → N → Option V
   greatest_at [] q = None
   greatest_at (u ∷ us) q = if eq_by_cmp R q u.0 then Some (joined_onto (greater_of cmp) (greatest_at us q) u.1)

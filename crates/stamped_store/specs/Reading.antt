@@ -1,5 +1,5 @@
--- What the texts of a store were read as: a fact of each entry and its name.
--- A rule of this product: beside each text stands what it was read as, so that nothing is read a second time.
+-- Defines a fact about the parsed forms of a store's texts, for each entry and its name.
+-- Rules of this product: each text is stored with its parsed form, so that nothing is parsed twice.
 use Rattle.std.specs.Prelude.{ℕ, List, Option, Some, None, string_bytes}
 use Rattle.std.specs.List.{AllByRecursion}
 use Rattle.values.specs.declared.entity_uid.EntityUid.{EntityUid}
@@ -7,20 +7,22 @@ use Rattle.stamped_store.specs.declared.entry.Entry.{Entry}
 use Rattle.stamped_store.specs.declared.entry.ReadText.{ReadText}
 use Rattle.stamped_store.specs.Store.{StoreEntries}
 
--- F holds of each value and its name; a key shows its name by `name`, which leaves out where the key lies in memory
+-- `AllNamed name F es` holds if `F` holds of each value and its name; `name` maps a key to its name, without its
+-- address in memory.
 abbrev pub AllNamed : {K N V : Type 0} → (K → N) → (N → V → Type 0) → List (K × V) → Type 0
 AllNamed name F es = AllByRecursion (λ e. F (name e.0) e.1) es
 
--- a body is nothing, or a text with what it is read as beside it
+-- `IsBodyRead Reads body` holds if `body` is a tombstone, or a text with its parsed form.
 abbrev pub IsBodyRead : {P : Type 0} → (List ℕ → P → Type 0) → Option (ReadText P) → Type 0
 IsBodyRead Reads None = Unit {0}
 IsBodyRead Reads (Some t) = Reads t.text t.read
 
--- an entry whose text, if it has one, is read as what stands beside it
+-- `IsEntryRead Reads e` holds if the text of the entry `e`, if there is one, has its parsed form.
 abbrev pub IsEntryRead : {P : Type 0} → (List ℕ → P → Type 0) → Entry P → Type 0
 IsEntryRead Reads e = IsBodyRead Reads e.body
 
--- each text in a store is read as what stands beside it; what it may be read as depends on its name
+-- `AreEntriesRead Policies Entities k` holds if each text of the store `k` has its parsed form; which forms it may
+-- have depends on its name.
 pub record AreEntriesRead {P E : Type 0} (Policies : List ℕ → List ℕ → P → Type 0)
     (Entities : EntityUid → List ℕ → E → Type 0) (k : StoreEntries P E) : Type 0 where
   pub policies : AllNamed string_bytes (λ id. IsEntryRead (Policies id)) k.policies

@@ -1,6 +1,6 @@
--- Names of sites. A rule of this product: 1 to 32 bytes, each an ASCII letter, a digit, `-`, `_` or `.`. So a name
--- stands as it is in a command line, a path, a JSON text and a line of a log, and it is short enough to lie within a
--- stamp.
+-- Defines names of sites.
+-- Rules of this product: 1 to 32 bytes, each an ASCII letter, a digit, `-`, `_` or `.`. So a name needs no quoting in
+-- a command line, a path, a JSON text and a line of a log, and it is short enough to be part of a stamp.
 use Prim.Native.Char.{code}
 use Rattle.std.specs.Prelude.{◌≡◌, ◌↔◌, ◌≤◌, ◌<◌, ◌-◌, ℕ, Bool, true, ◌&&◌, ◌||◌, ◌==◌, nat_le}
 use Rattle.std.specs.Prelude.{List, [], ◌∷◌, ◌++◌, ◌+◌, ◌*◌, length, drop, take, replicate}
@@ -9,20 +9,21 @@ use Rattle.std.specs.Fmt.{decimal}
 use Rattle.std.specs.Str.{IsUtf8}
 use Rattle.plain.specs.Words.{AllAre, is_word_byte}
 
--- an ASCII letter, a digit, `_`, `-` or `.`
+-- `is_site_byte c` tests for an ASCII letter, a digit, `_`, `-` or `.`.
 unfoldable pub is_site_byte : ℕ → Bool
 is_site_byte c = is_word_byte c || ((c == code "-") || (c == code "."))
 
+-- `IsSiteName name` holds if `name` is the name of a site.
 pub record IsSiteName (name : List ℕ) : Type 0 where
   pub some : 1 ≤ length name
   pub short : length name ≤ 32
   pub bytes : AllAre is_site_byte name
 
--- the same, computed
+-- `is_site_name name` is the same, computed.
 unfoldable pub is_site_name : List ℕ → Bool
 is_site_name name = (nat_le 1 (length name) && nat_le (length name) 32) && list_all is_site_byte name
 
--- what crates above ask: the test is exact, names are texts, and (below) five digits are a name
+-- Theorems for higher crates: the test is exact, names are valid UTF-8, and (below) five digits are a name.
 abbrev pub SiteTestIsExact : Type 0
 SiteTestIsExact = (name : List ℕ) → (is_site_name name ≡ true) ↔ IsSiteName name
 
@@ -31,32 +32,33 @@ SiteNamesAreTexts = (name : List ℕ) → IsSiteName name → IsUtf8 name
 
 -- ---- the name of a site that had a number
 
--- a number below 100,000 in decimal, with zeros in front up to five digits
+-- `five_digits n` is a number below 100,000 in decimal, with leading zeros up to five digits.
 abbrev pub five_digits : ℕ → List ℕ
 five_digits n = replicate (5 - length (decimal n)) (code "0") ++ decimal n
 
+-- `SiteDigitsAreNames`: five digits are the name of a site.
 abbrev pub SiteDigitsAreNames : Type 0
 SiteDigitsAreNames = (n : ℕ) → n < 100000 → IsSiteName (five_digits n)
 
--- ---- how a name is kept
+-- ---- representation of a name
 
--- a name, and zeros behind it up to 32 bytes
+-- `padded name` is `name`, followed by zeros up to 32 bytes.
 abbrev pub padded : List ℕ → List ℕ
 padded name = name ++ drop (length name) (replicate 32 0)
 
--- what is always true of 32 bytes that keep a name of this length
+-- `KeepsName bytes len` is the invariant of 32 bytes that hold a name of this length.
 pub record KeepsName (bytes : List ℕ) (len : ℕ) : Type 0 where
   pub named : IsSiteName (take len bytes)
   pub counted : length (take len bytes) ≡ len
   pub whole : bytes ≡ padded (take len bytes)
 
--- ---- how names are compared
+-- ---- comparison of names
 
--- the number that bytes spell behind what was read, the first weighing most
+-- `spelt n bs` is the big-endian number of the bytes `bs` after those of `n`.
 abbrev pub spelt : ℕ → List ℕ → ℕ
 spelt n [] = n
 spelt n (b ∷ bs) = spelt (n * 256 + b) bs
 
--- the eight bytes from this place on, as a number
+-- `word_at at bytes` are the eight bytes from the offset `at` on, as a number.
 abbrev pub word_at : ℕ → List ℕ → ℕ
 word_at at bytes = spelt 0 (take 8 (drop at bytes))

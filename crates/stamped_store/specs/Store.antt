@@ -1,4 +1,4 @@
--- The store of a site: at each name (policies before entities) at most one entry.
+-- Defines the store of a site: at each name (policies before entities) at most one entry.
 use Rattle.std.specs.Prelude.{◌≡◌, ◌≢◌, ℕ, ◌+◌, ◌-◌, Bool, List, ◌++◌, length, take, Option, string_bytes}
 use Rattle.std.specs.FinMap as map
 use Rattle.std.specs.Ordering.{is_le}
@@ -17,110 +17,112 @@ use Rattle.stamped_store.specs.Greatest as updates_of
 use Rattle.stamped_store.specs.Stored.{all_taken}
 use Rattle.stamped_store.specs.Abstraction.{abstract_entries}
 
--- a store at sites of this type
+-- `StoreAt Site` are stores with sites of this type.
 abbrev pub StoreAt : Type 0 → Type 0
 StoreAt Site = map.FinMap name_cmp (EntryAt Site)
 
--- a store at sites with names
+-- A `Store` has named sites.
 abbrev pub Store : Type 0
 Store = StoreAt (List ℕ)
 
--- an update: a name, and an entry for it
+-- `UpdateAt Site` are updates: a name, and an entry for it.
 abbrev pub UpdateAt : Type 0 → Type 0
 UpdateAt Site = Name × EntryAt Site
 
--- an update at a site with a name
+-- An `Update` has a named site.
 abbrev pub Update : Type 0
 Update = UpdateAt (List ℕ)
 
--- a store as the set of its own updates, in the order of the names
+-- `updates s` are the updates of the store `s`, in the order of the names.
 abbrev pub updates : Store → List Update
 updates s = map.entries s
 
--- The greatest-stamp store of a set of updates: at each name the greatest of the entries that they have for it, by
--- count, then site, then body, nothing being the least body (EntryOrder). It is built one update after another
--- (Greatest); that the entry is the greatest, whatever their order, is the law `updates_have_one_store`.
+-- `store_of us` is the store of the updates `us`, the join of the updates (last writer wins): at each name the
+-- greatest of the entries that they have for it, by count, then site, then body, a tombstone being the least body
+-- (EntryOrder). It is built one update after another (Greatest); that the entry is the greatest, whatever their
+-- order, is the theorem `updates_have_one_store`.
 abbrev pub store_of : List Update → Store
 store_of us = updates_of.store_of entry_cmp name_cmp us
 
--- each name has the greatest entry that the updates have for it, and no other name has one
+-- `IsStoreOf us s` holds if each name has in `s` the greatest entry that the updates `us` have for it, and no other
+-- name has one.
 abbrev pub IsStoreOf : List Update → Store → Type 0
 IsStoreOf us s = updates_of.IsStoreOf entry_cmp us s
 
--- the store of the first k names
+-- `first_names k s` is the store of the first `k` names of `s`.
 abbrev pub first_names : ℕ → Store → Store
 first_names k s = store_of (take k (updates s))
 
--- a is at most b
+-- `plain_below a b` tests whether the entry `a` is at most `b`.
 abbrev pub plain_below : PlainEntry → PlainEntry → Bool
 plain_below a b = is_le (entry_cmp a b)
 
--- each name of s is a name of t, with an entry at least as great
+-- `IsStoreBelow s t` holds if each name of `s` has an entry in `t` that is at least as great.
 abbrev pub IsStoreBelow : Store → Store → Type 0
 IsStoreBelow s t = updates_of.IsStoreBelow entry_cmp s t
 
--- each name apart from this one has the entry that it had
+-- `KeepsOtherNames name old new` holds if each name other than `name` keeps its entry.
 abbrev pub KeepsOtherNames : Name → Store → Store → Type 0
 KeepsOtherNames name old new = (q : Name) → q ≢ name → map.get new q ≡ map.get old q
 
--- j is above s and t, and below every store that is above both
+-- `IsStoreJoin s t j` holds if `j` is the least upper bound of `s` and `t`.
 abbrev pub IsStoreJoin : Store → Store → Store → Type 0
 IsStoreJoin = IsLeastAbove IsStoreBelow
 
--- the join of two stores, which is their merge: the store of the updates of both
+-- `joined_stores s t` is the join of two stores, which is their merge: the store of the updates of both.
 abbrev pub joined_stores : Store → Store → Store
 joined_stores s t = updates_of.joined_stores entry_cmp name_cmp s t
 
--- one more than the greatest count in the whole store, at the site of this name
+-- `issue s site` is the next stamp at `site`: one more than the greatest count in the whole store.
 abbrev pub issue : Store → List ℕ → Stamp
 issue s site = record { count = updates_of.greatest_count s + 1; site = site }
 
--- the entry that a local command makes: an issued stamp, and a body
+-- `issued stamp body` is the entry of a local command: an issued stamp, and a body.
 abbrev pub issued : Stamp → Option (List ℕ) → PlainEntry
 issued stamp body = record { count = stamp.count; site = stamp.site; body = body }
 
--- ---- what the code keeps, and the store that it stands for
+-- ---- the concrete store, and the abstract store that it represents
 
--- what the code keeps: policies by id and entities by uid, each ascending
+-- `StoreEntries P E` are the concrete entries: policies by id and entities by uid, each ascending.
 pub record StoreEntries (P E : Type 0) : Type 0 where
   pub policies : List (String Global × Entry P)
   pub entities : List (EntityUid × Entry E)
 
--- what is kept of these policies and entities
+-- `kept ps es` are the concrete entries of these policies and entities.
 abbrev pub kept : {P E : Type 0} → List (String Global × Entry P) → List (EntityUid × Entry E) → StoreEntries P E
 kept ps es = record { policies = ps; entities = es }
 
--- the name of the policy whose id has these bytes
+-- `policy_name bytes` is the name of the policy whose id has these bytes.
 abbrev pub policy_name : List ℕ → Name
 policy_name bytes = Policy bytes
 
--- the name of the policy with this id
+-- `id_name id` is the name of the policy with this id.
 abbrev pub id_name : String Global → Name
 id_name id = Policy (string_bytes id)
 
--- the name of an entity
+-- `entity_name uid` is the name of the entity `uid`.
 abbrev pub entity_name : EntityUid → Name
 entity_name uid = Entity uid
 
--- the updates of what is kept: policies, then entities
+-- `abstract_updates k` are the updates of the concrete entries `k`: policies, then entities.
 abbrev pub abstract_updates : {P E : Type 0} → StoreEntries P E → List Update
 abstract_updates k = abstract_entries id_name k.policies ++ abstract_entries entity_name k.entities
 
--- the store that what is kept stands for
+-- `abstract_store k` is the abstraction function: the store that the concrete entries `k` represent.
 abbrev pub abstract_store : {P E : Type 0} → StoreEntries P E → Store
 abstract_store k = map.from_entries (abstract_updates k)
 
--- k, with each entry of l joined in turn
+-- `all_kept k l` is `k`, with each entry of `l` joined in turn.
 abbrev pub all_kept : {P E : Type 0} → StoreEntries P E → StoreEntries P E → StoreEntries P E
 all_kept k l = kept (all_taken string_cmp greater k.policies l.policies)
     (all_taken uid_cmp greater k.entities l.entities)
 
--- the entries of the first n names: policies come first
+-- `first_kept n k` are the entries of the first `n` names of `k`: policies come first.
 abbrev pub first_kept : {P E : Type 0} → ℕ → StoreEntries P E → StoreEntries P E
 first_kept n k = kept (take n k.policies) (take (n - length k.policies) k.entities)
 
--- what is always true of what the code keeps: the count beside it is the greatest, and its updates are those of the
--- store, in order
+-- `IsCounted k greatest` is the invariant of the concrete store: `greatest` is its greatest count, and its updates
+-- are those of the abstract store, in order.
 pub record IsCounted {P E : Type 0} (k : StoreEntries P E) (greatest : ℕ) : Type 0 where
   pub counted : greatest ≡ updates_of.greatest_count (abstract_store k)
   pub in_order : updates (abstract_store k) ≡ abstract_updates k

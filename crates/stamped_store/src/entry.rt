@@ -1,4 +1,4 @@
-//! Entries of the store: a stamp, and a text or nothing.
+//! Entries of the store: a stamp, and a text or a tombstone.
 ghost use Rattle.std.specs.Prelude.{Some, refl};
 ghost use Rattle.std.specs.Ordering.{is_eq};
 ghost use Rattle.std.specs.Cmp.{partial_equiv_from_equiv, partial_order_from_agreeing_total};
@@ -10,34 +10,34 @@ use crate::{Join, SiteName};
 use plain::Text;
 use std::cmp::Ordering;
 
-/// When and where an entry was issued: ordered by count, then by the bytes of the site's name.
+/// When and where an entry was issued: a Lamport timestamp. Ordered by count, then by the bytes of the site's name.
 #[derive(Clone, Copy, PartialEq, Eq, PartialOrd, Ord)]
 pub struct Stamp {
-    /// Any count may stand here; a message with one that is not from 1 to 10^18 is refused where it is read.
+    /// The count. Any is allowed here; a message with one outside 1 to 10^18 is rejected when it is parsed.
     pub count: u64,
     /// The name of the site.
     pub site: SiteName,
 }
 
-/// A text, and what it was read as. No order and no equality looks at the latter.
+/// A text with its parsed form, which orders and equalities ignore.
 #[derive(Drop)]
 pub struct ReadText<P> {
     /// The text itself.
     pub text: Text,
-    /// What it was read as.
+    /// Its parsed form.
     pub read: P,
 }
 
-/// A stamp and a body: nothing (a tombstone), or a text.
+/// A stamp and a body: a text, or a tombstone.
 #[derive(Drop)]
 pub struct Entry<P> {
     /// When and where the entry was issued.
     pub stamp: Stamp,
-    /// None is a tombstone: the name is taken, and nothing stands there.
+    /// `None` is a tombstone: the name is deleted.
     pub body: Option<ReadText<P>>,
 }
 
-/// Entries are equal where their stamps and bodies are.
+/// Entries are equal if their stamps and bodies are.
 impl<P> PartialEq for Entry<P> {
     ghost eq = { λ a b. is_eq (read_cmp a b) };
 
@@ -62,7 +62,8 @@ impl<P> PartialOrd for Entry<P> {
     }
 }
 
-/// By count, then site, then body: nothing is the least body, and texts go by their bytes. Takes no memory.
+/// Orders entries by count, then site, then body: a tombstone is the least body, and texts are ordered by their
+/// bytes. Does not allocate.
 impl<P> Ord for Entry<P> {
     ghost cmp = { read_cmp };
 
@@ -86,7 +87,7 @@ impl<P> Ord for Entry<P> {
     }
 }
 
-/// Entries are joined by keeping the greater.
+/// The join of two entries is the greater.
 impl<P: Drop> Join for Entry<P> {
     ghost is_below = { entry_below };
 
@@ -94,13 +95,13 @@ impl<P: Drop> Join for Entry<P> {
 
     ghost laws = { greater_is_join };
 
-    // At its callers, so that no entry is moved for a call.
+    // Inlined, so that no entry is moved for a call.
     #[inline(always)]
     fn below(&self, other: &Entry<P>) -> bool {
         self.cmp(other).is_le()
     }
 
-    // The greater entry stays, and of two equal ones this one.
+    // The greater entry stays; of two equal ones, this one.
     #[inline(always)]
     fn join(&mut self, other: Entry<P>) {
         if !other.below(self) {

@@ -1,4 +1,4 @@
-//! Laws of entries, of joins and of stores, each by the contract of a function that does nothing.
+//! Theorems about entries, joins and stores, each as the contract of a function without effect.
 ghost use Rattle.std.specs.Prelude.{◌≡◌, ◌↔◌, ◌≤◌, ◌<◌, ◌⊎◌, ◌++◌, ◌∷◌, [], true, ℕ, List, Option, Some, max};
 ghost use Rattle.std.specs.Prelude.{string_bytes};
 ghost use Rattle.std.specs.Option.{option_map};
@@ -30,8 +30,8 @@ ghost use Rattle.stamped_store.specs.Raised.{raise, raise_store};
 
 use crate::{Entry, Join, Readings};
 
-/// The order of entries is total, entries that tie are one, and the greater of two entries is their join: associative,
-/// commutative, idempotent, and the least above both.
+/// Proves that the order of entries is total and antisymmetric, and that the greater of two entries is their join:
+/// associative, commutative, idempotent, and their least upper bound. No-op.
 pub fn entries_are_joined()
     ensures total { IsTotalOrder entry_cmp }
     ensures exact { IsAntisymmetric entry_cmp }
@@ -42,8 +42,8 @@ pub fn entries_are_joined()
     ensures least { (a b : PlainEntry) → IsLeastAbove (λ x y. plain_below x y ≡ true) a b (greater_entry a b) }
 {}
 
-/// What an entry's text was read as plays no part: joined entries are joined as stamps and bodies, and two entries are
-/// below each other exactly where their stamps and bodies are equal.
+/// Proves that the parsed form of a text does not matter: entries are joined by their stamps and bodies, and two
+/// entries are at most each other if and only if their stamps and bodies are equal. No-op.
 pub fn read_entries_are_joined<P: Drop>()
     ensures laws { IsJoin (λ (a b : Entry P). entry_below a b ≡ true) greater }
     ensures plain { (a b : Entry P) → plain_entry (greater a b) ≡ greater_entry (plain_entry a) (plain_entry b) }
@@ -51,20 +51,24 @@ pub fn read_entries_are_joined<P: Drop>()
         ↔ (plain_entry a ≡ plain_entry b) }
 {}
 
-/// Each implementation of `Join` has an order, and a join that is associative, commutative, idempotent and least above
-/// both, equality being below both ways.
+/// Proves that each implementation of `Join` has an order, and a join that is associative, commutative, idempotent
+/// and the least upper bound, up to being at most each other. No-op.
 pub fn joins_have_laws<V: Join>()
     ensures { IsJoin (λ a b. V.is_below a b ≡ true) V.joined }
 {}
 
-/// So has the join of stores, which are seen as what they have at each key.
+/// Proves the same of the join of stores, each seen as its value at each key. No-op.
 pub fn stamped_are_joined<K: Ord, V: Join>()
     ensures { IsJoin (IsBelowAt {K = K} V.is_below) (joined_at V.joined) }
 {}
 
-/// The store of a set of updates gives each of their names the greatest entry that they have for it. It is the only one
-/// that does; order, repeats and grouping of the updates do not matter; a store is that of its own updates; and the
-/// store of two sets together is the join of their stores.
+/// Proves that a set of updates has exactly one store, the join of the updates. No-op.
+///
+/// - `greatest`, `only`: this store has, for each name, the greatest entry that the updates have for it, and is the
+///   only one that does.
+/// - `same_updates`, `grouped`: order, repeats and grouping of the updates do not matter.
+/// - `own`: a store is that of its own updates.
+/// - `union`: the store of two lists of updates together is the join of their stores.
 pub fn updates_have_one_store()
     ensures greatest { (us : List Update) → IsStoreOf us (store_of us) }
     ensures only { (us : List Update) (s : Store) → IsStoreOf us s → s ≡ store_of us }
@@ -75,8 +79,8 @@ pub fn updates_have_one_store()
     ensures union { (us vs : List Update) → IsStoreJoin (store_of us) (store_of vs) (store_of (us ++ vs)) }
 {}
 
-/// The join of stores over names is associative, commutative and idempotent, and the only least store above both;
-/// stores that are below each other are one.
+/// Proves that the join of stores over names is associative, commutative and idempotent, and the only least upper
+/// bound; and that stores that are at most each other are equal. No-op.
 pub fn stores_are_joined()
     ensures associative { (s t u : Store) → joined_stores (joined_stores s t) u ≡ joined_stores s (joined_stores t u) }
     ensures commutative { (s t : Store) → joined_stores s t ≡ joined_stores t s }
@@ -86,8 +90,12 @@ pub fn stores_are_joined()
     ensures equal { (s t : Store) → IsStoreBelow s t → IsStoreBelow t s → s ≡ t }
 {}
 
-/// The greatest count is at least that of each entry, and is that of one where it isn't 0; that of a join is the
-/// greater of the two; and an entry with an issued stamp is the greatest at its name.
+/// Proves how stamps are issued. No-op.
+///
+/// - `greatest`, `reached`: the greatest count is at least that of each entry, and is that of some entry unless it is
+///   0.
+/// - `joined`: the greatest count of a join is the greater of the two.
+/// - `stays`: an entry with an issued stamp wins at its name.
 pub fn stamps_are_issued()
     ensures greatest { (s : Store) (u : Update) → Contains (updates s) u → u.1.count ≤ greatest_count s }
     ensures reached { (s : Store) → (greatest_count s ≡ 0)
@@ -98,7 +106,8 @@ pub fn stamps_are_issued()
         ≡ Some (issued (issue s site) body) }
 {}
 
-/// The policies of a store are exactly those whose name has a text, each with that text, and so are its entities.
+/// Proves that the policies of a store are exactly those whose name has a text, each with that text, and so are its
+/// entities. No-op.
 pub fn contents_are_told()
     ensures policies { (s : Store) (id text : List ℕ) → Contains (policies_of s) (id, text)
         ↔ (text_under s (policy_name id) ≡ Some text) }
@@ -106,9 +115,12 @@ pub fn contents_are_told()
         ↔ (text_under s (entity_name uid) ≡ Some text) }
 {}
 
-/// A delta has exactly the entries of its store that are news to the summary. Joined into a store, a delta that was
-/// made against the summary of this store, or of what it was once, leaves what the whole store would leave, as long as
-/// equal stamps mean equal entries.
+/// Proves what a delta is, and that it may replace the whole store. No-op.
+///
+/// - `news`: a delta has exactly the entries of its store that the summary lacks or has with a smaller stamp.
+/// - `summary`: a summary has the stamp of each entry of its store.
+/// - `whole`: joined into a store, a delta against a summary of this store, or of one that is at most this one (an
+///   earlier state of it), has the same effect as the whole other store, if equal stamps mean equal entries.
 pub fn deltas_are_joined()
     ensures news { (t : Store) (m : Summary) (q : Name) (e : PlainEntry) → (get (delta t m) q ≡ Some e)
         ↔ ((get t q ≡ Some e) × (is_unseen (value_at name_cmp m q) (Some e) ≡ true)) }
@@ -117,9 +129,10 @@ pub fn deltas_are_joined()
         → joined_stores s (delta t (summary_of old)) ≡ joined_stores s t }
 {}
 
-/// Proves that each text of a store was read as what stands beside it, under its name, stays so: it holds of the empty
-/// store, after a policy or an entity is taken whose own text was so read, and after a merge of two such stores, whole
-/// or cut short.
+/// Proves that, once each text of a store has its parsed form, under its name, this stays so. No-op.
+///
+/// It holds of the empty store, after a policy or an entity with its own parsed form is applied, and after a merge of
+/// two such stores, whole or cut short.
 pub fn readings_are_kept<P: Drop, E: Drop, R: Readings<P, E>>()
     ensures empty { (r : R) → AreEntriesRead {P = P} {E = E} (R.reads_policy r) (R.reads_entity r) (kept [] []) }
     ensures policy { (r : R) (k : StoreEntries P E) (id : String Global) (entry : Entry P)
@@ -140,8 +153,8 @@ pub fn readings_are_kept<P: Drop, E: Drop, R: Readings<P, E>>()
         → AreEntriesRead (R.reads_policy r) (R.reads_entity r) (all_kept k (first_kept n l)) }
 {}
 
-/// The test tells exactly the names of sites, and a name is a text. A number's five digits are a name; they are ordered
-/// as the numbers that they are of, and tell these apart.
+/// Proves that the test accepts exactly the names of sites, and that a name is valid UTF-8; that the five digits of a
+/// number are a name; and that these are ordered as the numbers, and are equal only for equal numbers. No-op.
 pub fn site_names_are_told()
     ensures tested { SiteTestIsExact }
     ensures texts { SiteNamesAreTexts }
@@ -151,9 +164,15 @@ pub fn site_names_are_told()
     ensures apart { (m n : ℕ) → m < 100000 → n < 100000 → five_digits m ≡ five_digits n → m ≡ n }
 {}
 
-/// A store of sites with numbers is the one store of its updates, as a store of sites with names is, and the join of
-/// two is the least above both. Where each number is one that a site had, the store of raised updates is the raised
-/// store, which has exactly the raised updates, and the raise of a join is the join of the raised stores.
+/// Proves that stores of numbered sites correspond to those of named sites. No-op.
+///
+/// - `greatest`, `only`: such a store is the only store of its updates, as one of named sites is.
+/// - `least`: the join of two is their least upper bound.
+///
+/// If each number is one that a site had (`updates` needs no such condition):
+///
+/// - `store`, `updates`: the store of raised updates is the raised store, which has exactly the raised updates.
+/// - `joined`, `join`: the raise of a join is the join of the raised stores.
 pub fn stores_are_raised()
     ensures greatest { (us : List NumberedUpdate) → IsNumberedStoreOf us (numbered_store_of us) }
     ensures only { (us : List NumberedUpdate) (s : NumberedStore) → IsNumberedStoreOf us s → s ≡ numbered_store_of us }

@@ -1,8 +1,8 @@
 //! Stamps, entries, joins, and stores that keep the greatest entry at each name.
 //!
-//! An entry is a stamp and a body: nothing, or a text. Entries are ordered, and a store joins what it takes at a name
-//! with what is there: the greater stays. So the store of a set of updates depends on no order, repeat or grouping in
-//! which they came.
+//! An entry is a stamp and a body: a text or a tombstone. Entries are ordered, and a store joins each applied entry
+//! with the one at its name: the greater stays. So the store of a set of updates does not depend on their order,
+//! repeats or grouping.
 #![tactic(auto)]
 
 mod entry;

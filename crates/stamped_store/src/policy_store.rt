@@ -27,10 +27,10 @@ use values::EntityUid;
 /// The greatest count of a stamp: 10^18.
 pub const COUNT_MAX: u64 = 1_000_000_000_000_000_000;
 
-/// The store of a site: the entries of policies by id, with what their texts were read as (a P), and those of entities
-/// by uid (an E).
+/// The store of a site: the entries of policies by id, with parsed forms of type `P`, and those of entities by uid,
+/// with parsed forms of type `E`.
 ///
-/// Contracts see the entries, and the store over names that they show: policies come before entities.
+/// Contracts see these entries, and the abstract store over names: policies come before entities.
 #[derive(Drop)]
 pub struct StampedStore<P: Drop, E: Drop> {
     policies: Stamped<String, Entry<P>>,
@@ -50,7 +50,7 @@ impl<P: Drop, E: Drop> Model for StampedStore<P, E> {
 }
 
 impl<P: Drop, E: Drop> StampedStore<P, E> {
-    /// Returns the empty store. Takes no memory.
+    /// Creates an empty store. Does not allocate.
     pub fn new(alloc: Global) -> Self
         ensures kept { result ≡ kept [] [] }
         ensures empty { abstract_store result ≡ store_of [] }
@@ -62,7 +62,7 @@ impl<P: Drop, E: Drop> StampedStore<P, E> {
         }
     }
 
-    /// Returns the entry of the policy of this id, if there is one, in logarithmic time and without memory.
+    /// Returns the entry of the policy of this id, if there is one. O(log n). Does not allocate.
     pub fn get_policy(&self, id: &str) -> Option<&Entry<P>>
         ensures kept { option_copied result ≡ value_at_text self.now.policies id.now }
         ensures shown { option_map plain_entry (option_copied result) ≡ get (abstract_store self.now)
@@ -71,7 +71,7 @@ impl<P: Drop, E: Drop> StampedStore<P, E> {
         policy_at(&self.policies, id)
     }
 
-    /// Returns the entry of the entity of this uid, if there is one, in logarithmic time and without memory.
+    /// Returns the entry of the entity of this uid, if there is one. O(log n). Does not allocate.
     pub fn get_entity(&self, uid: &EntityUid) -> Option<&Entry<E>>
         ensures kept { option_copied result ≡ value_at uid_cmp self.now.entities uid.now }
         ensures shown { option_map plain_entry (option_copied result)
@@ -100,15 +100,15 @@ impl<P: Drop, E: Drop> StampedStore<P, E> {
         self.entities.iter()
     }
 
-    /// Returns the greatest count in the whole store, and 0 for the empty one, in constant time.
+    /// Returns the greatest count in the whole store, 0 if it is empty. O(1).
     pub fn greatest_count(&self) -> u64
         ensures { result ≡ greatest_count (abstract_store self.now) }
     {
         self.greatest
     }
 
-    /// Returns the stamp of the next local command at a site: one more than the greatest count in the whole store, and
-    /// the site's name.
+    /// Returns the stamp of the next local command at a site: one more than the greatest count in the whole store,
+    /// with the site's name. The greatest count must be less than [`COUNT_MAX`].
     pub fn issue(&self, site: SiteName) -> Stamp
         requires { greatest_count (abstract_store self.now) < COUNT_MAX }
         ensures { result ≡ issue (abstract_store self.now) site }
@@ -119,8 +119,9 @@ impl<P: Drop, E: Drop> StampedStore<P, E> {
         }
     }
 
-    /// Joins an entry at a policy's id, in logarithmic time. Every other name keeps its entry. Where memory is refused,
-    /// the id and the entry come back and nothing changes.
+    /// Joins an entry at a policy's id. Every other name keeps its entry. O(log n).
+    ///
+    /// If an allocation fails, returns the id and the entry, and the store is unchanged.
     pub fn take_policy(&mut self, id: String, entry: Entry<P>) -> Result<(), (String, Entry<P>)>
         ensures ok { OnOk result (abstract_store self.new
             ≡ store_of (updates (abstract_store self.old) ++ (policy_name (string_bytes id), plain_entry entry) ∷ [])) }
@@ -135,8 +136,9 @@ impl<P: Drop, E: Drop> StampedStore<P, E> {
         Ok(())
     }
 
-    /// Joins an entry at an entity's uid, in logarithmic time. Every other name keeps its entry. Where memory is
-    /// refused, the uid and the entry come back and nothing changes.
+    /// Joins an entry at an entity's uid. Every other name keeps its entry. O(log n).
+    ///
+    /// If an allocation fails, returns the uid and the entry, and the store is unchanged.
     pub fn take_entity(
         &mut self,
         uid: EntityUid,
@@ -155,8 +157,12 @@ impl<P: Drop, E: Drop> StampedStore<P, E> {
         Ok(())
     }
 
-    /// Leaves the join of both stores. Where memory is refused, the entries of the other store's first names have been
-    /// joined (policies come before entities), and its rest is dropped.
+    /// Replaces this store by the join of both.
+    ///
+    /// # Errors
+    ///
+    /// - `Short`: an allocation failed. The entries of the first `taken` names of the other store were joined
+    ///   (policies come before entities), and the rest of it is dropped.
     pub fn merge(&mut self, other: Self) -> Result<(), Short>
         ensures ok { OnOk result
             (IsStoreJoin (abstract_store self.old) (abstract_store other) (abstract_store self.new)) }
@@ -184,8 +190,8 @@ impl<P: Drop, E: Drop> StampedStore<P, E> {
         Ok(())
     }
 
-    /// Returns whether each name of this store is a name of the other, with an entry there that is at least as great.
-    /// Takes no memory.
+    /// Returns whether each name of this store has an entry in the other that is at least as great. Does not
+    /// allocate.
     pub fn below(&self, other: &Self) -> bool
         ensures { IsTrue result ↔ IsStoreBelow (abstract_store self.now) (abstract_store other.now) }
     {
@@ -195,14 +201,14 @@ impl<P: Drop, E: Drop> StampedStore<P, E> {
 
 // The store's calls are these on its two maps.
 
-// The entry of the policy of this id.
+// Returns the entry of the policy of this id.
 fn policy_at<'s, P: Drop>(policies: &'s Stamped<String, Entry<P>>, id: &str) -> Option<&'s Entry<P>>
     ensures { option_copied result ≡ value_at_text policies.now id.now }
 {
     policies.get_str(id)
 }
 
-// The entry of the entity of this uid.
+// Returns the entry of the entity of this uid.
 fn entity_at<'s, E: Drop>(
     entities: &'s Stamped<EntityUid, Entry<E>>,
     uid: &EntityUid,
@@ -212,7 +218,7 @@ fn entity_at<'s, E: Drop>(
     entities.get(uid)
 }
 
-// Joins an entry at a key, and answers the greatest count from then on.
+// Joins an entry at a key, and returns the greatest count afterwards.
 fn take_counted<K: Ord + Drop, P: Drop>(
     entries: &mut Stamped<K, Entry<P>>,
     key: K,
@@ -229,7 +235,7 @@ fn take_counted<K: Ord + Drop, P: Drop>(
     Ok(greater_count(greatest, count))
 }
 
-// Whether each key of the first is a key of the second, with an entry there that is at least as great.
+// Returns whether each key of the first has an entry in the second that is at least as great.
 fn all_below<K: Ord + Drop, P: Drop>(
     first: &Stamped<K, Entry<P>>,
     second: &Stamped<K, Entry<P>>,
@@ -239,7 +245,7 @@ fn all_below<K: Ord + Drop, P: Drop>(
     first.below(second)
 }
 
-// Want of memory after this many names of policies.
+// Returns a failed allocation after this many names of policies.
 fn short_behind(before: usize, short: Short) -> Short
     requires { before + short.taken < 2 ^ 64 }
     ensures { result.taken ≡ before + short.taken }
@@ -264,7 +270,7 @@ fn greatest_of_both<P: Drop, E: Drop>(
     greatest_of(policies).max(greatest_of(entities))
 }
 
-// The greatest count of these entries, and 0 of none.
+// Returns the greatest count of these entries, 0 for none.
 fn greatest_of<K: Ord + Drop, P: Drop>(entries: &Stamped<K, Entry<P>>) -> u64
     ensures { result ≡ greatest_kept entries.now }
 {

@@ -12,18 +12,18 @@ use plain::words::{digit, letter};
 use std::cmp::Ordering;
 use std::marker::Model;
 
-/// The greatest number of bytes of a site's name.
+/// The most bytes of a site's name.
 const NAME_MAX: usize = 32;
 
-/// The name of a site: 1 to 32 bytes, each an ASCII letter, a digit, `-`, `_` or `.`. Contracts see it as its bytes.
+/// The name of a site: 1 to 32 bytes, each an ASCII letter, a digit, `-`, `_` or `.`. Contracts see its bytes.
 ///
-/// It is taken as it stands: `1` is another site than `00001`. Names are equal where their bytes are, and ordered by
-/// bytes. A name is `Copy` and takes no memory.
+/// Names are compared as they are: `1` is another site than `00001`. They are equal if their bytes are, and ordered
+/// by bytes. A name is `Copy` and does not allocate.
 #[derive(Clone, Copy)]
 pub struct SiteName {
-    // The name, and zeros behind it.
+    // The name, followed by zeros.
     bytes: [u8; NAME_MAX],
-    // How many bytes the name has.
+    // The number of bytes of the name.
     len: u8,
 }
 
@@ -44,14 +44,14 @@ impl Model for SiteName {
     ghost inverse_ok = { λ s h i. record { bytes = sym h.whole i; len = h.counted i } };
 }
 
-// Whether a site's name may have this byte.
+// Returns whether a site's name may contain this byte.
 fn is_name_byte(byte: u8) -> bool
     ensures { result ≡ is_site_byte byte }
 {
     (letter(byte) || digit(byte)) || (byte == b'-' || byte == b'.')
 }
 
-// Whether a site's name may have each of these bytes.
+// Returns whether a site's name may contain each of these bytes.
 fn are_name_bytes(bytes: &[u8]) -> bool
     ensures { result ≡ list_all is_site_byte bytes.now }
 {
@@ -63,7 +63,7 @@ fn are_name_bytes(bytes: &[u8]) -> bool
     true
 }
 
-// Whether these bytes are the name of a site.
+// Returns whether these bytes are the name of a site.
 #[tactic(auto, unfolding(crate::specs::SiteNames::is_site_name))]
 fn is_name(bytes: &[u8]) -> bool
     ensures { result ≡ is_named bytes.now }
@@ -71,8 +71,8 @@ fn is_name(bytes: &[u8]) -> bool
     1 <= bytes.len() && bytes.len() <= NAME_MAX && are_name_bytes(bytes)
 }
 
-/// Returns whether a text is the name of a site: 1 to 32 bytes, each an ASCII letter, a digit, `-`, `_` or `.`. Takes
-/// no memory.
+/// Returns whether a string is the name of a site: 1 to 32 bytes, each an ASCII letter, a digit, `-`, `_` or `.`.
+/// Does not allocate.
 #[tactic(auto, using(crate::proofs::SiteNames::names_are_told))]
 pub fn is_site_name(text: &str) -> bool
     ensures computed { result ≡ is_named text.now }
@@ -82,7 +82,7 @@ pub fn is_site_name(text: &str) -> bool
 }
 
 impl SiteName {
-    /// Returns the site of this name; [`is_site_name`] tells whether a text is one. Takes no memory.
+    /// Returns the site of this name, for which [`is_site_name`] must hold. Does not allocate.
     pub fn new(name: &str) -> SiteName
         requires { IsSiteName name.now }
         ensures { result ≡ name.now }
@@ -95,7 +95,7 @@ impl SiteName {
         }
     }
 
-    /// Returns the site whose name this text is, or None where it is no site's name. Takes no memory.
+    /// Returns the site of this name, or `None` if the string is not a site's name. Does not allocate.
     pub fn parse(text: &str) -> Option<SiteName>
         ensures { MatchOption result (IsSiteName text.now → ⊥) (λ n. IsSiteName text.now × (n ≡ text.now)) }
     {
@@ -106,8 +106,8 @@ impl SiteName {
         }
     }
 
-    /// Returns the name of the site that had this number: five digits, with zeros in front. Numbers of sites went from
-    /// 1 to 65,535; of 0, which no site had, it is `00000`. Takes no memory.
+    /// Returns the name of the site that had this number: five digits, with leading zeros. Numbers of sites were 1 to
+    /// 65,535; 0, which no site had, gives `00000`. Does not allocate.
     pub fn from_number(number: u16) -> SiteName
         ensures { result ≡ five_digits number }
     {
@@ -120,7 +120,7 @@ impl SiteName {
         SiteName { bytes, len: 5 }
     }
 
-    /// Returns the bytes of the name. Takes no memory.
+    /// Returns the bytes of the name. Does not allocate.
     pub fn as_bytes(&self) -> &[u8]
         ensures bytes { result.now ≡ self.now }
         ensures named { IsSiteName self.now }
@@ -128,7 +128,7 @@ impl SiteName {
         &self.bytes[..self.len as usize]
     }
 
-    /// Returns the name as a text. Takes no memory.
+    /// Returns the name as a string. Does not allocate.
     pub fn as_str(&self) -> &str
         ensures text { result.now ≡ self.now }
         ensures named { IsSiteName self.now }
@@ -141,10 +141,10 @@ impl SiteName {
     }
 }
 
-// Names are compared by words of eight bytes, of which a name has four with the zeros behind it: as numbers in which
-// the first byte weighs most, these are ordered as their bytes, and no byte of a name is 0.
+// Names are compared by words of eight bytes, of which a name with its trailing zeros has four. As big-endian numbers
+// these are ordered as their bytes, and no byte of a name is 0.
 impl SiteName {
-    // The eight bytes at this place, as a number.
+    // The eight bytes at this offset, as a number.
     fn word(&self, at: usize) -> u64
         requires { at + 8 ≤ 32 }
         ensures spelt { result ≡ word_at at (padded self.now) }
@@ -163,7 +163,7 @@ impl SiteName {
         ])
     }
 
-    // How the words of two names at this place are ordered.
+    // How the words of two names at this offset compare.
     fn word_cmp(&self, other: &SiteName, at: usize) -> Ordering
         requires { at + 8 ≤ 32 }
         ensures ordered { result ≡ nat_cmp (word_at at (padded self.now)) (word_at at (padded other.now)) }
@@ -173,7 +173,7 @@ impl SiteName {
     }
 }
 
-// The digit of a number's last place, in ASCII.
+// The last digit of a number, in ASCII.
 fn last_digit(number: u16) -> u8
     ensures { result ≡ 48 + number % 10 }
 {
@@ -214,7 +214,7 @@ impl Ord for SiteName {
 
     ghost matches_eq = { λ s t. refl };
 
-    // Apart from its callers, of which most find unequal counts before they ask for this.
+    // Not inlined: most callers find unequal counts before they call this.
     #[inline(never)]
     fn cmp(&self, other: &SiteName) -> Ordering {
         let first = self.word_cmp(other, 0);

@@ -1,4 +1,4 @@
-//! Maps from names to values that can be joined, the greater of which stays.
+//! Maps from names to values with a join, of which the join is kept.
 ghost use Rattle.std.specs.Prelude.{◌≡◌, ◌↔◌, ◌<◌, ◌+◌, ◌^◌, [], length, take, Some, IfErr, IfOk, OnOk, OnErr, IsTrue};
 ghost use Rattle.std.specs.Option.{option_copied};
 ghost use Rattle.std.specs.List.Sorted.{IsStrictlySortedBy};
@@ -16,12 +16,12 @@ use std::collections::btree_map::Iter;
 use std::marker::Model;
 use thiserror::Error;
 
-/// Want of memory in a merge: exactly the entries of the first `taken` keys of the other store were joined, and its
-/// rest was dropped.
+/// A failed allocation in a merge: exactly the entries of the first `taken` keys of the other store were joined, and
+/// the rest of it was dropped.
 #[derive(Clone, Copy, PartialEq, Eq, Debug, Error)]
 #[error("out of memory after {taken} entries")]
 pub struct Short {
-    /// How many keys of the other store, from its least on, have their entries in the join.
+    /// How many keys of the other store, from its least on, were joined.
     pub taken: usize,
 }
 
@@ -42,7 +42,7 @@ impl<K: Ord, V: Join> Model for Stamped<K, V> {
 }
 
 impl<K: Ord + Drop, V: Join + Drop> Stamped<K, V> {
-    /// Returns the empty store. Takes no memory.
+    /// Creates an empty map. Does not allocate.
     pub fn new(alloc: Global) -> Self
         ensures { result ≡ [] }
     {
@@ -51,7 +51,7 @@ impl<K: Ord + Drop, V: Join + Drop> Stamped<K, V> {
         }
     }
 
-    // How many keys have a value.
+    // Returns how many keys have a value.
     pub(crate) fn len(&self) -> usize
         ensures len { result ≡ length self.now }
         ensures small { result < 2 ^ 63 }
@@ -60,14 +60,14 @@ impl<K: Ord + Drop, V: Join + Drop> Stamped<K, V> {
         self.map.len()
     }
 
-    /// Returns the value at the key, if it has one, in logarithmic time and without memory.
+    /// Returns the value at the key, if there is one. O(log n). Does not allocate.
     pub fn get(&self, key: &K) -> Option<&V>
         ensures { option_copied result ≡ value_at K.cmp self.now key.now }
     {
         self.map.get(key)
     }
 
-    /// Returns the entries, in the ascending order of their keys.
+    /// Returns the entries, ascending by their keys.
     pub fn iter(&self) -> Iter<'_, K, V>
         ensures rest { result ≡ self.now }
         ensures runs { ShowsInOrder (deref_pair {K = K} {X = V}) }
@@ -77,8 +77,9 @@ impl<K: Ord + Drop, V: Join + Drop> Stamped<K, V> {
         self.map.iter()
     }
 
-    /// Joins the value at the key, in logarithmic time, and keeps every other key's value. Where memory is refused, the
-    /// key and the value come back and nothing changes.
+    /// Joins a value at a key. Every other key keeps its value. O(log n).
+    ///
+    /// If an allocation fails, returns the key and the value, and the map is unchanged.
     pub fn take(&mut self, key: K, value: V) -> Result<(), (K, V)>
         ensures ok { OnOk result (self.new ≡ taken K.cmp V.joined self.old key value) }
         ensures at_key { OnOk result
@@ -95,9 +96,13 @@ impl<K: Ord + Drop, V: Join + Drop> Stamped<K, V> {
         Ok(())
     }
 
-    /// Leaves the join of both stores: the least store above both. Takes logarithmic time for each key of the other
-    /// store, whose keys and values are moved. Where memory is refused, the entries of its first keys have been joined,
-    /// and the rest is dropped.
+    /// Replaces this map by the join of both: their least upper bound. Takes logarithmic time for each key of the
+    /// other map, whose keys and values are moved.
+    ///
+    /// # Errors
+    ///
+    /// - `Short`: an allocation failed. The entries of the first `taken` keys of the other map were joined, and the
+    ///   rest of it is dropped.
     pub fn merge(&mut self, other: Self) -> Result<(), Short>
         ensures ok { OnOk result (IsLeastAbove (IsBelow K.cmp V.is_below) self.old other self.new) }
         ensures ok_values { OnOk result (IsJoined K.cmp V.joined self.old other self.new) }
@@ -119,7 +124,7 @@ impl<K: Ord + Drop, V: Join + Drop> Stamped<K, V> {
         Ok(())
     }
 
-    // Joins one more value of another store, after this many, and answers how many there are then.
+    // Joins the next value of another map, after this many, and returns how many were then joined.
     fn take_next(&mut self, count: usize, key: K, value: V) -> Result<usize, Short>
         requires { count < 2 ^ 63 }
         ensures count { IfOk result (λ n. n ≡ count + 1) }
@@ -133,8 +138,7 @@ impl<K: Ord + Drop, V: Join + Drop> Stamped<K, V> {
         }
     }
 
-    /// Returns whether each key is a key of the other store, with a value there that is at least as great. Takes no
-    /// memory.
+    /// Returns whether each key has a value in the other map that is at least as great. Does not allocate.
     pub fn below(&self, other: &Self) -> bool
         ensures { IsTrue result ↔ IsBelow K.cmp V.is_below self.now other.now }
     {
@@ -146,7 +150,7 @@ impl<K: Ord + Drop, V: Join + Drop> Stamped<K, V> {
         true
     }
 
-    // Whether the key has a value at least as great as this one.
+    // Returns whether the key has a value at least as great as this one.
     fn has_above(&self, key: &K, value: &V) -> bool
         ensures { result ≡ option_below V.is_below (Some value.now) (value_at K.cmp self.now key.now) }
     {
@@ -158,7 +162,7 @@ impl<K: Ord + Drop, V: Join + Drop> Stamped<K, V> {
 }
 
 impl<V: Join + Drop> Stamped<String, V> {
-    /// Returns the value at the key of these characters, if it has one, in logarithmic time and without memory.
+    /// Returns the value at the key with these characters, if there is one. O(log n). Does not allocate.
     pub fn get_str(&self, text: &str) -> Option<&V>
         ensures { option_copied result ≡ value_at_text self.now text.now }
     {
@@ -166,7 +170,7 @@ impl<V: Join + Drop> Stamped<String, V> {
     }
 }
 
-// Gives a key its value, whether it had one or not. Where memory is refused, both come back.
+// Sets the value of a key, whether it had one or not. If an allocation fails, returns both.
 fn insert_new<K: Ord + Drop, V: Drop>(
     map: &mut BTreeMap<K, V>,
     key: K,

@@ -1,5 +1,5 @@
--- What a fetch tells, told of a pull's request.
-use Rattle.std.proofs.Common.{◌≡◌, ◌≢◌, ◌∙◌, ℕ, List, [], ◌++◌, length, Option, Some, refl, sym, ap, subst}
+-- What a fetch tells, told of a call's request.
+use Rattle.std.proofs.Common.{◌≡◌, ◌≢◌, ◌∙◌, ℕ, true, List, [], ◌++◌, length, Option, Some, None, refl, sym, ap, subst}
 use Rattle.std.proofs.Common.{append_assoc, append-nil}
 use Rattle.std.specs.Prelude.{codes, decimal}
 use Rattle.std.specs.Borrow.{Bor}
@@ -15,23 +15,69 @@ use Rattle.http_streams.specs.http_texts.RequestText.{request_start, length_fiel
 use Rattle.state_exchanges.specs.declared.fault.NetworkFault.{NetworkFault}
 use Rattle.state_exchanges.specs.declared.fault.NetworkFault.TheVariants as network
 use Rattle.state_exchanges.specs.declared.fault.PullFault.TheVariants.{Network}
-use Rattle.state_exchanges.specs.Requests.{delta_request}
+use Rattle.state_exchanges.specs.declared.asking.Call.{Call}
+use Rattle.state_exchanges.specs.declared.asking.Call.TheVariants as call
+use Rattle.http_streams.specs.http_texts.Parts.{is_method, is_target}
+use Rattle.state_exchanges.specs.Requests.{call_body, call_method, call_path, call_request, delta_request, merge_request, summary_request}
 use Rattle.state_exchanges.specs.Exchanges.{IsSent, IsRequestBegun, IsAnswered, IsUnanswered}
 use Rattle.state_exchanges.specs.inner.Faults.{pull_fault}
 
-start_is : (m p : List ℕ) → m ≡ codes "POST" → p ≡ codes "/v1/delta" → request_start m p ≡ codes "POST /v1/delta HTTP/1.1\r\nHost: "
-unfolding request_start
-start_is m p hm hp = ap (λ x. request_start x p) hm ∙ ap (λ y. request_start (codes "POST") y) hp
+-- its parts are those of a request
+pub method_is : (it : Call) → is_method (call_method it) ≡ true
+method_is call.Summary = refl
+method_is call.Delta = refl
+method_is call.Merge = refl
 
--- the text of the request, in one piece
-pub request_is : (ask : Ask) (s : Bor (List ℕ)) → ask.method.now ≡ codes "POST" → ask.path.now ≡ codes "/v1/delta" → ask.body ≡ Some s
-    → request_text ask ≡ delta_request ask.host.now s.now
-unfolding request_text length_field body_bytes delta_request
-request_is ask s hm hp hb =
+pub target_is : (it : Call) → is_target (call_path it) ≡ true
+target_is call.Summary = refl
+target_is call.Delta = refl
+target_is call.Merge = refl
+
+-- the text of a request with a body, in one piece
+posted : (ask : Ask) (s : Bor (List ℕ)) (start : List ℕ) → request_start ask.method.now ask.path.now ≡ start → ask.body ≡ Some s
+    → request_text ask ≡ start ++ ask.host.now ++ codes "\r\nContent-Length: " ++ decimal (length s.now) ++ codes "\r\nConnection: close\r\n\r\n" ++ s.now
+unfolding request_text length_field body_bytes
+posted ask s start hs hb =
     ap (λ (b : Option (Bor (List ℕ))). request_start ask.method.now ask.path.now ++ ask.host.now ++ length_field b ++ codes "\r\nConnection: close\r\n\r\n" ++ body_bytes b) hb
-    ∙ ap (λ (t : List ℕ). t ++ ask.host.now ++ (codes "\r\nContent-Length: " ++ decimal (length s.now)) ++ codes "\r\nConnection: close\r\n\r\n" ++ s.now) (start_is ask.method.now ask.path.now hm hp)
+    ∙ ap (λ (t : List ℕ). t ++ ask.host.now ++ (codes "\r\nContent-Length: " ++ decimal (length s.now)) ++ codes "\r\nConnection: close\r\n\r\n" ++ s.now) hs
     ∙ ap (λ (t : List ℕ). t ++ codes "\r\nConnection: close\r\n\r\n" ++ s.now)
-    (sym (append_assoc (codes "POST /v1/delta HTTP/1.1\r\nHost: " ++ ask.host.now) (codes "\r\nContent-Length: ") (decimal (length s.now))))
+    (sym (append_assoc (start ++ ask.host.now) (codes "\r\nContent-Length: ") (decimal (length s.now))))
+
+-- of one without
+bodiless : (ask : Ask) (start : List ℕ) → request_start ask.method.now ask.path.now ≡ start → ask.body ≡ None
+    → request_text ask ≡ start ++ ask.host.now ++ codes "\r\nConnection: close\r\n\r\n"
+unfolding request_text length_field body_bytes
+bodiless ask start hs hb =
+    ap (λ (b : Option (Bor (List ℕ))). request_start ask.method.now ask.path.now ++ ask.host.now ++ length_field b ++ codes "\r\nConnection: close\r\n\r\n" ++ body_bytes b) hb
+    ∙ ap (λ (t : List ℕ). t ++ ask.host.now ++ [] ++ codes "\r\nConnection: close\r\n\r\n" ++ []) hs
+    ∙ append-nil (start ++ ask.host.now ++ [] ++ codes "\r\nConnection: close\r\n\r\n")
+    ∙ ap (λ (t : List ℕ). t ++ codes "\r\nConnection: close\r\n\r\n") (append-nil (start ++ ask.host.now))
+
+start_of : (m p n q : List ℕ) → m ≡ n → p ≡ q → request_start m p ≡ request_start n q
+start_of m p n q hm hp = ap (λ x. request_start x p) hm ∙ ap (λ y. request_start n y) hp
+
+start_is : (n q s : List ℕ) → request_start n q ≡ s → (m p : List ℕ) → m ≡ n → p ≡ q → request_start m p ≡ s
+start_is n q s is m p hm hp = start_of m p n q hm hp ∙ is
+
+summary_start : request_start (codes "GET") (codes "/v1/summary") ≡ codes "GET /v1/summary HTTP/1.1\r\nHost: "
+unfolding request_start
+summary_start = refl
+
+delta_start : request_start (codes "POST") (codes "/v1/delta") ≡ codes "POST /v1/delta HTTP/1.1\r\nHost: "
+unfolding request_start
+delta_start = refl
+
+merge_start : request_start (codes "POST") (codes "/v1/merge") ≡ codes "POST /v1/merge HTTP/1.1\r\nHost: "
+unfolding request_start
+merge_start = refl
+
+-- the text of a call's request
+pub request_is : (it : Call) (ask : Ask) (s : Bor (List ℕ)) → ask.method.now ≡ call_method it → ask.path.now ≡ call_path it → ask.body ≡ call_body it s
+    → request_text ask ≡ call_request it ask.host.now s.now
+unfolding delta_request merge_request summary_request
+request_is call.Summary ask s hm hp hb = bodiless ask _ (start_is _ _ _ summary_start _ _ hm hp) hb
+request_is call.Delta ask s hm hp hb = posted ask s _ (start_is _ _ _ delta_start _ _ hm hp) hb
+request_is call.Merge ask s hm hp hb = posted ask s _ (start_is _ _ _ merge_start _ _ hm hp) hb
 
 -- where nothing was sent a first part of the request was, which is empty
 pub nothing_begun : {R W : Type 0} (left : R → Option (List ℕ)) (holds : W → Option (List ℕ)) (request : List ℕ) (r : R) (w : W)
@@ -52,6 +98,14 @@ never_of_host fetch.Write f told is = cc
 never_of_host fetch.BadReply f told is = cc
 never_of_host fetch.Ended f told is = cc
 never_of_host fetch.NoMemory f told is = cc
+
+-- nor of the size of its body
+pub never_of_size : (fault : FetchFault) (f : NetworkFault) → pull_fault fault ≡ Network f → f ≢ network.TooLarge
+never_of_size fetch.Read f told is = cc
+never_of_size fetch.Write f told is = cc
+never_of_size fetch.BadReply f told is = cc
+never_of_size fetch.Ended f told is = cc
+never_of_size fetch.NoMemory f told is = cc
 
 module _ {R W : Type 0} (left : R → Option (List ℕ)) (reads : R → ℕ → List ℕ → R → Type 0) (read_failed : R → ℕ)
     (read_fails : R → R → Type 0) (holds : W → Option (List ℕ)) (write_failed : W → ℕ)

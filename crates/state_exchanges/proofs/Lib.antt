@@ -1,3 +1,4 @@
+pub mod CountLemmas
 pub mod StoreLemmas
 pub mod MessageLemmas
 pub mod MergeLemmas

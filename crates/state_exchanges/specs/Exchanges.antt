@@ -1,8 +1,9 @@
 -- One request and its reply over a reader and a writer, or why there is no reply of status 200.
 -- Sources: RFC 9112, sections 3, 4 and 6; RFC 9110, section 15.3.1.
-use Rattle.std.specs.Prelude.{◌≡◌, ◌≢◌, ◌↔◌, ℕ, List, ◌++◌, Option, IsFalse}
+use Rattle.std.specs.Prelude.{◌≡◌, ◌≢◌, ◌↔◌, ◌<◌, ℕ, List, ◌++◌, Option, IsFalse, IsTrue}
 use Rattle.std.specs.Io.KnownBytes.{Appends, Consumes, IsAtEnd}
 use Rattle.http_streams.specs.http_devices.Devices.{FailsAtLast}
+use Rattle.http_streams.specs.http_framing.declared.TheConstants.{MAX_BODY}
 use Rattle.http_streams.specs.http_framing.Reply.{IsBadReply, IsUnfinishedReply, ReadsReply}
 use Rattle.http_streams.specs.http_texts.Parts.{is_host}
 use Rattle.http_streams.specs.Reads.{EndsByOneRead}
@@ -12,6 +13,10 @@ use Rattle.state_exchanges.specs.declared.fault.NetworkFault.TheVariants as netw
 -- the fault tells that the host is none exactly where it is none
 abbrev pub TellsOfHost : List ℕ → NetworkFault → Type 0
 TellsOfHost host fault = (fault ≡ network.NoHost) ↔ IsFalse (is_host host)
+
+-- the fault tells that a body of this length is longer than a site takes exactly where it is, and the host is one
+abbrev pub TellsOfSize : List ℕ → ℕ → NetworkFault → Type 0
+TellsOfSize host size fault = (fault ≡ network.TooLarge) ↔ (IsTrue (is_host host) × (MAX_BODY < size))
 
 module _ {R W : Type 0} (left : R → Option (List ℕ)) (holds : W → Option (List ℕ)) where
   -- the request was written, and this was read
@@ -45,12 +50,13 @@ module _ {R W : Type 0} (left : R → Option (List ℕ)) (reads : R → ℕ → 
 module _ {R W : Type 0} (left : R → Option (List ℕ)) (reads : R → ℕ → List ℕ → R → Type 0) (read_failed : R → ℕ)
     (read_fails : R → R → Type 0) (holds : W → Option (List ℕ)) (write_failed : W → ℕ)
     (write_fails : W → W → Type 0) where
-  -- why there is no reply of status 200: the host is none, and nothing was sent; a read failed, which was the last, and
-  -- less than a reply had come; a write failed, which was the last, and nothing was read; what came begins no reply
-  -- that can be read, which was not known before the last read; the input is at its end, as the last read told; or the
-  -- reply has another status
+  -- Why there is no reply of status 200: the host is none, or the body is too long, and nothing was sent; a read
+  -- failed, the last one, and less than a reply had come; a write failed, the last one, and nothing was read; what came
+  -- begins no reply that can be read, which was not known before the last read; the input is at its end, as the last
+  -- read reported; or the reply has another status.
   abbrev pub IsUnanswered : List ℕ → R → R → W → W → NetworkFault → Type 0
   IsUnanswered request r r2 w w2 network.NoHost = (r2 ≡ r) × (w2 ≡ w)
+  IsUnanswered request r r2 w w2 network.TooLarge = (r2 ≡ r) × (w2 ≡ w)
   IsUnanswered request r r2 w w2 network.Read = (bytes : List ℕ) × IsSent left holds request r r2 w w2 bytes
       × IsUnfinishedReply bytes × FailsAtLast read_failed read_fails r r2
   IsUnanswered request r r2 w w2 network.Write = IsRequestBegun left holds request r r2 w w2 × (r2 ≡ r)

@@ -1,3 +1,4 @@
+pub mod Counts
 pub mod Messages
 pub mod Merges
 pub mod Outcomes

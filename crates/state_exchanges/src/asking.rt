@@ -1,17 +1,17 @@
-//! The request for what is news, and its reply.
-ghost use Rattle.std.specs.Prelude.{◌≡◌, ◌≢◌, Err, IfOk, OnErr, IsTrue};
+//! The calls of an exchange: one request each, and its reply.
+ghost use Rattle.std.specs.Prelude.{◌≡◌, ◌≢◌, ◌≤◌, Err, IfOk, OnErr, IsTrue};
 ghost use Rattle.http_streams.specs.http_texts.Parts.{is_host};
 ghost use Rattle.schema_decisions.specs.answer_lines.declared.refusal.Refusal.{Refusal};
 ghost use Rattle.schema_decisions.specs.answer_lines.Refusals.{no_memory};
 ghost use Rattle.state_exchanges.specs.declared.fault.NetworkFault.{NetworkFault};
-ghost use Rattle.state_exchanges.specs.Requests.{delta_request};
-ghost use Rattle.state_exchanges.specs.Exchanges.{IsAnswered, IsUnanswered, IsRequestBegun, TellsOfHost};
+ghost use Rattle.state_exchanges.specs.Requests.{call_body, call_method, call_path, call_request, call_size};
+ghost use Rattle.state_exchanges.specs.Exchanges.{IsAnswered, IsUnanswered, IsRequestBegun, TellsOfHost, TellsOfSize};
 ghost use Rattle.state_exchanges.specs.inner.Faults.{pull_fault};
 
 use crate::fault::{NetworkFault, PullFault};
 use http::{Method, StatusCode};
 use http_streams::fetch::{FetchFault, fetch};
-use http_streams::{Ask, Sink, Source, is_host};
+use http_streams::{Ask, MAX_BODY, Sink, Source, is_host};
 use plain::NoMemory;
 use schema_decisions::Refusal;
 use std::alloc::Global;
@@ -28,40 +28,114 @@ fn pull_fault(fault: FetchFault) -> PullFault
     }
 }
 
-/// Posts a summary to another site, and answers the body of the reply, which has status 200.
-pub(crate) fn ask<R: Source, W: Sink>(
+/// What a site is asked for in an exchange.
+#[derive(Clone, Copy)]
+pub enum Call {
+    /// The site's summary: `GET /v1/summary`.
+    Summary,
+    /// A delta against a summary: `POST /v1/delta`.
+    Delta,
+    /// The merge of a message: `POST /v1/merge`.
+    Merge,
+}
+
+/// Returns the method of a call.
+fn call_method(call: Call) -> Method
+    ensures { result ≡ call_method call }
+{
+    match call {
+        Call::Summary => Method::GET,
+        Call::Delta => Method::POST,
+        Call::Merge => Method::POST,
+    }
+}
+
+/// Returns the path of a call.
+fn call_path(call: Call) -> &'static [u8]
+    ensures { result.now ≡ call_path call }
+{
+    match call {
+        Call::Summary => b"/v1/summary",
+        Call::Delta => b"/v1/delta",
+        Call::Merge => b"/v1/merge",
+    }
+}
+
+/// Returns what a call sends of a body.
+fn call_body(call: Call, body: &[u8]) -> Option<&[u8]>
+    ensures { result ≡ call_body call body.entry }
+{
+    match call {
+        Call::Summary => None,
+        Call::Delta => Some(body),
+        Call::Merge => Some(body),
+    }
+}
+
+/// Returns the number of bytes that a call sends of a body.
+fn call_size(call: Call, body: &[u8]) -> usize
+    ensures { result ≡ call_size call body.now }
+{
+    match call {
+        Call::Summary => 0,
+        Call::Delta => body.len(),
+        Call::Merge => body.len(),
+    }
+}
+
+/// Makes one call to the site behind a reader and a writer, and returns the body of the reply, which has status 200.
+///
+/// `host` is what the field `Host` says. `body` is the summary or the message that the call sends; a call for a summary
+/// sends none. After an error a first part of the request was sent, or all of it, or nothing.
+///
+/// # Errors
+///
+/// - `Network(NoHost)` (75): `host` is no host. Nothing was sent.
+/// - `Network(TooLarge)` (77): the body is longer than a site takes, 8,388,608 bytes. Nothing was sent.
+/// - `Refused` with code 1: out of memory, at any point.
+/// - `Network`: no reply of status 200 came (70 to 74).
+pub fn ask<R: Source, W: Sink>(
     alloc: Global,
+    call: Call,
     host: &[u8],
-    summary: &[u8],
+    body: &[u8],
     reader: &mut R,
     writer: &mut W,
 ) -> Result<Vec<u8>, PullFault>
-    ensures answered { IfOk result (λ body. IsAnswered R.left R.reads W.holds (delta_request host.now summary.now)
-        reader.old reader.new writer.old writer.new 200 body.items) }
+    ensures answered { IfOk result (λ reply. IsAnswered R.left R.reads W.holds (call_request call host.now body.now)
+        reader.old reader.new writer.old writer.new 200 reply.items) }
     ensures refused { (r : Refusal) → result ≡ Err (PullFault.Refused r) → r ≡ no_memory }
     ensures network { (f : NetworkFault) → result ≡ Err (PullFault.Network f)
-        → IsUnanswered R.left R.reads R.failed R.fails W.holds W.failed W.fails (delta_request host.now summary.now)
+        → IsUnanswered R.left R.reads R.failed R.fails W.holds W.failed W.fails (call_request call host.now body.now)
         reader.old reader.new writer.old writer.new f }
-    ensures err { OnErr result (IsRequestBegun R.left W.holds (delta_request host.now summary.now) reader.old reader.new
-        writer.old writer.new) }
+    ensures err { OnErr result (IsRequestBegun R.left W.holds (call_request call host.now body.now) reader.old
+        reader.new writer.old writer.new) }
     ensures host { IfOk result (λ _. IsTrue (is_host host.now)) }
     ensures no_host { (f : NetworkFault) → result ≡ Err (PullFault.Network f) → TellsOfHost host.now f }
+    ensures fits { IfOk result (λ _. call_size call body.now ≤ MAX_BODY) }
+    ensures too_large { (f : NetworkFault) → result ≡ Err (PullFault.Network f)
+        → TellsOfSize host.now (call_size call body.now) f }
     ensures reads { result ≢ Err (PullFault.Network NetworkFault.Read) → R.failed reader.new ≡ R.failed reader.old }
     ensures writes { result ≢ Err (PullFault.Network NetworkFault.Write) → W.failed writer.new ≡ W.failed writer.old }
 {
     if !is_host(host) {
         return Err(PullFault::Network(NetworkFault::NoHost));
     }
+    let size = call_size(call, body);
+    if size > MAX_BODY {
+        return Err(PullFault::Network(NetworkFault::TooLarge));
+    }
+    let method = call_method(call);
     let ask = Ask {
-        method: &Method::POST,
+        method: &method,
         host,
-        path: b"/v1/delta",
-        body: Some(summary),
+        path: call_path(call),
+        body: call_body(call, body),
     };
     match fetch(alloc, reader, writer, &ask) {
-        Ok((status, body)) => {
+        Ok((status, reply)) => {
             if status == StatusCode::OK.as_u16() {
-                return Ok(body);
+                return Ok(reply);
             }
             Err(PullFault::Network(NetworkFault::OtherStatus(status)))
         }

@@ -28,6 +28,9 @@ pub enum NetworkFault {
     /// The address has a byte that no field `Host` may have (75). Nothing was sent.
     #[error("network 75: no host")]
     NoHost,
+    /// The body is longer than a site takes (77). Nothing was sent.
+    #[error("network 77: request larger than a site takes")]
+    TooLarge,
 }
 
 /// Why nothing is pulled. There is no new state then.

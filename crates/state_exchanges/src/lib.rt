@@ -1,18 +1,21 @@
 //! States and deltas joined without a site: from the bytes of a schema and of two messages to the state of the store of
-//! the updates of both, or to the first refusal; and what is news to a site, asked of another over HTTP and joined into
-//! its state.
+//! the updates of both, or to the first refusal; what is news to a site, asked of another over HTTP and joined into
+//! its state; and the calls by which two sites exchange.
 //!
 //! Nothing here opens a socket or a file: the reader and the writer are any values of the traits `Source` and `Sink`,
 //! and the state is bytes.
 #![tactic(auto)]
 
 mod asking;
+mod counts;
 mod fault;
 mod joining;
 mod laws;
 mod merging;
 mod pulling;
 
+pub use asking::{Call, ask};
+pub use counts::is_taken_line;
 pub use fault::{NetworkFault, PullFault};
 pub use http_streams::serve::StreamFault;
 pub use http_streams::{Counted, Kept, Plan, Sink, Source};

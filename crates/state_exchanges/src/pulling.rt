@@ -9,11 +9,11 @@ ghost use Rattle.schema_decisions.specs.answer_lines.declared.refusal.Refusal.{R
 ghost use Rattle.schema_decisions.specs.answer_lines.Refusals.{no_memory};
 ghost use Rattle.state_exchanges.specs.Messages.{IsMessageRefused, IsSendable};
 ghost use Rattle.state_exchanges.specs.declared.fault.NetworkFault.{NetworkFault};
-ghost use Rattle.state_exchanges.specs.Requests.{Holds, IsReady, request_for};
-ghost use Rattle.state_exchanges.specs.Exchanges.{IsAnswered, IsUnanswered, IsRequestBegun, TellsOfHost};
+ghost use Rattle.state_exchanges.specs.Requests.{Holds, IsReady, request_for, summary_size};
+ghost use Rattle.state_exchanges.specs.Exchanges.{IsAnswered, IsUnanswered, IsRequestBegun, TellsOfHost, TellsOfSize};
 ghost use Rattle.state_exchanges.specs.Pulls.{IsPulled, IsRefusedFirst, IsStateRefused};
 
-use crate::asking::ask;
+use crate::asking::{Call, ask};
 use crate::fault::PullFault;
 use crate::joining::{Joined, join_message, state_of};
 use http_streams::{Sink, Source};
@@ -105,11 +105,13 @@ fn news_for<R: Source, W: Sink>(
         writer.new) }
     ensures host { IfOk result (λ _. IsTrue (is_host host.now)) }
     ensures no_host { (f : NetworkFault) → result ≡ Err (PullFault.Network f) → TellsOfHost host.now f }
+    ensures too_large { (f : NetworkFault) → result ≡ Err (PullFault.Network f)
+        → TellsOfSize host.now (summary_size (schema_view schema.now) (abstract_store store.now)) f }
     ensures reads { result ≢ Err (PullFault.Network NetworkFault.Read) → R.failed reader.new ≡ R.failed reader.old }
     ensures writes { result ≢ Err (PullFault.Network NetworkFault.Write) → W.failed writer.new ≡ W.failed writer.old }
 {
     match write_summary(alloc, schema.label(), store) {
-        Ok(summary) => ask(alloc, host, &summary, reader, writer),
+        Ok(summary) => ask(alloc, Call::Delta, host, &summary, reader, writer),
         Err(_) => Err(PullFault::from(NoMemory)),
     }
 }
@@ -142,6 +144,8 @@ fn pull_under<R: Source, W: Sink>(
         writer.new) }
     ensures host { IfOk result (λ _. IsTrue (is_host host.now)) }
     ensures no_host { (f : NetworkFault) → result ≡ Err (PullFault.Network f) → TellsOfHost host.now f }
+    ensures too_large { (f : NetworkFault) → result ≡ Err (PullFault.Network f)
+        → TellsOfSize host.now (summary_size (schema_view schema.now) (abstract_store store)) f }
     ensures reads { result ≢ Err (PullFault.Network NetworkFault.Read) → R.failed reader.new ≡ R.failed reader.old }
     ensures writes { result ≢ Err (PullFault.Network NetworkFault.Write) → W.failed writer.new ≡ W.failed writer.old }
 {
@@ -159,9 +163,10 @@ fn pull_under<R: Source, W: Sink>(
 /// in it on this side, and none is named: nothing is stamped.
 ///
 /// Refused in this order: the schema (20 to 25, without a place), the state (50 to 56, with its place and the number of
-/// the refusal inside), and a host that is none (75), all before anything is sent; the network's faults (70 to 73, or a
-/// reply of another status than 200); the message that came (50 to 56). `NoMemory` (1) may come at any point, also when
-/// the updates are taken. After any of these there is no new state.
+/// the refusal inside), a host that is none (75) and a summary that is longer than a site takes (77), all before
+/// anything is sent; the network's faults (70 to 73, or a reply of another status than 200); the message that came (50
+/// to 56). `NoMemory` (1) may come at any point, also when the updates are taken. After any of these there is no new
+/// state.
 pub fn pull_over<R: Source, W: Sink>(
     alloc: Global,
     schema: &[u8],
@@ -198,9 +203,12 @@ pub fn pull_over<R: Source, W: Sink>(
         ⊎ ((s : StatedSchema) × (m : Store) × IsReady schema.now (option_map (λ b. b.now) state.entry) s m
         × IsRequestBegun R.left W.holds (request_for host.now s m) reader.old reader.new writer.old writer.new)) }
 
-    // The host is one, or it is told that it is none.
+    // The host is one, or it is told that it is none; and so of a summary that is longer than a site takes.
     ensures host { IfOk result (λ _. IsTrue (is_host host.now)) }
     ensures no_host { (f : NetworkFault) → result ≡ Err (PullFault.Network f) → TellsOfHost host.now f }
+    ensures too_large { (f : NetworkFault) → result ≡ Err (PullFault.Network f) → (s : StatedSchema) × (m : Store)
+        × IsReady schema.now (option_map (λ b. b.now) state.entry) s m
+        × TellsOfSize host.now (summary_size s m) f }
 
     // No failure of a device is passed over.
     ensures reads { result ≢ Err (PullFault.Network NetworkFault.Read) → R.failed reader.new ≡ R.failed reader.old }

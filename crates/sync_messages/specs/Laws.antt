@@ -1,4 +1,4 @@
--- Defines that each text has exactly one outcome under a schema.
+-- Defines the theorem that each text has exactly one outcome under a schema.
 use Rattle.std.specs.Prelude.{ℕ, List}
 use Rattle.values.specs.declared.entity_uid.EntityUid.{EntityUid}
 use Rattle.validator.specs.entities.schema.Schemas.{StatedSchema}

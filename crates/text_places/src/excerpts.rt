@@ -1,4 +1,4 @@
-//! The lines that show a place.
+//! The lines that show a place in a text.
 ghost use Rattle.std.specs.Prelude.{◌≡◌, ◌-◌, ◌++◌, [], length, chars, decimal, OnOk, OnErr, string_bytes};
 ghost use Rattle.std.specs.Prelude.{slice_index_or};
 ghost use Rattle.std.specs.Str.Lines.{lines};
@@ -10,7 +10,7 @@ use plain::NoMemory;
 use std::alloc::Global;
 use std::iter::repeat_n;
 
-// The most characters of a line that are shown, and how many of them may stand before the place.
+// The most characters of a line that are shown, and how many of them may be before the place.
 const WIDTH: usize = 160;
 
 const LEAD: usize = 80;
@@ -18,11 +18,11 @@ const LEAD: usize = 80;
 // Which characters of a line are shown, counted from the line's beginning.
 #[derive(Clone, Copy)]
 struct Cut {
-    // how many the line has
+    // The number of characters of the line.
     len: usize,
-    // how many stand before the place
+    // The number of characters before the place.
     place: usize,
-    // how many are cut before what is shown, and where that ends
+    // The number of characters cut before the shown part, and where that ends.
     before: usize,
     end: usize,
 }
@@ -150,18 +150,18 @@ fn push_caret_row(
     Ok(())
 }
 
-/// Appends the lines that show a place of a text: where it is in `file`, its line, and carets under `span` characters
-/// from it on, at least one, but none behind what is shown of the line. `place` is one that [`place_of`] gave for
-/// `text`; of another line or column it shows what the text has there.
+/// Appends the lines that show a place of a text: its position in `file`, its line, and carets under it.
 ///
-/// Tabs, also before carets, are tabs. Control characters and those that turn the direction of writing are shown as
-/// U+FFFD. Of a line longer than 160 characters so many are shown, round the place, `..` where it is cut.
+/// There are carets under `span` characters from the place on, at least one, but none past the shown part of the
+/// line. `place` is one that [`place_of`] returned for `text`; for another line or column it shows what the text has
+/// there. Tabs, also before carets, are tabs. Control characters and those that change the direction of writing are
+/// shown as U+FFFD. Of a line longer than 160 characters, 160 are shown, around the place, with `..` where it is cut.
 ///
 /// O(length of `text` and of `file`).
 ///
 /// # Errors
 ///
-/// `NoMemory`; `out` is then as it was.
+/// - `NoMemory`: an allocation failed. `out` is then unchanged.
 ///
 /// [`place_of`]: crate::place_of
 pub fn push_excerpt(

@@ -1,6 +1,6 @@
-//! Where a byte of a text is, as a person counts: its line, its column, and the lines that show it.
+//! The line and column of a byte of a text, and the lines that show it.
 //!
-//! A refusal names a byte of a text; by this crate it is explained to whoever wrote that text.
+//! Errors report a byte of a text; this crate explains them to the text's author.
 #![tactic(auto)]
 
 mod excerpts;

@@ -3,20 +3,20 @@ ghost use Rattle.std.specs.Prelude.{◌≡◌, ◌+◌, ◌-◌, ◌==◌, if◌
 ghost use Rattle.std.specs.Str.Lines.{lines};
 ghost use Rattle.text_places.specs.LineAndColumn.{is_line_feed, column_behind, IsStartAt};
 
-/// A place in a text, as a person counts it.
+/// A place in a text, by line and column.
 #[derive(Clone, Copy)]
 pub struct Place {
     /// The line, counted from 1.
     pub line: usize,
     /// The column, counted from 1 in characters.
     pub column: usize,
-    /// The byte at which the character of the place begins, counted from 0; the text's length where the text ends.
+    /// The byte at which the character at the place begins, counted from 0; the text's length at its end.
     pub start: usize,
 }
 
 impl Place {
-    /// Returns how many characters stand from this place up to `end`, a place of the same text and not before it; the
-    /// greatest number if `end` is on another line, since then all that follows on this line is meant.
+    /// Returns the number of characters from this place up to `end`, a place of the same text and not before it; the
+    /// greatest number if `end` is on another line, since then the whole rest of this line is meant.
     pub fn span_to(&self, end: &Place) -> usize
         ensures { result ≡ (if self.now.line == end.now.line then end.now.column - self.now.column else usize.MAX) }
     {
@@ -48,10 +48,11 @@ fn column_of(before: &str) -> usize
     column
 }
 
-/// Returns the place of the byte `at`: of the character that holds it, or of the text's end where `at` is not below
-/// the text's length. The line feed at a line's end, and a carriage return before it, are characters of that line.
+/// Returns the place of the byte `at`: of the character that contains it, or of the text's end if none does.
 ///
-/// O(`at`). Takes no memory.
+/// The line feed at a line's end, and a carriage return before it, are characters of that line.
+///
+/// O(`at`). Does not allocate.
 pub fn place_of(text: &str, at: usize) -> Place
     ensures start { IsStartAt text.now at result.start }
     ensures line { result.line ≡ 1 + count_by is_line_feed (take result.start text.now) }
@@ -66,10 +67,10 @@ pub fn place_of(text: &str, at: usize) -> Place
     }
 }
 
-/// Returns a line of a text, counted from 1, without its end: a line feed, or a carriage return and a line feed. It is
-/// empty where the text has no such line.
+/// Returns a line of a text, counted from 1, without its end: a line feed, or a carriage return and a line feed. It
+/// is empty if the text has no such line.
 ///
-/// O(length of `text`). Takes no memory.
+/// O(length of `text`). Does not allocate.
 pub fn line_at(text: &str, line: usize) -> &str
     ensures { result.now ≡ slice_index_or (lines text.now) (line - 1) [] }
 {

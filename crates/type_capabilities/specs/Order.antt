@@ -1,5 +1,6 @@
--- An order of expressions: by form, then by what stands in it beside its operands, then by the operands from the left.
--- Sets, records and patterns come by the number of their parts first. A rule of this product, for look-ups alone.
+-- Defines an order of expressions: by kind, then by content other than operands, then by the operands from the left.
+-- Sets, records and patterns are ordered by the number of their parts first.
+-- Rules of this product: this order, which is only for look-ups.
 use Rattle.std.specs.Prelude.{ℕ, List, [], ◌∷◌, map, length}
 use Rattle.std.specs.declared.cmp.Ordering.{Ordering}
 use Rattle.std.specs.declared.cmp.Ordering.TheVariants.{Equal}
@@ -24,12 +25,14 @@ use Rattle.grammar_core.specs.declared.expr.Expr.TheViews.{out-Expr}
 use Rattle.grammar_core.specs.declared.expr.Expr.TheOpen.{Expr-F}
 use Rattle.grammar_core.specs.declared.expr.Expr.TheFolds.{fold-Expr}
 
+-- `literal_rank l` is the rank of the kind of the literal `l`.
 abbrev pub literal_rank : Literal → ℕ
 literal_rank (literal.Boolean b) = 0
 literal_rank (literal.Long z) = 1
 literal_rank (literal.Text s) = 2
 literal_rank (literal.Entity u) = 3
 
+-- `literal_cmp l m` orders literals by kind and content.
 abbrev pub literal_cmp : Literal → Literal → Ordering
 literal_cmp (literal.Boolean a) (literal.Boolean b) = bool_cmp a b
 literal_cmp (literal.Long y) (literal.Long z) = int_cmp y z
@@ -37,27 +40,31 @@ literal_cmp (literal.Text s) (literal.Text t) = text_cmp s t
 literal_cmp (literal.Entity u) (literal.Entity v) = uid_cmp u v
 literal_cmp l m = nat_cmp (literal_rank l) (literal_rank m)
 
+-- `variable_rank x` is the rank of the variable `x`.
 abbrev pub variable_rank : Variable → ℕ
 variable_rank variable.Principal = 0
 variable_rank variable.Action = 1
 variable_rank variable.Resource = 2
 variable_rank variable.Context = 3
 
+-- `unary_rank o` is the rank of the operator `o`.
 abbrev pub unary_rank : Unary → ℕ
 unary_rank unary.Not = 0
 unary_rank unary.Negate = 1
 unary_rank (unary.Like p) = 2
 unary_rank (unary.Is n) = 3
 
--- by the number of the literal texts, then text by text
+-- `pattern_cmp p q` orders patterns by the number of their literal texts, then text by text.
 abbrev pub pattern_cmp : List (List ℕ) → List (List ℕ) → Ordering
 pattern_cmp p q = ordering_then (nat_cmp (length p) (length q)) (slice_cmp text_cmp p q)
 
+-- `unary_cmp o p` orders operators with one operand.
 abbrev pub unary_cmp : Unary → Unary → Ordering
 unary_cmp (unary.Like p) (unary.Like q) = pattern_cmp p q
 unary_cmp (unary.Is m) (unary.Is n) = text_cmp m n
 unary_cmp o p = nat_cmp (unary_rank o) (unary_rank p)
 
+-- `binary_rank o` is the rank of the operator `o`.
 abbrev pub binary_rank : Binary → ℕ
 binary_rank binary.Equal = 0
 binary_rank binary.In = 1
@@ -70,6 +77,7 @@ binary_rank binary.Contains = 7
 binary_rank binary.ContainsAll = 8
 binary_rank binary.ContainsAny = 9
 
+-- `unary_call_rank c` is the rank of the function or method `c`.
 abbrev pub unary_call_rank : UnaryCall → ℕ
 unary_call_rank unary_call.Ip = 0
 unary_call_rank unary_call.Decimal = 1
@@ -78,6 +86,7 @@ unary_call_rank unary_call.IsIpv6 = 3
 unary_call_rank unary_call.IsLoopback = 4
 unary_call_rank unary_call.IsMulticast = 5
 
+-- `binary_call_rank c` is the rank of the method `c`.
 abbrev pub binary_call_rank : BinaryCall → ℕ
 binary_call_rank binary_call.LessThan = 0
 binary_call_rank binary_call.LessThanOrEqual = 1
@@ -85,7 +94,7 @@ binary_call_rank binary_call.GreaterThan = 2
 binary_call_rank binary_call.GreaterThanOrEqual = 3
 binary_call_rank binary_call.IsInRange = 4
 
--- the place of a form
+-- `kind x` is the rank of a kind of expression.
 abbrev pub kind : {X : Type 0} → Expr-F X → ℕ
 kind (Expr-F.Literal l) = 0
 kind (Expr-F.Variable x) = 1
@@ -101,22 +110,25 @@ kind (Expr-F.Record fs) = 10
 kind (Expr-F.UnaryCall c a) = 11
 kind (Expr-F.BinaryCall c a b) = 12
 
+-- `kind_of x` is the rank of the kind of `x`.
 abbrev pub kind_of : Expr → ℕ
 kind_of = fold-Expr ℕ kind
 
+-- `names fs` are the names of fields.
 abbrev pub names : {X : Type 0} → List (Named X) → List (List ℕ)
 names fs = map (λ f. f.name) fs
 
+-- `names_cmp fs gs` compares the names of fields, name by name.
 abbrev pub names_cmp : {X Y : Type 0} → List (Named X) → List (Named Y) → Ordering
 names_cmp fs gs = slice_cmp text_cmp (names fs) (names gs)
 
--- place by place, as far as both go
+-- `each_cmp fs ys` compares index by index, up to the shorter list.
 abbrev pub each_cmp : List (Expr → Ordering) → List Expr → Ordering
 each_cmp [] ys = Equal
 each_cmp (f ∷ fs) [] = Equal
 each_cmp (f ∷ fs) (y ∷ ys) = ordering_then (f y) (each_cmp fs ys)
 
--- a form, whose operands compare so, with another
+-- `layers_cmp x y` compares an expression, whose operands compare so, with another.
 abbrev pub layers_cmp : Expr-F (Expr → Ordering) → Expr-F Expr → Ordering
 layers_cmp (Expr-F.Literal l) (Expr-F.Literal m) = literal_cmp l m
 layers_cmp (Expr-F.Variable x) (Expr-F.Variable y) = nat_cmp (variable_rank x) (variable_rank y)
@@ -138,5 +150,6 @@ layers_cmp (Expr-F.BinaryCall e a b) (Expr-F.BinaryCall f c d) =
     ordering_then (ordering_then (nat_cmp (binary_call_rank e) (binary_call_rank f)) (a c)) (b d)
 layers_cmp l m = nat_cmp (kind l) (kind m)
 
+-- `expr_cmp x y` orders expressions.
 abbrev pub expr_cmp : Expr → Expr → Ordering
 expr_cmp = fold-Expr (Expr → Ordering) (λ l y. layers_cmp l (out-Expr y))

@@ -1,4 +1,4 @@
--- The order of expressions is that of their tokens: total, and exact. Laws of a rule of this product.
+-- Defines the proof that the order of expressions is that of their tokens: total and antisymmetric.
 use Rattle.std.specs.Prelude.{◌≡◌, ℕ, List, [], ◌∷◌, ◌++◌, map, length, Bool, true, false, refl}
 use Rattle.std.proofs.Common.{ap, sym, ◌∙◌, append_assoc, arith}
 use Rattle.std.proofs.lemmas.List.{append-nil}
@@ -58,7 +58,7 @@ both_equal Less p e = absurd (cc)
 both_equal Equal p e = (refl, e)
 both_equal Greater p e = absurd (cc)
 
--- ---- what stands in a form
+-- ---- content
 
 bool_by_number : (a b : Bool) → int_cmp (as_number a) (as_number b) ≡ bool_cmp a b
 bool_by_number false false = refl
@@ -87,7 +87,7 @@ abbrev IsByTokens : Expr → Type 0
 IsByTokens x = (y : Expr) (s t : List Token)
     → ordering_then (expr_cmp x y) (tokens_cmp s t) ≡ tokens_cmp (tokens x ++ s) (tokens y ++ t)
 
--- those of the one and of the other, and what lies behind them
+-- the operands of both, and what follows them
 abbrev AreByTokens : Ordering → List Expr → List Expr → Type 0
 AreByTokens o xs ys = (s t : List Token) → ordering_then o (tokens_cmp s t)
     ≡ tokens_cmp (joined (map tokens xs) ++ s) (joined (map tokens ys) ++ t)
@@ -130,19 +130,19 @@ as_many (x ∷ xs) [] h e = absurd (omega (arith, e))
 as_many (x ∷ xs) (y ∷ ys) h e =
     one_more x y xs ys (each_cmp (map expr_cmp xs) ys) h.0 (as_many xs ys h.1 (omega (arith, e)))
 
--- a form: what stands in it compares as o, and its operands as p where that is Equal
+-- an expression: its content compares as `o`, and its operands as `p` if that is `Equal`
 headed : (o p : Ordering) (t r : Ordering) → (o ≡ Equal → ordering_then p t ≡ r)
     → ordering_then (ordering_then o p) t ≡ ordering_then o r
 headed Less p t r h = refl
 headed Equal p t r h = h refl
 headed Greater p t r h = refl
 
--- the same where tokens say o in other words
+-- the same, if tokens express `o` differently
 headed_as : (o k p t r : Ordering) → k ≡ o → (o ≡ Equal → ordering_then p t ≡ r)
     → ordering_then (ordering_then o p) t ≡ ordering_then k r
 headed_as o k p t r e h = headed o p t r h ∙ ap (λ z. ordering_then z r) (sym e)
 
--- ---- forms
+-- ---- kinds of expressions
 
 abbrev LayerIs : Expr-F (Expr → Ordering) → Expr-F Expr → Expr-F Expr → Type 0
 LayerIs f l m = (s t : List Token)
@@ -331,7 +331,7 @@ by_tokens_total : IsTotalOrder (on tokens tokens_cmp)
 by_tokens_total = on_total tokens
     (lists_total (then_total (on_total (λ t. t.0) nat_cmp_total) (on_total (λ t. t.1) content_cmp_total)))
 
--- every two expressions are ordered
+-- The order of expressions is total.
 pub expr_cmp-IsTotalOrder : IsTotalOrder expr_cmp
 expr_cmp-IsTotalOrder = record {
   antisymm = λ x y. by_tokens x y ∙ (by_tokens_total.antisymm x y ∙ ap ordering_reverse (sym (by_tokens y x)));
@@ -358,7 +358,7 @@ token_same x y e =
     let a = both_equal (nat_cmp x.0 y.0) _ e in
     ap (λ n. (n, x.1)) (nat_cmp-IsAntisymmetric x.0 y.0 a.0) ∙ ap (λ c. (y.0, c)) (content_same x.1 y.1 a.1)
 
--- only equal expressions tie
+-- Only equal expressions compare as equal.
 pub expr_cmp-IsAntisymmetric : IsAntisymmetric expr_cmp
 expr_cmp-IsAntisymmetric x y e =
     same_from_tokens x y

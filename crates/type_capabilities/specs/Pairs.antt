@@ -1,5 +1,7 @@
--- Pairs of an expression and the name of a field, and their order: by names, and then by expressions. A rule of this
--- product; that a field known to be there may be read is Cedar's (reference guide 4.0, "Policy validation", `has`).
+-- Defines capabilities, pairs of an expression and the name of a field, and their order: by names, and then by
+-- expressions.
+-- Rules of this product: the order; that a field known to be present may be accessed is Cedar's (reference guide 4.0,
+-- "Policy validation", `has`).
 use Rattle.std.specs.Prelude.{ℕ, List, map}
 use Rattle.std.proofs.Common.{ap, ◌∙◌}
 use Rattle.std.specs.declared.cmp.Ordering.{Ordering}
@@ -13,18 +15,23 @@ use Rattle.type_capabilities.specs.Order.{expr_cmp}
 use Rattle.type_capabilities.specs.Ordered.{expr_cmp-IsTotalOrder, expr_cmp-IsAntisymmetric}
 use Rattle.type_capabilities.specs.declared.pair.Pair.{Pair}
 
+-- A `PairValue` is an expression and the name of a field.
 abbrev pub PairValue : Type 0
 PairValue = Expr × List ℕ
 
+-- `pair_of p` is the pair `p` without its borrows.
 abbrev pub pair_of : Pair → PairValue
 pair_of p = (p.whole.now, p.name.now)
 
+-- `pairs ps` are the pairs `ps` without their borrows.
 abbrev pub pairs : List Pair → List PairValue
 pairs ps = map pair_of ps
 
+-- `pair_cmp p q` orders pairs by names, and then by expressions.
 abbrev pub pair_cmp : PairValue → PairValue → Ordering
 pair_cmp p q = ordering_then (text_cmp p.1 q.1) (expr_cmp p.0 q.0)
 
+-- `borrowed_cmp p q` orders the pairs of the code.
 abbrev pub borrowed_cmp : Pair → Pair → Ordering
 borrowed_cmp p q = pair_cmp (pair_of p) (pair_of q)
 

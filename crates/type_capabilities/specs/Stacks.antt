@@ -1,20 +1,22 @@
--- Where the pairs of a stack are found. A rule of this product.
+-- Defines how the pairs of a stack are found.
+-- Rules of this product: this representation.
 use Rattle.std.specs.Prelude.{◌≡◌, ◌≤◌, ℕ, List, Option, Some}
 use Rattle.std.specs.List.{slice_get}
 use Rattle.std.specs.BTreeMap.{BTreeMap, get_by}
 use Rattle.type_capabilities.specs.Pairs.{PairValue, pair_of, pair_cmp}
 use Rattle.type_capabilities.specs.declared.pair.Pair.{Pair}
 
--- the place that is noted of a pair
+-- `place_of m p` is the recorded index of the pair `p`.
 abbrev pub place_of : BTreeMap Pair ℕ → PairValue → Option ℕ
 place_of m p = get_by (λ k. pair_cmp p (pair_of k)) m
 
--- the place that is noted of the pair at the place i is no higher, and the pair stands there
+-- `IsFound ps at i p` holds if the recorded index of the pair `p` at index `i` is at most `i`, and `p` is there.
 pub record IsFound (ps : List PairValue) (at : PairValue → Option ℕ) (i : ℕ) (p : PairValue) : Type 0 where
   pub place : ℕ
   pub noted : at p ≡ Some place
   pub low : place ≤ i
   pub there : slice_get ps place ≡ Some p
 
+-- `AreFound ps at` holds if each pair of the stack is found.
 abbrev pub AreFound : List PairValue → (PairValue → Option ℕ) → Type 0
 AreFound ps at = (i : ℕ) (p : PairValue) → slice_get ps i ≡ Some p → IsFound ps at i p

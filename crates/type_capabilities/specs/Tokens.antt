@@ -1,5 +1,6 @@
--- An expression as a list of tokens, which gives it back: of each form what stands in it beside its operands, and then
--- the tokens of these. The tokens also give the order of expressions. A rule of this product.
+-- Defines an expression as a list of tokens, which determines it: the content of each expression other than its
+-- operands, and then the tokens of these. The tokens also give the order of expressions.
+-- Rules of this product: this representation.
 use Rattle.std.specs.Prelude.{
   ◌≡◌,
   ℕ,
@@ -46,13 +47,15 @@ use Rattle.grammar_core.proofs.Forms.{fold_or, fold_unary, fold_binary, fold_fie
 use Rattle.grammar_core.proofs.Forms.{fold_unary_call, fold_binary_call}
 use Rattle.type_capabilities.specs.Order.{variable_rank, binary_rank, unary_call_rank, binary_call_rank, names}
 
--- a token: the form, the place of what stands in it, a count, a number, and texts
+-- A `Content` is the rank of an expression's content, a count, a number, and strings.
 abbrev pub Content : Type 0
 Content = ℕ × (ℕ × (ℤ × List (List ℕ)))
 
+-- A `Token` is the kind of an expression, with its content.
 abbrev pub Token : Type 0
 Token = ℕ × Content
 
+-- `as_number b` is 1 if `b`, else 0.
 abbrev pub as_number : Bool → ℤ
 as_number false = pos 0
 as_number true = pos 1
@@ -68,18 +71,21 @@ is_one-as_number true = refl
 abbrev nothing : Content
 nothing = (0, (0, (pos 0, [])))
 
+-- `literal_content l` is the content of the literal `l`.
 abbrev pub literal_content : Literal → Content
 literal_content (literal.Boolean b) = (0, (0, (as_number b, [])))
 literal_content (literal.Long z) = (1, (0, (z, [])))
 literal_content (literal.Text s) = (2, (0, (pos 0, s ∷ [])))
 literal_content (literal.Entity u) = (3, (0, (pos 0, u.type_name ∷ u.id ∷ [])))
 
+-- `unary_content o` is the content of the operator `o`.
 abbrev pub unary_content : Unary → Content
 unary_content unary.Not = (0, (0, (pos 0, [])))
 unary_content unary.Negate = (1, (0, (pos 0, [])))
 unary_content (unary.Like p) = (2, (length p, (pos 0, p)))
 unary_content (unary.Is n) = (3, (0, (pos 0, n ∷ [])))
 
+-- `head l` is the token of the content of a node.
 abbrev pub head : {X : Type 0} → Expr-F X → Token
 head (Expr-F.Literal l) = (0, literal_content l)
 head (Expr-F.Variable x) = (1, (variable_rank x, (0, (pos 0, []))))
@@ -95,6 +101,7 @@ head (Expr-F.Record fs) = (10, (0, (length fs, (pos 0, names fs))))
 head (Expr-F.UnaryCall c a) = (11, (unary_call_rank c, (0, (pos 0, []))))
 head (Expr-F.BinaryCall c a b) = (12, (binary_call_rank c, (0, (pos 0, []))))
 
+-- `operands l` are the operands of a node, from the left.
 abbrev pub operands : {X : Type 0} → Expr-F X → List X
 operands (Expr-F.Literal l) = []
 operands (Expr-F.Variable x) = []
@@ -110,17 +117,20 @@ operands (Expr-F.Record fs) = map (λ f. f.value) fs
 operands (Expr-F.UnaryCall c a) = a ∷ []
 operands (Expr-F.BinaryCall c a b) = a ∷ b ∷ []
 
+-- `joined tss` are these lists, one after another.
 abbrev pub joined : List (List Token) → List Token
 joined [] = []
 joined (ts ∷ tss) = ts ++ joined tss
 
+-- `tokens_step l` are the tokens of a node over expressions with these tokens.
 abbrev pub tokens_step : Expr-F (List Token) → List Token
 tokens_step l = head l ∷ joined (operands l)
 
+-- `tokens x` are the tokens of the expression `x`.
 abbrev pub tokens : Expr → List Token
 tokens = fold-Expr (List Token) tokens_step
 
--- the tokens of a form over expressions
+-- `layer_tokens l` are the tokens of a node over expressions.
 abbrev pub layer_tokens : Expr-F Expr → List Token
 layer_tokens l = head l ∷ joined (map tokens (operands l))
 
@@ -145,7 +155,7 @@ pub every_value : (P : Expr → Type 0) (fs : List (Named Expr)) → Every (λ f
 every_value P [] h = tt
 every_value P (f ∷ fs) h = (h.0, every_value P fs h.1)
 
--- ---- the tokens of each form
+-- ---- the tokens of each kind of expression
 
 pub tokens_set : (xs : List Expr) → tokens (form.Set xs) ≡ layer_tokens (Expr-F.Set xs)
 tokens_set xs = fold_set (List Token) tokens_step xs
@@ -181,7 +191,7 @@ tokens_roll (Expr-F.BinaryCall c a b) =
 pub tokens_out : (x : Expr) → tokens x ≡ layer_tokens (out-Expr x)
 tokens_out x = ap tokens (sym (roll-out-Expr x)) ∙ tokens_roll (out-Expr x)
 
--- ---- reading back, the last token first
+-- ---- reading the tokens back, from the last to the first
 
 abbrev text_1 : List (List ℕ) → List ℕ
 text_1 [] = []
@@ -220,7 +230,7 @@ binary_call_of r =
     cond (r == 0) binary_call.LessThan (cond (r == 1) binary_call.LessThanOrEqual
     (cond (r == 2) binary_call.GreaterThan (cond (r == 3) binary_call.GreaterThanOrEqual binary_call.IsInRange)))
 
--- what was read, of which a form takes as many as it has operands
+-- the expressions read so far, of which a node takes as many as it has operands
 
 abbrev first : List Expr → Expr
 first [] = form.Literal (literal.Boolean false)
@@ -324,7 +334,7 @@ operands_back (x ∷ xs) h ts =
     ap read (append_assoc (tokens x) (joined (map tokens xs)) ts)
     ∙ (h.0 (joined (map tokens xs) ++ ts) ∙ ap (λ st. x ∷ st) (operands_back xs h.1 ts))
 
--- where a form is built of its operands, it is read back
+-- if a node is built from its operands, it is read back
 from_operands : (x : Expr) (l : Expr-F Expr) → tokens x ≡ layer_tokens l → Every IsReadBack (operands l)
     → ((st : List Expr) → read_one (head l) (operands l ++ st) ≡ x ∷ st) → IsReadBack x
 from_operands x l e h b ts =
@@ -381,7 +391,7 @@ from_tokens-tokens : (x : Expr) → first (read (tokens x)) ≡ x
 from_tokens-tokens x =
     ap (λ ts. first (read ts)) (sym (append-nil (tokens x))) ∙ ap first (by_forms IsReadBack all_read_back x [])
 
--- expressions with the same tokens are the same
+-- Expressions with the same tokens are equal.
 pub same_from_tokens : (x y : Expr) → tokens x ≡ tokens y → x ≡ y
 same_from_tokens x y e =
     sym (from_tokens-tokens x) ∙ (ap (λ ts. first (read ts)) e ∙ from_tokens-tokens y)

@@ -1,4 +1,4 @@
-//! The order, form by form.
+//! The order of expressions.
 ghost use Rattle.std.specs.Prelude.{◌≡◌, map, length};
 ghost use Rattle.std.specs.Ordering.{ordering_then, nat_cmp};
 ghost use Rattle.type_capabilities.specs.Order.{kind_of, expr_cmp, each_cmp, names_cmp};
@@ -10,7 +10,7 @@ use grammar_core::{Expr, Named};
 use plain::{Items, Shared};
 use std::cmp::Ordering;
 
-/// Returns the place of an expression's form.
+/// Returns the rank of an expression's kind.
 fn kind(expr: &Expr) -> u8
     ensures { result ≡ kind_of expr.now }
 {
@@ -31,8 +31,8 @@ fn kind(expr: &Expr) -> u8
     }
 }
 
-/// Compares two expressions: by form, then by what stands in it beside its operands, then by these from the left.
-/// Takes no memory, and time of at most the forms that both begin with alike.
+/// Compares two expressions: by kind, then by their content other than operands, then by these from the left. Does
+/// not allocate. Takes time at most linear in the nodes of the common prefix.
 #[cycle(compare)]
 #[tactic(auto, using(crate::proofs::Records::record_is))]
 pub fn compare(one: &Expr, other: &Expr) -> Ordering
@@ -68,7 +68,7 @@ pub fn compare(one: &Expr, other: &Expr) -> Ordering
     }
 }
 
-/// Compares two operands, where what comes before them compares so.
+/// Compares two operands, if what comes before them is equal.
 #[cycle(compare)]
 fn behind(one: &Shared<Expr>, other: &Shared<Expr>, first: Ordering) -> Ordering
     ensures { result ≡ ordering_then first (expr_cmp one.now other.now) }
@@ -80,7 +80,7 @@ fn behind(one: &Shared<Expr>, other: &Shared<Expr>, first: Ordering) -> Ordering
     }
 }
 
-/// Compares as many operands, where what comes before them compares so.
+/// Compares operands in turn, if what comes before them is equal.
 #[cycle(compare)]
 #[tactic(auto, using(crate::proofs::Lists::exprs_at, crate::proofs::Lists::exprs_past, crate::proofs::Lists::exprs_over))]
 fn each_behind(ones: &Items<Expr>, twos: &Items<Expr>, first: Ordering) -> Ordering
@@ -120,7 +120,7 @@ fn compare_names(ones: &Items<Named<Expr>>, twos: &Items<Named<Expr>>) -> Orderi
     Ordering::Equal
 }
 
-/// Compares the values of as many fields, where what comes before them compares so.
+/// Compares the values of fields in turn, if what comes before them is equal.
 #[cycle(compare)]
 #[tactic(auto, using(crate::proofs::Lists::values_at, crate::proofs::Lists::values_past, crate::proofs::Lists::values_over))]
 fn values_behind(ones: &Items<Named<Expr>>, twos: &Items<Named<Expr>>, first: Ordering) -> Ordering

@@ -1,4 +1,4 @@
-//! The stack.
+//! The stack of known capabilities.
 ghost use Rattle.std.specs.Prelude.{◌≡◌, ◌<◌, ◌↔◌, ℕ, [], ◌∷◌, ◌++◌, IsTrue, OnOk, OnErr, Contains, take, length, Some};
 ghost use Rattle.std.specs.Prelude.{cond};
 ghost use Rattle.std.specs.List.{slice_get};
@@ -12,16 +12,16 @@ use std::alloc::Global;
 use std::collections::BTreeMap;
 use std::marker::Model;
 
-/// Pairs as a stack: what is put on top is taken away first. Contracts see the list of the pairs, the lowest first.
+/// Known capabilities, as a stack of pairs. Contracts see the list of the pairs, from the bottom.
 ///
-/// A pair is found by one look-up in an ordered map. What is taken away stays behind the top, so that it takes no time,
-/// and neither memory nor a look-up to put the same pairs again.
+/// A pair is found by one look-up in an ordered map. Popped pairs stay behind the top, so that popping takes no time,
+/// and pushing the same pairs again needs neither memory nor a look-up.
 #[derive(Drop)]
 pub struct Capabilities<'a> {
-    /// The pairs, and behind them some that were taken away.
+    /// The pairs, followed by some that were popped.
     stack: Vec<Pair<'a>>,
     height: usize,
-    /// Of each pair in `stack` the lowest place where it stands.
+    /// For each pair in `stack`, its lowest index.
     places: BTreeMap<Pair<'a>, usize>,
 }
 
@@ -42,7 +42,7 @@ impl<'a> Model for Capabilities<'a> {
         × AreFound (pairs k.stack.items) (λ p. place_of k.places p) };
 }
 
-/// Returns whether the pair stands at this place.
+/// Returns whether the pair is at this index.
 fn stands_at(stack: &[Pair<'_>], at: usize, pair: &Pair<'_>) -> bool
     ensures { IsTrue result ↔ (slice_get (pairs stack.now) at ≡ Some (pair_of pair.now)) }
 {
@@ -52,7 +52,7 @@ fn stands_at(stack: &[Pair<'_>], at: usize, pair: &Pair<'_>) -> bool
     }
 }
 
-/// Returns whether the pair stands below this height.
+/// Returns whether the pair is below this height.
 fn stands_below<'a>(
     stack: &[Pair<'a>],
     places: &BTreeMap<Pair<'a>, usize>,
@@ -68,7 +68,7 @@ fn stands_below<'a>(
     }
 }
 
-/// Notes where a pair stands.
+/// Records the index of a pair.
 fn note<'a>(
     places: &mut BTreeMap<Pair<'a>, usize>,
     pair: Pair<'a>,
@@ -82,7 +82,7 @@ fn note<'a>(
     Ok(())
 }
 
-/// Puts a pair that does not stand there behind the others, and notes where it stands.
+/// Appends a pair that is not in the stack, and records its index.
 fn put_new<'a>(
     stack: &mut Vec<Pair<'a>>,
     places: &mut BTreeMap<Pair<'a>, usize>,
@@ -99,7 +99,7 @@ fn put_new<'a>(
     Ok(())
 }
 
-/// Puts a pair behind the others.
+/// Appends a pair.
 fn put<'a>(
     stack: &mut Vec<Pair<'a>>,
     places: &mut BTreeMap<Pair<'a>, usize>,
@@ -118,7 +118,7 @@ fn put<'a>(
 }
 
 impl<'a> Capabilities<'a> {
-    /// Returns the empty stack; takes no memory.
+    /// Creates an empty stack. Does not allocate.
     pub fn new(alloc: Global) -> Capabilities<'a>
         ensures { result ≡ [] }
     {
@@ -129,23 +129,23 @@ impl<'a> Capabilities<'a> {
         }
     }
 
-    /// Returns how many pairs there are.
+    /// Returns the number of pairs.
     pub fn len(&self) -> usize
         ensures { result ≡ length self.now }
     {
         self.height
     }
 
-    /// Returns whether the pair is there; takes no memory, and as many comparisons as the logarithm of all pairs that
-    /// were ever put.
+    /// Returns whether the pair is known. O(log n) in all pairs that were ever pushed. Does not allocate.
     pub fn knows(&self, pair: &Pair<'a>) -> bool
         ensures { IsTrue result ↔ Contains self.now (pair_of pair.now) }
     {
         stands_below(self.stack.as_slice(), &self.places, pair, self.height)
     }
 
-    /// Puts a pair on top, or leaves all as it was at `NoMemory`. Where it is the one that was last taken away from
-    /// there, it takes one comparison and no memory.
+    /// Pushes a pair. If it is the one that was last popped from there, takes one comparison and does not allocate.
+    ///
+    /// After `NoMemory` the stack is unchanged.
     pub fn push(&mut self, pair: Pair<'a>) -> Result<(), NoMemory>
         ensures ok { OnOk result (self.new ≡ self.old ++ pair_of pair.entry ∷ []) }
         ensures err { OnErr result (self.new ≡ self.old) }
@@ -160,7 +160,7 @@ impl<'a> Capabilities<'a> {
         Ok(())
     }
 
-    /// Puts these pairs on top, in order; at `NoMemory` some of them, the first ones.
+    /// Pushes these pairs, in order. After `NoMemory` only some of them, the first ones, are pushed.
     pub fn push_all(&mut self, these: &[Pair<'a>]) -> Result<(), NoMemory>
         ensures ok { OnOk result (self.new ≡ self.old ++ pairs these.now) }
         ensures err { OnErr result
@@ -172,7 +172,7 @@ impl<'a> Capabilities<'a> {
         Ok(())
     }
 
-    /// Takes away what stands above this height; takes no time that grows with it.
+    /// Pops the pairs above this height, in constant time.
     pub fn forget_above(&mut self, height: usize)
         ensures { self.new ≡ take height self.old }
     {

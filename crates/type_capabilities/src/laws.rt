@@ -1,11 +1,10 @@
-//! Laws of the orders.
+//! Theorems about the orders.
 ghost use Rattle.std.specs.Cmp.{IsTotalOrder};
 ghost use Rattle.std.specs.FinMap.{IsAntisymmetric};
 ghost use Rattle.type_capabilities.specs.Order.{expr_cmp};
 ghost use Rattle.type_capabilities.specs.Pairs.{pair_cmp};
 
-/// Proves that the orders of expressions and of pairs are total, and `Equal` only at equal ones. It does nothing; its
-/// clauses are the laws.
+/// Proves that the orders of expressions and of pairs are total, and `Equal` only for equal ones. No-op.
 pub fn pairs_are_ordered()
     ensures total { IsTotalOrder expr_cmp }
     ensures exact { IsAntisymmetric expr_cmp }

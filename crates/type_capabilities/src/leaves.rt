@@ -1,4 +1,4 @@
-//! What stands in a form beside its operands.
+//! The content of expressions other than operands.
 ghost use Rattle.std.specs.Prelude.{◌≡◌};
 ghost use Rattle.type_capabilities.specs.Order.{literal_rank, literal_cmp, variable_rank, unary_rank, unary_cmp};
 ghost use Rattle.type_capabilities.specs.Order.{binary_rank, unary_call_rank, binary_call_rank, pattern_cmp};
@@ -6,7 +6,7 @@ ghost use Rattle.type_capabilities.specs.Order.{binary_rank, unary_call_rank, bi
 use grammar_core::{Binary, BinaryCall, Literal, Pattern, Unary, UnaryCall, Variable};
 use std::cmp::Ordering;
 
-/// Returns the place of a literal's kind.
+/// Returns the rank of a literal's kind.
 fn literal_rank(literal: &Literal) -> u8
     ensures { result ≡ literal_rank literal.now }
 {
@@ -18,7 +18,7 @@ fn literal_rank(literal: &Literal) -> u8
     }
 }
 
-/// Compares literals: by kind, then false before true, numbers by size, texts by bytes, entities by uid.
+/// Compares literals: by kind, then false before true, integers by size, strings by bytes, entities by uid.
 pub(crate) fn compare_literals(one: &Literal, other: &Literal) -> Ordering
     ensures { result ≡ literal_cmp one.now other.now }
 {
@@ -31,7 +31,7 @@ pub(crate) fn compare_literals(one: &Literal, other: &Literal) -> Ordering
     }
 }
 
-/// Returns the place of a variable.
+/// Returns the rank of a variable.
 pub(crate) fn variable_rank(variable: Variable) -> u8
     ensures { result ≡ variable_rank variable }
 {
@@ -43,7 +43,7 @@ pub(crate) fn variable_rank(variable: Variable) -> u8
     }
 }
 
-/// Returns the place of an operator with one operand.
+/// Returns the rank of an operator with one operand.
 fn unary_rank(operator: &Unary) -> u8
     ensures { result ≡ unary_rank operator.now }
 {
@@ -67,7 +67,7 @@ fn compare_patterns(one: &Pattern, other: &Pattern) -> Ordering
     before.then(last.cmp(other_last))
 }
 
-/// Compares operators with one operand: by their place, then by the pattern or the type.
+/// Compares operators with one operand: by rank, then by the pattern or the type.
 pub(crate) fn compare_unary(one: &Unary, other: &Unary) -> Ordering
     ensures { result ≡ unary_cmp one.now other.now }
 {
@@ -78,7 +78,7 @@ pub(crate) fn compare_unary(one: &Unary, other: &Unary) -> Ordering
     }
 }
 
-/// Returns the place of an operator with two operands.
+/// Returns the rank of an operator with two operands.
 pub(crate) fn binary_rank(operator: Binary) -> u8
     ensures { result ≡ binary_rank operator }
 {
@@ -96,7 +96,7 @@ pub(crate) fn binary_rank(operator: Binary) -> u8
     }
 }
 
-/// Returns the place of a call with one operand.
+/// Returns the rank of a call with one operand.
 pub(crate) fn unary_call_rank(called: UnaryCall) -> u8
     ensures { result ≡ unary_call_rank called }
 {
@@ -110,7 +110,7 @@ pub(crate) fn unary_call_rank(called: UnaryCall) -> u8
     }
 }
 
-/// Returns the place of a call with two operands.
+/// Returns the rank of a call with two operands.
 pub(crate) fn binary_call_rank(called: BinaryCall) -> u8
     ensures { result ≡ binary_call_rank called }
 {

@@ -1,6 +1,7 @@
-//! Pairs of an expression and the name of a field: a stack, and an ordered map that tells where a pair stands in it.
+//! Capabilities: pairs of an expression and the name of a field, as a stack with an ordered map for finding a pair in
+//! it.
 //!
-//! The order of pairs, by names and then by expressions, is for these look-ups alone, and has no meaning in the policy
+//! The order of pairs, by names and then by expressions, is only for these look-ups, and has no meaning in the policy
 //! language.
 #![tactic(auto)]
 

@@ -9,9 +9,9 @@ use crate::compared::compare;
 use grammar_core::Expr;
 use std::cmp::Ordering;
 
-/// An expression and the name of a field; both are borrowed.
+/// A capability: an expression and the name of a field, both borrowed.
 ///
-/// Pairs are equal where names and expressions are, and ordered by names and then by expressions.
+/// Pairs are equal if names and expressions are, and ordered by names and then by expressions.
 #[derive(Clone, Copy)]
 pub struct Pair<'a> {
     /// The expression.

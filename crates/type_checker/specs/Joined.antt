@@ -1,10 +1,11 @@
--- Expressions joined by `&&`, to the right.
+-- Defines expressions joined by `&&`, to the right.
 -- Source: Cedar reference guide 4.0, "Basic policy construction"; cedar-spec, cedar-lean/Cedar/Spec/Policy.lean
 -- (`Policy.toExpr`).
 use Rattle.std.specs.Prelude.{List, [], ◌∷◌}
 use Rattle.grammar_core.specs.declared.expr.Expr.{Expr}
 use Rattle.grammar_core.specs.declared.expr.Expr.TheVariants as form
 
+-- `joined ps x` is the conjunction of `ps` and `x`, to the right.
 abbrev pub joined : List Expr → Expr → Expr
 joined [] x = x
 joined (p ∷ ps) x = form.And p (joined ps x)

@@ -3,7 +3,7 @@ pub mod Laws
 pub mod Views
 pub mod inner
 pub mod Joined
--- crates below, passed on to those above
+-- Specifications of lower crates, re-exported.
 pub use Rattle.entities.specs as entities
 pub use Rattle.entities.specs.policy_grammar
 pub use Rattle.entities.specs.schema

@@ -1,4 +1,4 @@
--- What the types and the faults at hand are, and what they are typed against, as the rules of typing have them.
+-- Defines the abstract views of the code's types, errors and environments, as the rules of typing have them.
 use Rattle.std.specs.Prelude.{◌≡◌, ◌≢◌, ℕ, List, [], ◌∷◌, Result, Ok, Err, IfErr, MatchResult}
 use Rattle.std.specs.Prelude.{Bool, true, false, if◌then◌else◌, IsTrue, Option, Some, IsSome}
 use Rattle.std.specs.Str.{bytes_eq}
@@ -26,6 +26,7 @@ use Rattle.type_checker.specs.declared.environment.TypingEnvironment.{TypingEnvi
 
 -- ---- types
 
+-- `boolean_view t` is the boolean type `t` of the code, and `leaf_view l` the type without parts `l`.
 abbrev pub boolean_view : BooleanType → types.StaticType
 boolean_view truth.True = true_type
 boolean_view truth.False = false_type
@@ -39,10 +40,12 @@ leaf_view (leaf.Entity n) = entity_type n.now
 leaf_view leaf.Decimal = decimal_type
 leaf_view leaf.Ipaddr = ipaddr_type
 
+-- `built_fields fs` are these fields, as a record type has them.
 abbrev pub built_fields : List (Bor (List ℕ) × types.StaticType × Bool) → FieldTypes
 built_fields [] = no_field_types
 built_fields (f ∷ fs) = field_type f.0.now f.1 f.2 (built_fields fs)
 
+-- `static_step t` is a node of the code over types.
 abbrev pub static_step : StaticType-F types.StaticType → types.StaticType
 static_step (StaticType-F.Leaf l) = leaf_view l
 static_step (StaticType-F.DeclaredSet t) = set_type (static (cedar_view t.now))
@@ -50,21 +53,24 @@ static_step (StaticType-F.DeclaredRecord fs) = record_type (static_fields (cedar
 static_step (StaticType-F.Set t) = set_type t
 static_step (StaticType-F.Record fs) = record_type (built_fields fs)
 
+-- `static_view t` is the type `t` of the code.
 abbrev pub static_view : StaticType → types.StaticType
 static_view = fold-StaticType types.StaticType static_step
 
--- ---- what is held
+-- ---- shared types
 
--- What an expression built of parts is kept once, and each copy is one holder more; what is declared is lent.
+-- A `Holding`: a type that an expression built is shared by its copies; a declared one is borrowed.
 pub record Holding : Type 0 where
   pub is_held : Bool
-  -- whether it has a field of this name that is held
+  -- whether it has a field of this name that is shared
   pub at : List ℕ → Bool
 
+-- `held_in fs k` tests whether the type of the field `k` is shared.
 abbrev pub held_in : List (Bor (List ℕ) × Holding × Bool) → List ℕ → Bool
 held_in [] k = false
 held_in (f ∷ fs) k = if bytes_eq k f.0.now then f.1.is_held else held_in fs k
 
+-- `holding_step t` says what is shared of a node over types of which this is known.
 abbrev pub holding_step : StaticType-F Holding → Holding
 holding_step (StaticType-F.Leaf l) = record { is_held = false; at = λ k. false }
 holding_step (StaticType-F.DeclaredSet t) = record { is_held = false; at = λ k. false }
@@ -72,17 +78,19 @@ holding_step (StaticType-F.DeclaredRecord fs) = record { is_held = false; at = �
 holding_step (StaticType-F.Set t) = record { is_held = true; at = λ k. false }
 holding_step (StaticType-F.Record fs) = record { is_held = true; at = held_in fs }
 
+-- `holding t` says what of the type `t` is shared.
 abbrev pub holding : StaticType → Holding
 holding = fold-StaticType Holding holding_step
 
--- Memory may be taken for the common type of t and another: there is one, and it is not t, or t is held.
+-- `MayTakeMemory t o` holds if the common type `o` of `t` and another may allocate: there is one, and it is not `t`,
+-- or `t` is shared.
 abbrev pub MayTakeMemory : StaticType → Option types.StaticType → Type 0
 MayTakeMemory t o = IsSome o × (o ≡ Some (static_view t) → IsTrue (holding t).is_held)
 
--- ---- faults
+-- ---- errors
 
--- A refused growth tells of no fault of typing. It is given one here since every case has to be; whoever states what a
--- fault tells leaves that case out first, as `Answers` does below.
+-- `fault_view f` is the error `f` of typing. `NoMemory` is not one, and is given one only because every case needs
+-- one; users exclude that case first, as `Answers` does below.
 abbrev pub fault_view : ExpressionFault → environment.ExpressionFault
 fault_view Unexpected = environment.unexpected
 fault_view NoCommonType = environment.no_common_type
@@ -91,19 +99,20 @@ fault_view EmptySet = environment.empty_set
 fault_view BadExtensionLiteral = environment.bad_extension_literal
 fault_view NoMemory = environment.unexpected
 
--- what was returned is what the row says, unless memory was refused
+-- `Answers r row` holds if `r` is what `row` says, or `NoMemory`.
 abbrev pub Answers : Result StaticType ExpressionFault → Row → Type 0
 Answers r row = MatchResult r (λ t. row ≡ Ok (static_view t)) (λ f. f ≢ NoMemory → row ≡ Err (fault_view f))
 
--- memory was asked for only where P holds
+-- `TakesMemoryOnly P r` holds if `r` is `NoMemory` only if `P` holds.
 abbrev pub TakesMemoryOnly : Type 0 → Result StaticType ExpressionFault → Type 0
 TakesMemoryOnly P r = IfErr r (λ f. f ≡ NoMemory → P)
 
--- no memory was asked for
+-- `TakesNoMemory r` holds if `r` is not `NoMemory`.
 abbrev pub TakesNoMemory : Result StaticType ExpressionFault → Type 0
 TakesNoMemory r = IfErr r (λ f. f ≢ NoMemory)
 
 -- ---- environments
 
+-- `typing_environment e` is the environment `e` of the code.
 abbrev pub typing_environment : TypingEnvironment → Environment
 typing_environment e = typing_environment_of (schema_view e.schema.now) (environment_view e.environment.now)

@@ -1,4 +1,4 @@
-//! `a is T in b`, which stands for `a is T && a in b`: its operand is typed once.
+//! `a is T in b`, which is `a is T && a in b`: its operand is typed once.
 ghost use Rattle.std.specs.Prelude.{◌≡◌, IsTrue, IfSome, MatchResult};
 ghost use Rattle.grammar_core.specs.declared.expr.Expr.{Expr};
 ghost use Rattle.grammar_core.specs.declared.expr.Expr.TheVariants as form;
@@ -32,7 +32,7 @@ fn may_hold(test: &Result<Typed<'_>, ExpressionFault>) -> bool
     }
 }
 
-/// Returns whether literals leave the answer open.
+/// Returns whether literals do not decide the result.
 fn is_unsettled<'a>(
     env: TypingEnvironment<'a>,
     operator: Binary,
@@ -47,7 +47,7 @@ fn is_unsettled<'a>(
     }
 }
 
-/// Returns whether a test that may be true asks of an operand that stands first in what is behind it too.
+/// Returns whether the right side starts with the operand of a test that may be true.
 fn is_again<'a>(
     env: TypingEnvironment<'a>,
     test: &Result<Typed<'a>, ExpressionFault>,
@@ -68,8 +68,8 @@ fn is_again<'a>(
     same_expr(operand, again)
 }
 
-/// Returns the type that the left of `&&` tests an operand for, where it may be true, and the right asks of the same
-/// operand, of which literals settle nothing.
+/// Returns the type that the left side of `&&` tests an operand for, if the test may be true, and the right side is
+/// an operator on the same operand that literals do not decide.
 #[tactic(auto, using(crate::proofs::AskedLemmas::asks_again))]
 pub(crate) fn asked_again<'a>(
     env: TypingEnvironment<'a>,
@@ -94,14 +94,14 @@ pub(crate) fn asked_again<'a>(
     }
 }
 
-/// Returns the type of entities of this name.
+/// Returns the type of entities of this type name.
 fn of_entities<'a>(name: &'a TypeName) -> StaticType<'a>
     ensures { static_view result ≡ types.entity_type name.entry.now }
 {
     StaticType::Leaf(Leaf::Entity(name))
 }
 
-/// Returns an operator whose first operand is an entity of this type.
+/// Returns the type of an operator whose first operand is an entity of this type.
 pub(crate) fn again_typed<'a>(
     alloc: Global,
     env: TypingEnvironment<'a>,

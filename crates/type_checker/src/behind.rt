@@ -1,4 +1,4 @@
-//! The type of an expression behind pairs that are known.
+//! The type of an expression under known capabilities.
 ghost use Rattle.std.specs.Prelude.{◌≢◌, IfOk, IfErr};
 ghost use Rattle.typing.specs.Typing.{Types};
 ghost use Rattle.typing.specs.Faults.{Faults};
@@ -14,9 +14,14 @@ use grammar_core::Expr;
 use std::alloc::Global;
 use type_capabilities::Pair;
 
-/// Returns the type of an expression where these pairs are known, with what it learns; or why it has none.
+/// Returns the type of an expression under these known capabilities, with the capabilities that it gains.
 ///
-/// It takes the time of [`judge_all`](crate::judge_all), and one look-up for each pair that is known.
+/// Takes the time of [`judge_all`](crate::judge_all), and one look-up for each known capability.
+///
+/// # Errors
+///
+/// - The first error of the expression.
+/// - `NoMemory`: an allocation failed; possible at any point.
 pub fn judge_behind<'a>(
     alloc: Global,
     env: TypingEnvironment<'a>,

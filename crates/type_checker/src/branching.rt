@@ -1,6 +1,6 @@
-//! What is judged of `&&`, `||` and `if`, by what is judged of their last operand.
+//! The judgement on `&&`, `||` and `if`, from that on their last operand.
 //!
-//! Each clause says: whatever the operands are, wherever so is judged of them, so is judged of the form.
+//! Each clause says: for all operands, if the judgements on the operands hold, so does the judgement on the whole.
 ghost use Rattle.std.specs.Prelude.{◌≡◌, ◌≢◌, IfOk, MatchResult, Ok, Err, Some, None};
 ghost use Rattle.grammar_core.specs.declared.expr.Expr.{Expr};
 ghost use Rattle.grammar_core.specs.declared.expr.Expr.TheVariants as form;
@@ -37,7 +37,7 @@ pub(crate) fn and_truth(left: BooleanType, right: BooleanType) -> BooleanType
     }
 }
 
-/// `&&`, whose left may be true.
+/// Returns the judgement on `&&`, whose left side may be true.
 pub(crate) fn and_typed<'a>(
     left: BooleanType,
     right: Result<Typed<'a>, ExpressionFault>,
@@ -65,7 +65,7 @@ pub(crate) fn and_typed<'a>(
     }
 }
 
-/// `||`, whose left is False.
+/// Returns the judgement on `||`, whose left side is False.
 pub(crate) fn or_behind_false<'a>(
     right: Result<Typed<'a>, ExpressionFault>,
 ) -> Result<Typed<'a>, ExpressionFault>
@@ -85,7 +85,7 @@ pub(crate) fn or_behind_false<'a>(
     }
 }
 
-/// Returns the type of `||`, by that of its right; its left may be true or false.
+/// Returns the type of `||`, by that of its right side; its left side may be true or false.
 fn or_truth(right: BooleanType) -> BooleanType
     ensures { boolean_view result ≡ or_type (boolean_view right) }
 {
@@ -96,7 +96,8 @@ fn or_truth(right: BooleanType) -> BooleanType
     }
 }
 
-/// Returns what `||` learns, by the type of its right and what its sides learn; its left may be true or false.
+/// Returns what `||` gains, by the type of its right side and what its sides gain; its left side may be true or
+/// false.
 #[tactic(auto, using(crate::proofs::Sides::or_none, crate::proofs::Sides::or_left, crate::proofs::Sides::or_both))]
 fn or_learns<'a>(
     alloc: Global,
@@ -114,7 +115,7 @@ fn or_learns<'a>(
     }
 }
 
-/// `||`, whose left may be true or false, and learns these pairs.
+/// Returns the judgement on `||`, whose left side may be true or false, and gains these capabilities.
 pub(crate) fn or_typed<'a>(
     alloc: Global,
     left: Vec<Pair<'a>>,
@@ -165,7 +166,7 @@ fn branch_type<'a>(
     }
 }
 
-/// Returns a type with what both branches learn.
+/// Returns a type with the capabilities that both branches gain.
 fn with_both<'a>(
     alloc: Global,
     kind: Result<StaticType<'a>, ExpressionFault>,
@@ -186,7 +187,7 @@ fn with_both<'a>(
     }
 }
 
-/// `if`, whose test may be true or false.
+/// Returns the judgement on `if`, whose test may be true or false.
 pub(crate) fn branches<'a>(
     alloc: Global,
     then: Typed<'a>,

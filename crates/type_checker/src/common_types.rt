@@ -1,4 +1,4 @@
-//! The common type of two.
+//! The common type of two types.
 ghost use Rattle.std.specs.Prelude.{◌≡◌, Some, option_map, IfOk, IfErr, IfSome};
 ghost use Rattle.typing.specs.Types.{set_type, record_type, common, common_fields};
 ghost use Rattle.type_checker.specs.Views.{boolean_view, leaf_view, static_view, MayTakeMemory};
@@ -11,12 +11,11 @@ use crate::type_joins::{Join, join_of, paired};
 use plain::{Items, NoMemory, Shared};
 use std::alloc::Global;
 
-/// Returns the common type of two types, where there is one, or `NoMemory`: of equal types that type, of types of
-/// booleans that differ any boolean, of sets by their members, and of records with equal keys and equal requirements
-/// field by field.
+/// Returns the common type of two types, if there is one, or `NoMemory`: of equal types that type, of different
+/// boolean types Bool, of sets by their members, and of records with equal keys and requirements field by field.
 ///
-/// Takes time linear in the smaller one's parts. Where it is the left one, as of one declared type with itself, that is
-/// copied; so memory is taken only where it is another.
+/// Takes time linear in the smaller one's nodes. If the result is the left type, as for one declared type with
+/// itself, it is copied; so only another result allocates.
 pub fn common<'a>(
     alloc: Global,
     left: &StaticType<'a>,
@@ -34,7 +33,7 @@ pub fn common<'a>(
     }
 }
 
-/// Returns the common type of two types of booleans.
+/// Returns the common type of two boolean types.
 fn common_boolean(left: BooleanType, right: BooleanType) -> BooleanType
     ensures { common (boolean_view left) (boolean_view right) ≡ Some (boolean_view result) }
 {
@@ -71,7 +70,7 @@ fn common_leaf<'a>(left: Leaf<'a>, right: Leaf<'a>) -> Option<Leaf<'a>>
     }
 }
 
-/// Returns the type of sets of these members, where there are any.
+/// Returns the type of sets of these members, if there is one.
 fn set_of<'a>(
     alloc: Global,
     member: Option<StaticType<'a>>,
@@ -85,7 +84,7 @@ fn set_of<'a>(
     }
 }
 
-/// Returns the type of two records that the schema declares with the same fields; None says nothing. Takes no memory.
+/// Returns the type of two declared records with the same fields; `None` says nothing. Does not allocate.
 fn declared_record<'a>(left: Fields<'_, 'a>, right: Fields<'_, 'a>) -> Option<StaticType<'a>>
     ensures { IfSome result (λ t. Some (static_view t)
         ≡ option_map record_type (common_fields (fields_view left.entry) (fields_view right.entry))) }

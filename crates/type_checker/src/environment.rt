@@ -1,4 +1,4 @@
-//! What policies are typed against.
+//! The environments that policies are typed in.
 ghost use Rattle.std.specs.Prelude.{◌≡◌, ◌↔◌, [], false, Contains, IsTrue};
 ghost use Rattle.values.specs.Names.{text_cmp};
 ghost use Rattle.schema_types.specs.CedarViews.{cedar_view, cedar_fields_view};
@@ -20,7 +20,7 @@ use schema_types::CedarType;
 use std::cmp::Ordering;
 use values::{EntityUid, TypeName};
 
-/// One kind of request, and the schema that says of what types entities are.
+/// One kind of request, and the schema with the types of entities.
 #[derive(Clone, Copy)]
 pub struct TypingEnvironment<'a> {
     pub schema: &'a Schema,
@@ -70,14 +70,14 @@ fn attributes_of<'a>(schema: &'a Schema, name: &TypeName) -> &'a [(Text, CedarTy
     }
 }
 
-/// Returns how the name of a field compares with another.
+/// Compares the name of a field with another.
 fn compare(field: &(Text, CedarType, bool), key: &str) -> Ordering
     ensures { result ≡ text_cmp field.now.0 key.now }
 {
     field.0.as_str().cmp(key)
 }
 
-/// Returns what fields in order say of a key; takes logarithmic time.
+/// Returns the declaration of a key in sorted fields. O(log n).
 fn found_in_order<'r, 'a>(
     fields: &'a [(Text, CedarType, bool)],
     key: &str,
@@ -96,7 +96,7 @@ fn found_in_order<'r, 'a>(
 }
 
 impl<'a> TypingEnvironment<'a> {
-    /// Returns an environment of a schema; takes no memory.
+    /// Returns an environment of a schema. Does not allocate.
     pub fn new(schema: &'a Schema, environment: &'a Environment) -> TypingEnvironment<'a>
         ensures { typing_environment result
             ≡ typing_environment_of (schema_view schema.now) (environment_view environment.now) }
@@ -107,7 +107,7 @@ impl<'a> TypingEnvironment<'a> {
         }
     }
 
-    /// Returns the type of a part of the request; takes no memory.
+    /// Returns the type of a variable. Does not allocate.
     pub fn variable_type(self, variable: Variable) -> StaticType<'a>
         ensures { static_view result ≡ variable_type (typing_environment self.entry) variable }
     {
@@ -121,7 +121,7 @@ impl<'a> TypingEnvironment<'a> {
         }
     }
 
-    /// Returns the action of each request; takes no memory.
+    /// Returns the action of the environment. Does not allocate.
     pub fn action(self) -> &'a EntityUid
         ensures { result.now ≡ (typing_environment self.entry).action }
     {
@@ -129,7 +129,7 @@ impl<'a> TypingEnvironment<'a> {
         &environment.place.action
     }
 
-    /// Returns what the type of the entities of a type says of an attribute; takes logarithmic time.
+    /// Returns the declaration of an attribute of an entity type. O(log n).
     pub(crate) fn attribute<'r>(self, name: &TypeName, key: &str) -> Option<(Part<'r, 'a>, bool)>
         ensures declared { found_view result
             ≡ field_declared_at key.now ((typing_environment self.entry).attributes name.now) }
@@ -140,21 +140,21 @@ impl<'a> TypingEnvironment<'a> {
         found_in_order(attributes_of(self.schema, name), key)
     }
 
-    /// Returns whether the entities of a type are actions; takes no memory.
+    /// Returns whether the entities of a type are actions. Does not allocate.
     pub fn is_action_type(self, name: &TypeName) -> bool
         ensures { result ≡ (typing_environment self.entry).is_action_type name.now }
     {
         is_action_type(name)
     }
 
-    /// Returns whether entities of the first type may have ancestors of the second; takes no memory.
+    /// Returns whether entities of the type `below` may have ancestors of the type `above`. Does not allocate.
     pub fn may_be_below(self, below: &TypeName, above: &TypeName) -> bool
         ensures { result ≡ (typing_environment self.entry).may_be_below below.now above.now }
     {
         self.schema.may_have_parent(below, above)
     }
 
-    /// Returns whether an entity is an ancestor of an action, by the schema; takes no memory, and logarithmic time.
+    /// Returns whether an entity is an ancestor of an action, by the schema. O(log n). Does not allocate.
     pub fn is_action_ancestor(self, action: &EntityUid, above: &EntityUid) -> bool
         ensures { IsTrue result ↔ Contains ((typing_environment self.entry).action_ancestors action.now) above.now }
     {

@@ -1,4 +1,4 @@
-//! Why an expression has no type.
+//! Errors of typing.
 ghost use Rattle.std.specs.Prelude.{◌≡◌};
 
 use plain::NoMemory;
@@ -8,16 +8,16 @@ use thiserror::Error;
 /// Why an expression has no type.
 #[derive(Clone, Copy, PartialEq, Eq, Debug, Error)]
 pub enum ExpressionFault {
-    /// An allocation was refused.
+    /// An allocation failed.
     #[error("type 1: out of memory")]
     NoMemory,
-    /// Another kind of type is needed.
+    /// Another type is required.
     #[error("type 42: operand of the wrong type")]
     Unexpected,
-    /// Types that have to have a common type have none.
+    /// Types that must have a common type have none.
     #[error("type 43: types without a common type")]
     NoCommonType,
-    /// A field is not declared, or is optional and not known to be there.
+    /// A field is not declared, or is optional without a known capability.
     #[error("type 44: attribute undeclared, or optional and not known to be present")]
     AttributeMayBeMissing,
     /// A set literal has no members.

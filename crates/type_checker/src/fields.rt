@@ -15,7 +15,7 @@ use crate::static_type::{BooleanType, Leaf, StaticType};
 use plain::Text;
 use schema_types::CedarType;
 
-/// Returns what a record type that an expression built says of a key, by a walk over its fields.
+/// Returns the declaration of a key in a record type that an expression built, by a linear search.
 fn found_built<'r, 'a>(
     fields: &'r [(&'a str, StaticType<'a>, bool)],
     key: &str,
@@ -31,7 +31,7 @@ fn found_built<'r, 'a>(
     None
 }
 
-/// Returns what a record type that the schema declares says of a key, by a walk over its fields.
+/// Returns the declaration of a key in a declared record type, by a linear search.
 fn found_declared<'r, 'a>(
     fields: &'a [(Text, CedarType, bool)],
     key: &str,
@@ -47,7 +47,7 @@ fn found_declared<'r, 'a>(
     None
 }
 
-/// Returns what a record type says of a key, by a walk over its fields.
+/// Returns the declaration of a key in a record type, by a linear search.
 fn found<'r, 'a>(fields: Fields<'r, 'a>, key: &str) -> Option<(Part<'r, 'a>, bool)>
     ensures { found_view result ≡ field_declared_at key.now (fields_view fields.entry) }
 {
@@ -57,7 +57,7 @@ fn found<'r, 'a>(fields: Fields<'r, 'a>, key: &str) -> Option<(Part<'r, 'a>, boo
     }
 }
 
-/// Returns the type of a field that is required, or optional and known.
+/// Returns the type of a field that is required, or optional with a known capability.
 fn access<'a>(
     is_known: bool,
     declared: Option<(Part<'_, 'a>, bool)>,
@@ -77,7 +77,7 @@ fn access<'a>(
     }
 }
 
-/// Returns whether a record has a field.
+/// Returns the type of `has` for a record.
 fn record_has(is_known: bool, declared: Option<(Part<'_, '_>, bool)>) -> BooleanType
     ensures { boolean_view result ≡ if is_known then true_type else record_has (found_view declared.entry) }
 {
@@ -91,7 +91,7 @@ fn record_has(is_known: bool, declared: Option<(Part<'_, '_>, bool)>) -> Boolean
     }
 }
 
-/// Returns whether an entity, which may not be stored, has an attribute.
+/// Returns the type of `has` for an entity, which may not be stored.
 fn entity_has(is_known: bool, declared: Option<(Part<'_, '_>, bool)>) -> BooleanType
     ensures { boolean_view result ≡ if is_known then true_type else entity_has (found_view declared.entry) }
 {
@@ -104,12 +104,14 @@ fn entity_has(is_known: bool, declared: Option<(Part<'_, '_>, bool)>) -> Boolean
     }
 }
 
-/// Returns the type of `e.f`, by the type of `e` and whether it is known that `e` has the field. It takes no memory,
-/// and it is `NoMemory` only where an expression built the field's type, and its holders are as many as can be counted.
+/// Returns the type of `e.f`, by the type of `e` and whether it is known that `e` has the field. O(log n) for an
+/// entity. Does not allocate.
 ///
-/// Takes logarithmic time where `e` is an entity.
+/// # Errors
 ///
-/// Refused where `e` is neither a record nor an entity, and where the field is not declared, or optional and not known.
+/// - `Unexpected`: `e` is neither a record nor an entity.
+/// - `AttributeMayBeMissing`: the field is not declared, or is optional and not known.
+/// - `NoMemory`: only if an expression built the field's type, and the count of references to it would overflow.
 pub fn field_type<'a>(
     env: TypingEnvironment<'a>,
     is_known: bool,
@@ -130,10 +132,12 @@ pub fn field_type<'a>(
     }
 }
 
-/// Returns the type of `e has f`, by the type of `e` and whether it is known that `e` has the field; takes no memory,
-/// and logarithmic time where `e` is an entity.
+/// Returns the type of `e has f`, by the type of `e` and whether it is known that `e` has the field. O(log n) for an
+/// entity. Does not allocate.
 ///
-/// Refused where `e` is neither a record nor an entity.
+/// # Errors
+///
+/// - `Unexpected`: `e` is neither a record nor an entity.
 pub fn has_type<'a>(
     env: TypingEnvironment<'a>,
     is_known: bool,

@@ -1,6 +1,6 @@
-//! What is judged of a form, by what is judged of its last operand.
+//! The judgement on an expression, from that on its last operand.
 //!
-//! Each clause says: whatever the operands are, wherever so is judged of them, so is judged of the form.
+//! Each clause says: for all operands, if the judgements on the operands hold, so does the judgement on the whole.
 ghost use Rattle.std.specs.Prelude.{◌≡◌, ◌≢◌, List, map, IfOk, MatchResult};
 ghost use Rattle.grammar_core.specs.declared.expr.Expr.{Expr};
 ghost use Rattle.grammar_core.specs.declared.expr.Expr.TheVariants as form;
@@ -29,7 +29,7 @@ use plain::NoMemory;
 use std::alloc::Global;
 use type_capabilities::{Capabilities, Pair};
 
-/// Returns an operator with its operand.
+/// Returns the judgement on an operator with its operand.
 pub(crate) fn unary_typed<'a>(
     alloc: Global,
     operator: &Unary,
@@ -45,7 +45,7 @@ pub(crate) fn unary_typed<'a>(
     typed_row(alloc, unary_type(operator, operand.kind))
 }
 
-/// Returns an operator with its operands.
+/// Returns the judgement on an operator with its operands.
 pub(crate) fn binary_typed<'a>(
     alloc: Global,
     env: TypingEnvironment<'a>,
@@ -71,7 +71,7 @@ pub(crate) fn binary_typed<'a>(
     )
 }
 
-/// Returns a method of an extension with its operands.
+/// Returns the judgement on a method of an extension with its operands.
 pub(crate) fn call_typed<'a>(
     alloc: Global,
     called: BinaryCall,
@@ -92,7 +92,7 @@ pub(crate) fn call_typed<'a>(
     typed_row(alloc, call_type(called, left.kind, right.kind))
 }
 
-/// Returns a function of an extension, or a test of an address, with its operand.
+/// Returns the judgement on a function of an extension, or a test of an IP address, with its operand.
 pub(crate) fn unary_call_typed<'a>(
     alloc: Global,
     called: UnaryCall,
@@ -109,7 +109,7 @@ pub(crate) fn unary_call_typed<'a>(
     typed_row(alloc, unary_call_type(called, operand, typed.kind))
 }
 
-/// Returns a field or an attribute.
+/// Returns the judgement on a field or an attribute.
 pub(crate) fn field_typed<'a>(
     alloc: Global,
     env: TypingEnvironment<'a>,
@@ -132,7 +132,7 @@ pub(crate) fn field_typed<'a>(
     typed_row(alloc, row)
 }
 
-/// Returns whether `has` of this type learns its pair: where it is neither known nor impossible.
+/// Returns whether `has` of this type gains its capability: if it is neither known nor impossible.
 #[tactic(auto, using(crate::proofs::Carrying::none_learned))]
 fn is_learned(kind: &StaticType<'_>) -> bool
     ensures { (p : learned.Pair) → has_learns (static_view kind.now) p ≡ if_learned result p }
@@ -145,7 +145,7 @@ fn is_learned(kind: &StaticType<'_>) -> bool
     }
 }
 
-/// Returns what `has` learns.
+/// Returns what `has` gains.
 fn learned<'a>(
     alloc: Global,
     kind: &StaticType<'a>,
@@ -162,7 +162,7 @@ fn learned<'a>(
     Ok(learns)
 }
 
-/// Returns the type of `has`, with what it learns.
+/// Returns the type of `has`, with what it gains.
 fn has_row<'a>(
     alloc: Global,
     row: Result<StaticType<'a>, ExpressionFault>,
@@ -180,7 +180,7 @@ fn has_row<'a>(
     }
 }
 
-/// Returns whether there is a field or an attribute.
+/// Returns the judgement on `has`.
 pub(crate) fn has_typed<'a>(
     alloc: Global,
     env: TypingEnvironment<'a>,
@@ -203,7 +203,7 @@ pub(crate) fn has_typed<'a>(
     has_row(alloc, row, owner, name)
 }
 
-/// Returns a set literal.
+/// Returns the judgement on a set literal.
 pub(crate) fn set_typed<'a>(
     alloc: Global,
     types: Result<Vec<StaticType<'a>>, ExpressionFault>,
@@ -218,7 +218,7 @@ pub(crate) fn set_typed<'a>(
     typed_row(alloc, set_literal_type(alloc, types))
 }
 
-/// Returns a record literal.
+/// Returns the judgement on a record literal.
 pub(crate) fn record_typed<'a>(
     alloc: Global,
     fields: &'a [Named<Expr>],
@@ -238,7 +238,7 @@ pub(crate) fn record_typed<'a>(
     }
 }
 
-/// Puts the type of one more behind those of several.
+/// Appends the type of one more expression to those of several.
 pub(crate) fn put_type<'a>(
     types: &mut Vec<StaticType<'a>>,
     typed: Result<Typed<'a>, ExpressionFault>,

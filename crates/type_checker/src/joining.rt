@@ -1,4 +1,4 @@
-//! Expressions that are joined by `&&`, to the right: one part after the other.
+//! Expressions that are joined by `&&`, to the right: one part after another.
 ghost use Rattle.std.specs.Prelude.{◌≡◌, ◌≢◌, ◌++◌, Some, option_map, MatchResult};
 ghost use Rattle.grammar_core.specs.declared.expr.Expr.{Expr};
 ghost use Rattle.grammar_core.specs.declared.expr.Expr.TheVariants as form;
@@ -21,7 +21,7 @@ use grammar_core::Expr;
 use std::alloc::Global;
 use type_capabilities::Capabilities;
 
-/// Returns which type of booleans a left of `&&` has; what it learns is put on top of what is known.
+/// Returns the boolean type of a left side of `&&`; the capabilities that it gains are pushed.
 fn known_left<'a>(
     known: &mut Capabilities<'a>,
     typed: &Typed<'a>,
@@ -41,7 +41,7 @@ fn known_left<'a>(
     }
 }
 
-/// Returns which type of booleans a left of `&&` has where these pairs are known; what it learns is put on top of them.
+/// Returns the boolean type of a left side of `&&` under these known capabilities; those that it gains are pushed.
 pub(crate) fn left_type<'a>(
     alloc: Global,
     env: TypingEnvironment<'a>,
@@ -60,7 +60,7 @@ pub(crate) fn left_type<'a>(
     }
 }
 
-/// Returns the type of the parts so far, with one more behind them.
+/// Returns the type of the parts so far, with one more after them.
 pub(crate) fn and_one_more(so_far: Option<BooleanType>, truth: BooleanType) -> Option<BooleanType>
     ensures { option_map boolean_view result
         ≡ Some (and_so_far (option_map boolean_view so_far) (boolean_view truth)) }

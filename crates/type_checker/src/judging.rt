@@ -27,7 +27,7 @@ use plain::{Items, Shared};
 use std::alloc::Global;
 use type_capabilities::{Capabilities, Pair};
 
-/// Returns what is judged of an expression where these pairs are known. They are a stack, which is as it was wherever
+/// Returns the judgement on an expression under these known capabilities. They are a stack, which is unchanged if
 /// there is a type.
 #[cycle(judge)]
 pub(crate) fn type_of<'a>(
@@ -79,7 +79,7 @@ pub(crate) fn type_of<'a>(
     }
 }
 
-/// Returns what is judged of an expression where these are known too; what it learns has them in front.
+/// Returns the judgement on an expression under further known capabilities, which are in front of what it gains.
 #[cycle(judge)]
 #[inline(never)]
 fn type_behind<'a>(
@@ -103,7 +103,8 @@ fn type_behind<'a>(
     }
 }
 
-/// `&&`: its left, and then its right, whose first operand is not typed again where the left tests it for a type.
+/// Returns the judgement on `&&`: its left side, and then its right, whose first operand is not typed again if the
+/// left side tests its type.
 #[cycle(judge)]
 #[inline(never)]
 fn type_and<'a>(
@@ -133,7 +134,7 @@ fn type_and<'a>(
     }
 }
 
-/// `||`: its left, and then its right.
+/// Returns the judgement on `||`: its left side, and then its right.
 #[cycle(judge)]
 #[inline(never)]
 fn type_or<'a>(
@@ -150,7 +151,7 @@ fn type_or<'a>(
     second_disjunct(alloc, right, env, known, left)
 }
 
-/// Returns an operator with its operands, which are not looked at where they settle its answer as they are written.
+/// Returns the judgement on an operator with its operands, which are not typed if literals decide the result.
 #[cycle(judge)]
 #[inline(never)]
 fn type_binary<'a>(
@@ -173,7 +174,7 @@ fn type_binary<'a>(
     }
 }
 
-/// `&&` behind its left.
+/// Returns the judgement on `&&`, after its left side.
 #[cycle(judge)]
 #[inline(never)]
 fn second_conjunct<'a>(
@@ -205,7 +206,7 @@ fn second_conjunct<'a>(
     }
 }
 
-/// `||` behind its left.
+/// Returns the judgement on `||`, after its left side.
 #[cycle(judge)]
 #[inline(never)]
 fn second_disjunct<'a>(
@@ -243,7 +244,7 @@ fn second_disjunct<'a>(
     }
 }
 
-/// `if` behind its test.
+/// Returns the judgement on `if` up to its `then`, after its test.
 #[cycle(judge)]
 #[inline(never)]
 fn type_then<'a>(
@@ -279,7 +280,7 @@ fn type_then<'a>(
     }
 }
 
-/// `if` behind its `then`.
+/// Returns the judgement on `if`, after its `then`.
 #[cycle(judge)]
 #[inline(never)]
 fn type_else<'a>(
@@ -304,7 +305,7 @@ fn type_else<'a>(
     }
 }
 
-/// Returns an operator behind its first operand.
+/// Returns the judgement on an operator, after its first operand.
 #[cycle(judge)]
 #[inline(never)]
 fn second_operand<'a>(
@@ -328,7 +329,7 @@ fn second_operand<'a>(
     }
 }
 
-/// Returns a method of an extension behind its receiver.
+/// Returns the judgement on a method of an extension, after its receiver.
 #[cycle(judge)]
 #[inline(never)]
 fn second_called<'a>(
@@ -351,7 +352,7 @@ fn second_called<'a>(
     }
 }
 
-/// Returns the types of the members of a set, but of those that repeat the member before them.
+/// Returns the types of the members of a set, except those that repeat the previous member.
 #[cycle(judge)]
 #[inline(never)]
 fn types_of<'a>(

@@ -1,4 +1,4 @@
-//! Capabilities, as typing puts them and asks for them.
+//! Capabilities, as typing uses them.
 ghost use Rattle.std.specs.Prelude.{◌≡◌, ◌↔◌, ◌∷◌, [], ◌++◌, IsTrue, IfOk, Contains};
 ghost use Rattle.typing.specs.Learned.{Pairs, InBoth};
 ghost use Rattle.type_capabilities.specs.Pairs.{pair_of, pairs};
@@ -8,14 +8,14 @@ use plain::NoMemory;
 use std::alloc::Global;
 use type_capabilities::{Capabilities, Pair};
 
-/// Returns whether the pair is known.
+/// Returns whether the capability is known.
 pub(crate) fn knows<'a>(known: &Capabilities<'a>, whole: &'a Expr, name: &'a str) -> bool
     ensures { IsTrue result ↔ Contains known.now (whole.entry.now, name.entry.now) }
 {
     known.knows(&Pair { whole, name })
 }
 
-/// Puts the pair behind those of both lists, where it is one of the second.
+/// Appends the capability to those of both lists, if it is in the second.
 fn keep<'a>(
     both: &mut Vec<Pair<'a>>,
     pair: Pair<'a>,
@@ -31,7 +31,7 @@ fn keep<'a>(
     Ok(())
 }
 
-/// Returns those of the pairs that are known.
+/// Returns those of the capabilities that are known.
 fn known_of<'a>(
     alloc: Global,
     these: &[Pair<'a>],
@@ -46,7 +46,7 @@ fn known_of<'a>(
     Ok(both)
 }
 
-/// Returns the pairs as a stack, where one look-up finds a pair.
+/// Returns the capabilities as a stack, with a look-up for each.
 pub(crate) fn stacked<'a>(alloc: Global, these: &[Pair<'a>]) -> Result<Capabilities<'a>, NoMemory>
     ensures { IfOk result (λ known. known ≡ pairs these.now) }
 {
@@ -55,7 +55,7 @@ pub(crate) fn stacked<'a>(alloc: Global, these: &[Pair<'a>]) -> Result<Capabilit
     Ok(known)
 }
 
-/// Returns the pairs of the one list that stand in the other too, which is put where one look-up finds a pair.
+/// Returns the capabilities of the first list that are in the second too, which is made a stack for its look-ups.
 pub(crate) fn in_both<'a>(
     alloc: Global,
     left: &[Pair<'a>],
@@ -67,7 +67,7 @@ pub(crate) fn in_both<'a>(
     known_of(alloc, left, &known)
 }
 
-/// Returns the pairs of the one list that stand in the other too, of lists.
+/// Returns the capabilities of the first list that are in the second too.
 pub(crate) fn in_both_lists<'a>(
     alloc: Global,
     left: &Vec<Pair<'a>>,
@@ -78,7 +78,7 @@ pub(crate) fn in_both_lists<'a>(
     in_both(alloc, left.as_slice(), right.as_slice())
 }
 
-/// Puts what is learned on top of what is known.
+/// Pushes gained capabilities onto the known ones.
 pub(crate) fn know_too<'a>(
     known: &mut Capabilities<'a>,
     learns: &Vec<Pair<'a>>,
@@ -89,7 +89,7 @@ pub(crate) fn know_too<'a>(
     Ok(())
 }
 
-/// Puts what is learned behind what is learned before.
+/// Appends gained capabilities to those gained before.
 pub(crate) fn learn_too<'a>(learns: &mut Vec<Pair<'a>>, own: &Vec<Pair<'a>>) -> Result<(), NoMemory>
     ensures { IfOk result (λ _. learns.new.items ≡ learns.old.items ++ own.now.items) }
 {

@@ -1,5 +1,5 @@
-//! What type an expression has under the strict validator's rules, or why it has none: what each form demands of its
-//! operands' types, and the type that it has then. The types that a schema declares are borrowed from it, whole.
+//! The type of an expression under the strict validator's rules, or its error: the required types of the operands of
+//! each kind of expression, and its own type. The types that a schema declares are borrowed from it, whole.
 #![tactic(auto)]
 
 mod asking;

@@ -14,7 +14,7 @@ use plain::{Items, NoMemory, Shared};
 use std::alloc::Global;
 use std::collections::BTreeMap;
 
-/// Returns the type of a boolean that is known.
+/// Returns the type of a known boolean.
 pub(crate) fn truth_type(truth: bool) -> BooleanType
     ensures { boolean_view result ≡ truth_type truth }
 {
@@ -25,7 +25,7 @@ pub(crate) fn truth_type(truth: bool) -> BooleanType
     }
 }
 
-/// Returns the type of a literal; takes no memory.
+/// Returns the type of a literal. Does not allocate.
 pub fn literal_type<'a>(literal: &'a Literal) -> StaticType<'a>
     ensures { static_view result ≡ literal_type literal.now }
 {
@@ -37,7 +37,7 @@ pub fn literal_type<'a>(literal: &'a Literal) -> StaticType<'a>
     }
 }
 
-/// Returns the common type of those so far and one more, where there is one.
+/// Returns the common type of the types so far and one more, if there is one.
 fn joined_with<'a>(
     alloc: Global,
     joined: StaticType<'a>,
@@ -70,9 +70,13 @@ fn set_type_of<'a>(
     Ok(StaticType::Set(Shared::new(alloc, joined)?))
 }
 
-/// Returns the type of a set literal whose members have these types, or `NoMemory`.
+/// Returns the type of a set literal whose members have these types.
 ///
-/// Refused where there are no members, and where they have no common type.
+/// # Errors
+///
+/// - `EmptySet`: there are no members.
+/// - `NoCommonType`: they have no common type.
+/// - `NoMemory`: an allocation failed; possible at any point.
 pub fn set_literal_type<'a>(
     alloc: Global,
     members: Vec<StaticType<'a>>,
@@ -85,7 +89,7 @@ pub fn set_literal_type<'a>(
     }
 }
 
-/// Gives a key its type, whether it had one or not.
+/// Sets the type of a key, whether it had one or not.
 fn put_field<'a>(
     map: BTreeMap<&'a str, StaticType<'a>>,
     key: &'a str,
@@ -113,7 +117,7 @@ fn listed_fields<'a>(
     Ok(fields)
 }
 
-/// Each name with its type; of equal names the last one's.
+/// Returns each name with its type; of equal names, the last one's.
 fn typed_fields<'a>(
     alloc: Global,
     fields: &'a [Named<Expr>],

@@ -1,4 +1,4 @@
-//! What literals settle: `==` of two, and an action's `in` entity literals.
+//! What literals decide: `==` of two, and an action's `in` entity literals.
 ghost use Rattle.std.specs.Prelude.{◌≡◌, ◌↔◌, ◌⊎◌, List, IsTrue, MatchOption, Contains};
 ghost use Rattle.std.specs.Bool.{Decides};
 ghost use Rattle.grammar_core.specs.declared.leaf.Literal.{Literal};
@@ -14,7 +14,7 @@ use grammar_core::{Binary, Expr, Literal, Variable};
 use plain::Text;
 use values::EntityUid;
 
-/// A literal, borrowed where it stands; that of `action` stands in the environment.
+/// A borrowed literal; that of `action` is in the environment.
 #[derive(Clone, Copy)]
 pub(crate) enum LiteralRef<'a> {
     Boolean(bool),
@@ -61,7 +61,7 @@ fn as_literal<'a>(env: TypingEnvironment<'a>, expr: &'a Expr) -> Option<LiteralR
     }
 }
 
-/// Returns the entity that an expression is a literal of.
+/// Returns the entity of an entity literal.
 fn as_entity<'a>(env: TypingEnvironment<'a>, expr: &'a Expr) -> Option<&'a EntityUid>
     ensures { MatchOption result
         ((u : EntityUid) → ¬ IsLiteral (typing_environment env.entry) expr.now (literal.Entity u))
@@ -74,7 +74,7 @@ fn as_entity<'a>(env: TypingEnvironment<'a>, expr: &'a Expr) -> Option<&'a Entit
     }
 }
 
-/// `==` of two literals.
+/// Returns the result of `==` of two literals.
 fn settled_equal<'a>(env: TypingEnvironment<'a>, left: &'a Expr, right: &'a Expr) -> Option<bool>
     ensures { MatchOption result (IsUnsettled (typing_environment env.entry) binary.Equal left.now right.now)
         (λ r. Settled (typing_environment env.entry) binary.Equal left.now right.now r) }
@@ -89,21 +89,21 @@ fn settled_equal<'a>(env: TypingEnvironment<'a>, left: &'a Expr, right: &'a Expr
     }
 }
 
-/// Returns whether an action is an entity or below it, by the schema.
+/// Returns whether an action is an entity or a descendant of it, by the schema.
 fn is_action_in(env: TypingEnvironment<'_>, action: &EntityUid, other: &EntityUid) -> bool
     ensures { Decides result (IsActionIn (typing_environment env.entry) action.now other.now) }
 {
     action.same(other) || env.is_action_ancestor(action, other)
 }
 
-/// Returns whether one of two is so.
+/// Returns whether one of the two holds.
 fn either(one: bool, other: bool) -> bool
     ensures { IsTrue result ↔ (IsTrue one ⊎ IsTrue other) }
 {
     one || other
 }
 
-/// Returns whether an action is in one of these, where all are entity literals.
+/// Returns whether an action is in one of these, if all are entity literals.
 fn in_some<'a>(env: TypingEnvironment<'a>, action: &EntityUid, members: &'a [Expr]) -> Option<bool>
     ensures { let E = typing_environment env.entry in
         MatchOption result ((us : List EntityUid) → ¬ AreEntityLiterals E members.now us)
@@ -122,7 +122,7 @@ fn in_some<'a>(env: TypingEnvironment<'a>, action: &EntityUid, members: &'a [Exp
     Some(found)
 }
 
-/// Returns whether an action is in the entities that an expression lists, where it does.
+/// Returns whether an action is in the entities that an expression lists, if it lists any.
 fn in_listed<'a>(env: TypingEnvironment<'a>, action: &EntityUid, listed: &'a Expr) -> Option<bool>
     ensures { let E = typing_environment env.entry in
         MatchOption result ((us : List EntityUid) → ¬ ListsEntities E listed.now us)
@@ -146,7 +146,7 @@ fn in_listed<'a>(env: TypingEnvironment<'a>, action: &EntityUid, listed: &'a Exp
     }
 }
 
-/// Returns an action's `in` entity literals.
+/// Returns the result of an action's `in` entity literals.
 fn settled_in<'a>(env: TypingEnvironment<'a>, left: &'a Expr, right: &'a Expr) -> Option<bool>
     ensures { MatchOption result (IsUnsettled (typing_environment env.entry) binary.In left.now right.now)
         (λ r. Settled (typing_environment env.entry) binary.In left.now right.now r) }
@@ -164,7 +164,7 @@ fn settled_in<'a>(env: TypingEnvironment<'a>, left: &'a Expr, right: &'a Expr) -
     }
 }
 
-/// Returns the answer that literals settle, before any type is looked at.
+/// Returns the result that literals decide, before any type is checked.
 pub(crate) fn settled<'a>(
     env: TypingEnvironment<'a>,
     operator: Binary,

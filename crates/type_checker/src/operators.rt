@@ -1,4 +1,4 @@
-//! What operators and calls demand of their operands' types, and their types then.
+//! The types of operators and calls, by the types of their operands.
 ghost use Rattle.std.specs.Prelude.{◌≡◌, Ok, option_map};
 ghost use Rattle.grammar_core.specs.declared.operator.Unary.TheVariants.{Not};
 ghost use Rattle.grammar_core.specs.declared.operator.Binary.TheVariants.{In};
@@ -21,7 +21,7 @@ use grammar_core::{Binary, BinaryCall, Unary};
 use std::alloc::Global;
 use values::TypeName;
 
-/// Returns the type of a boolean that is turned round.
+/// Returns the type of a negated boolean.
 fn turned(truth: BooleanType) -> BooleanType
     ensures { unary_type Not (boolean_view truth) ≡ Ok (boolean_view result) }
 {
@@ -55,9 +55,11 @@ fn unary_of<'a>(
     }
 }
 
-/// Returns the type of an operator's result on an operand of this type; takes no memory.
+/// Returns the type of an operator's result on an operand of this type. Does not allocate.
 ///
-/// Refused where the operator demands another.
+/// # Errors
+///
+/// - `Unexpected`: the operator requires another type.
 pub fn unary_type<'a>(
     operator: &Unary,
     operand: StaticType<'a>,
@@ -70,10 +72,15 @@ pub fn unary_type<'a>(
     row
 }
 
-/// Returns the type of an operator's result on operands of these types; takes no memory, and time linear in the smaller
-/// one's parts.
+/// Returns the type of an operator's result on operands of these types. Does not allocate. Takes time linear in the
+/// smaller one's nodes.
 ///
-/// Refused where the operator demands other kinds of types, and then where it demands a common type and there is none.
+/// # Errors
+///
+/// In this order:
+///
+/// - `Unexpected`: the operator requires other types.
+/// - `NoCommonType`: the operator requires a common type, and there is none.
 pub fn binary_type<'a>(
     _alloc: Global,
     env: TypingEnvironment<'a>,
@@ -114,7 +121,7 @@ fn binary_of<'a>(
     }
 }
 
-/// Any boolean where two types have a common type.
+/// Returns Bool if two types have a common type.
 fn if_common<'a>(left: Part<'_, 'a>, right: Part<'_, 'a>) -> Result<StaticType<'a>, ExpressionFault>
     ensures row { Answers result (if_common (common (part_view left.entry) (part_view right.entry))) }
     ensures memory { TakesNoMemory result }
@@ -125,7 +132,7 @@ fn if_common<'a>(left: Part<'_, 'a>, right: Part<'_, 'a>) -> Result<StaticType<'
     }
 }
 
-/// Returns the name where a type is an entity type.
+/// Returns the name of an entity type.
 fn entity_of<'a>(kind: TypeKind<'_, 'a>) -> Option<&'a TypeName>
     ensures { option_map (λ n. n.now) result ≡ entity_type_in (kind_view kind.entry) }
 {
@@ -135,7 +142,7 @@ fn entity_of<'a>(kind: TypeKind<'_, 'a>) -> Option<&'a TypeName>
     }
 }
 
-/// Returns the name where a type is an entity type, or a set of one.
+/// Returns the name of an entity type, or that of a set's members.
 fn entities_of<'a>(kind: TypeKind<'_, 'a>) -> Option<&'a TypeName>
     ensures { option_map (λ n. n.now) result ≡ entities_in (kind_view kind.entry) }
 {
@@ -145,7 +152,7 @@ fn entities_of<'a>(kind: TypeKind<'_, 'a>) -> Option<&'a TypeName>
     }
 }
 
-/// False for entities of two types; else any boolean where there is a common type.
+/// Returns False for entities of two types; otherwise Bool if there is a common type.
 fn equal_of<'a>(left: Part<'_, 'a>, right: Part<'_, 'a>) -> Result<StaticType<'a>, ExpressionFault>
     ensures row { Answers result (equal_type (part_view left.entry) (part_view right.entry)) }
     ensures memory { TakesNoMemory result }
@@ -198,7 +205,7 @@ fn in_of<'a>(
     }
 }
 
-/// This type, of two numbers.
+/// Returns this type for two integers.
 fn of_numbers<'a>(
     given: Leaf<'a>,
     left: TypeKind<'_, 'a>,
@@ -239,9 +246,11 @@ fn sets_of<'a>(
     }
 }
 
-/// Returns the type of a test of an address, by its operand's type; takes no memory.
+/// Returns the type of a test of an IP address, by its operand's type. Does not allocate.
 ///
-/// Refused where that is another.
+/// # Errors
+///
+/// - `Unexpected`: the operand is of another type.
 pub fn address_test_type<'a>(operand: StaticType<'a>) -> Result<StaticType<'a>, ExpressionFault>
     ensures row { Answers result (address_test_type (static_view operand.entry)) }
     ensures memory { TakesNoMemory result }
@@ -261,9 +270,11 @@ fn address_test_of<'a>(operand: TypeKind<'_, 'a>) -> Result<StaticType<'a>, Expr
     }
 }
 
-/// Returns the type of a method of an extension, by its operands' types; takes no memory.
+/// Returns the type of a method of an extension, by its operands' types. Does not allocate.
 ///
-/// Refused where these are not of the extension.
+/// # Errors
+///
+/// - `Unexpected`: an operand is not of the extension's type.
 pub fn call_type<'a>(
     called: BinaryCall,
     left: StaticType<'a>,

@@ -1,4 +1,4 @@
-//! What a type is made of, layer by layer, wherever it stands.
+//! The parts of a type, layer by layer, built by an expression or declared.
 ghost use Rattle.std.specs.Prelude.{◌≡◌, suc, IsTrue, IfOk, IfErr};
 ghost use Rattle.schema_types.specs.CedarViews.{cedar_view, cedar_fields_view};
 ghost use Rattle.type_checker.specs.FromSchemas.{static, static_fields};
@@ -10,7 +10,7 @@ use crate::static_type::{BooleanType, Leaf, StaticType, same_leaf};
 use plain::{NoMemory, Text};
 use schema_types::CedarType;
 
-/// A type, in what an expression built or in the schema.
+/// A type, built by an expression or declared by the schema.
 #[derive(Clone, Copy)]
 pub(crate) enum Part<'r, 'a> {
     Built(&'r StaticType<'a>),
@@ -24,7 +24,7 @@ pub(crate) enum Fields<'r, 'a> {
     Declared(&'a [(Text, CedarType, bool)]),
 }
 
-/// What a type is.
+/// A type by its kind.
 #[derive(Clone, Copy)]
 pub(crate) enum TypeKind<'r, 'a> {
     Leaf(Leaf<'a>),
@@ -41,7 +41,7 @@ pub(crate) struct FieldPart<'r, 'a> {
     pub(crate) required: bool,
 }
 
-/// Two fields of one key that are required or optional alike.
+/// Two fields of one key with the same requirement.
 #[derive(Clone, Copy)]
 pub(crate) struct Pair<'r, 's, 'a> {
     pub(crate) key: &'a str,
@@ -51,7 +51,7 @@ pub(crate) struct Pair<'r, 's, 'a> {
 }
 
 impl<'r, 'a> Part<'r, 'a> {
-    /// Returns what the type is.
+    /// Returns the type by its kind.
     pub(crate) fn kind(self) -> TypeKind<'r, 'a>
         ensures { kind_view result ≡ part_view self.entry }
     {
@@ -61,7 +61,7 @@ impl<'r, 'a> Part<'r, 'a> {
         }
     }
 
-    /// Returns the type by itself.
+    /// Returns the type, owned.
     pub(crate) fn taken(self) -> Result<StaticType<'a>, NoMemory>
         ensures same { IfOk result (λ t. static_view t ≡ part_view self.entry) }
         ensures memory { IfErr result (λ _. IsTrue (part_held self.entry)) }
@@ -101,7 +101,7 @@ fn declared_kind<'r, 'a>(ty: &'a CedarType) -> TypeKind<'r, 'a>
 }
 
 impl<'r, 'a> Fields<'r, 'a> {
-    /// Returns how many there are.
+    /// Returns the number of fields.
     pub(crate) fn len(self) -> usize
         ensures { result ≡ fields_count (fields_view self.entry) }
     {
@@ -111,7 +111,7 @@ impl<'r, 'a> Fields<'r, 'a> {
         }
     }
 
-    /// Returns the field at a place, counted from 0; None at and behind the end.
+    /// Returns the field at an index, counted from 0, or `None` past the end.
     pub(crate) fn get(self, at: usize) -> Option<FieldPart<'r, 'a>>
         ensures { fields_behind at (fields_view self.entry)
             ≡ before result (fields_behind (suc at) (fields_view self.entry)) }

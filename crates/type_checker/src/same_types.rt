@@ -1,4 +1,4 @@
-//! Whether two types that the schema declares are the same, by a walk over both in step that builds nothing.
+//! Whether two declared types are the same, by a walk over both in step that builds nothing.
 ghost use Rattle.std.specs.Prelude.{◌≡◌, ◌&&◌, Some, None, if◌then◌else◌};
 ghost use Rattle.std.specs.Str.{bytes_eq};
 ghost use Rattle.typing.specs.Types.{common, common_fields, same_requirement};
@@ -10,7 +10,7 @@ use plain::Text;
 use schema_types::CedarType;
 use values::TypeName;
 
-/// What a declared type is, by its outermost layer.
+/// A declared type, by its outermost layer.
 #[derive(Clone, Copy)]
 enum Layer<'a> {
     Text,
@@ -38,15 +38,15 @@ fn outermost<'a>(ty: &'a CedarType) -> Layer<'a>
     }
 }
 
-/// Returns whether two fields have one key, and are required or optional alike.
+/// Returns whether two fields have one key and the same requirement.
 fn same_key(left: &(Text, CedarType, bool), right: &(Text, CedarType, bool)) -> bool
     ensures { result ≡ (bytes_eq left.now.0 right.now.0 && same_requirement left.now.2 right.now.2) }
 {
     left.0.as_str() == right.0.as_str() && left.2 == right.2
 }
 
-/// Returns whether two declared types are the same: their common type is then the left one, and else there is none.
-/// Takes no memory.
+/// Returns whether two declared types are the same: their common type is then the left one, and otherwise there is
+/// none. Does not allocate.
 #[cycle(same_type)]
 fn same_type(left: &CedarType, right: &CedarType) -> bool
     ensures { let t = static (cedar_view left.now) in
@@ -65,7 +65,7 @@ fn same_type(left: &CedarType, right: &CedarType) -> bool
     }
 }
 
-/// Returns whether two records of the schema have the same fields, as `same_type` does of types.
+/// Returns whether two declared records have the same fields, as `same_type` does for types.
 #[cycle(same_type)]
 pub(crate) fn same_fields(
     left: &[(Text, CedarType, bool)],

@@ -1,4 +1,4 @@
-//! Types of expressions.
+//! The types of expressions.
 ghost use Rattle.std.specs.Prelude.{◌≡◌, ◌↔◌, IsTrue, IfOk, IfErr, MatchOption};
 ghost use Rattle.std.specs.Bool.{Decides};
 ghost use Rattle.typing.specs.Types.{false_type, IsBoolean};
@@ -12,14 +12,14 @@ use plain::{Items, NoMemory, Shared, Text};
 use schema_types::CedarType;
 use values::TypeName;
 
-/// A type of booleans.
+/// A boolean type.
 #[derive(Clone, Copy, PartialEq, Eq)]
 pub enum BooleanType {
-    /// Known to be true, whatever the request.
+    /// True for each request.
     True,
-    /// Known to be false.
+    /// False for each request.
     False,
-    /// Either.
+    /// True or false: Bool.
     Either,
 }
 
@@ -69,16 +69,16 @@ pub enum Leaf<'a> {
     Ipaddr,
 }
 
-/// The type of an expression. What the schema declares is borrowed from it, and names from the schema and the
-/// expression. What an expression builds is kept once and held by each copy.
+/// The type of an expression. Declared types are borrowed from the schema, and names from the schema and the
+/// expression. A type that an expression builds is shared by its copies.
 ///
 /// Source: Cedar reference guide, "Policy validation".
 #[derive(Drop)]
 pub enum StaticType<'a> {
     Leaf(Leaf<'a>),
-    /// A set that the schema declares, by the type of its members.
+    /// A declared set, by the type of its members.
     DeclaredSet(&'a CedarType),
-    /// A record that the schema declares: each key with its type, and whether it is required.
+    /// A declared record: each key with its type, and whether it is required.
     DeclaredRecord(&'a [(Text, CedarType, bool)]),
     /// A set, by the type of its members.
     Set(Shared<StaticType<'a>>),
@@ -87,7 +87,7 @@ pub enum StaticType<'a> {
 }
 
 impl<'a> StaticType<'a> {
-    /// Returns the type of the values of a type that the schema declares; takes no memory.
+    /// Returns the type of the values of a declared type. Does not allocate.
     pub fn declared(ty: &'a CedarType) -> StaticType<'a>
         ensures { static_view result ≡ static (cedar_view ty.now) }
     {
@@ -103,15 +103,15 @@ impl<'a> StaticType<'a> {
         }
     }
 
-    /// Returns a type of booleans; takes no memory.
+    /// Returns a boolean type. Does not allocate.
     pub fn boolean(truth: BooleanType) -> StaticType<'a>
         ensures { static_view result ≡ boolean_view truth }
     {
         StaticType::Leaf(Leaf::Boolean(truth))
     }
 
-    /// Returns the same type. It takes no memory, and it is `NoMemory` only where it is held, and the holders of what
-    /// an expression built are as many as can be counted.
+    /// Returns a copy of the type, without allocating. `NoMemory` only if an expression built it, and the count of
+    /// references to it would overflow.
     pub fn copy(&self) -> Result<StaticType<'a>, NoMemory>
         ensures same { IfOk result (λ t. static_view t ≡ static_view self.now) }
         ensures memory { IfErr result (λ _. IsTrue (holding self.now).is_held) }
@@ -125,7 +125,7 @@ impl<'a> StaticType<'a> {
         }
     }
 
-    /// Returns which type of booleans it is, or None where it is another; takes no memory.
+    /// Returns the boolean type, or `None` if it is another type. Does not allocate.
     pub fn as_boolean(&self) -> Option<BooleanType>
         ensures { MatchOption result (¬ IsBoolean (static_view self.now))
             (λ b. static_view self.now ≡ boolean_view b) }
@@ -136,7 +136,7 @@ impl<'a> StaticType<'a> {
         }
     }
 
-    /// Returns whether it is the type False; takes no memory.
+    /// Returns whether it is the type False. Does not allocate.
     pub fn is_false(&self) -> bool
         ensures { Decides result (static_view self.now ≡ false_type) }
     {
@@ -146,7 +146,7 @@ impl<'a> StaticType<'a> {
         }
     }
 
-    /// Returns whether it is a type of booleans that may be true; takes no memory.
+    /// Returns whether it is a boolean type that may be true. Does not allocate.
     pub fn may_be_true(&self) -> bool
         ensures { IsTrue result ↔ MayBeTrue (static_view self.now) }
     {
@@ -156,7 +156,7 @@ impl<'a> StaticType<'a> {
         }
     }
 
-    /// Returns whether it is a type of booleans that may be false; takes no memory.
+    /// Returns whether it is a boolean type that may be false. Does not allocate.
     pub fn may_be_false(&self) -> bool
         ensures { IsTrue result ↔ MayBeFalse (static_view self.now) }
     {
@@ -167,7 +167,7 @@ impl<'a> StaticType<'a> {
     }
 }
 
-/// Returns the same leaf.
+/// Returns a copy of the leaf.
 pub(crate) fn same_leaf<'a>(leaf: &Leaf<'a>) -> Leaf<'a>
     ensures { result ≡ leaf.now }
 {

@@ -1,4 +1,4 @@
-//! Whether two types have a common type, by a walk over their parts that builds nothing.
+//! Whether two types have a common type, by a walk over their nodes that builds nothing.
 ghost use Rattle.std.specs.Prelude.{◌≡◌, IfSome};
 ghost use Rattle.std.specs.Bool.{Decides};
 ghost use Rattle.typing.specs.Types.{common, common_fields};
@@ -11,14 +11,14 @@ use crate::parts::{FieldPart, Fields, Pair, Part, TypeKind};
 use crate::same_types::same_fields;
 use crate::static_type::{BooleanType, Leaf};
 
-/// What is known of the common type of two.
+/// The common type of two types, compared with the left one.
 #[derive(Clone, Copy)]
 pub(crate) enum Join {
     /// There is none.
     Apart,
     /// It is the left one.
     Left,
-    /// It is another.
+    /// It is another type.
     Wider,
 }
 
@@ -32,7 +32,7 @@ impl Join {
         }
     }
 
-    /// Of the fields so far and one more.
+    /// Returns the join of the fields so far and one more.
     fn with(self, more: Join) -> Join
         ensures { result ≡ join_with more self }
     {
@@ -83,7 +83,7 @@ fn join_of_leaves(left: Leaf<'_>, right: Leaf<'_>) -> Join
     }
 }
 
-/// Two fields as a pair, where they have one key and are required or optional alike.
+/// Returns two fields as a pair, if they have one key and the same requirement.
 pub(crate) fn paired<'r, 's, 'a>(
     left: Option<FieldPart<'r, 'a>>,
     right: Option<FieldPart<'s, 'a>>,
@@ -110,8 +110,8 @@ pub(crate) fn paired<'r, 's, 'a>(
     }
 }
 
-/// Returns what is known of the common fields of two records that the schema declares, and None of others. The
-/// booleans of a schema are any, so that these are the left ones, or there are none.
+/// Returns the join of two declared records, and `None` for others. Declared booleans are Bool, so the common fields
+/// are the left ones, or there are none.
 fn join_of_declared(left: Fields<'_, '_>, right: Fields<'_, '_>) -> Option<Join>
     ensures { IfSome result (λ j. Tells j (fields_view left.entry)
         (common_fields (fields_view left.entry) (fields_view right.entry))) }
@@ -128,7 +128,7 @@ fn join_of_declared(left: Fields<'_, '_>, right: Fields<'_, '_>) -> Option<Join>
     }
 }
 
-/// Returns what is known of the common type of two; takes no memory, and time linear in the smaller one's parts.
+/// Returns the join of two types. Does not allocate. Takes time linear in the smaller one's nodes.
 #[cycle(join_of)]
 pub(crate) fn join_of<'a>(left: Part<'_, 'a>, right: Part<'_, 'a>) -> Join
     ensures { Tells result (part_view left.entry) (common (part_view left.entry) (part_view right.entry)) }

@@ -1,4 +1,4 @@
-//! What is judged of an expression, while it is judged.
+//! The judgement on an expression, as it is computed.
 ghost use Rattle.std.specs.Prelude.{◌≡◌, ◌↔◌, [], IsTrue, Ok, Err};
 ghost use Rattle.typing.specs.Types as types;
 ghost use Rattle.typing.specs.Rows.{MayBeTrue};
@@ -11,27 +11,27 @@ use crate::static_type::{BooleanType, StaticType};
 use std::alloc::Global;
 use type_capabilities::Pair;
 
-/// The type of an expression, and what it learns.
+/// The type of an expression, and the capabilities that it gains.
 #[derive(Drop)]
 pub struct Typed<'a> {
     /// Its type.
     pub kind: StaticType<'a>,
-    /// The pairs that are known where it is true.
+    /// The capabilities that are known if it is true.
     pub learns: Vec<Pair<'a>>,
 }
 
-/// What an `if` has come to behind its `then`.
+/// The judgement on an `if` up to its `then`.
 #[derive(Drop)]
 pub(crate) enum Then<'a> {
-    /// The test is False: only `else` is looked at.
+    /// The test is False: only `else` is checked.
     Skipped,
-    /// The test is True: only `then` is. It learns what both do.
+    /// The test is True: only `then` is checked. It gains what both do.
     Only(Typed<'a>),
-    /// Both branches are looked at.
+    /// Both branches are checked.
     Both(Typed<'a>),
 }
 
-/// Returns the type of an answer that is known.
+/// Returns the type of a known boolean.
 pub(crate) fn truth_type(truth: bool) -> BooleanType
     ensures { boolean_view result ≡ types.truth_type truth }
 {
@@ -42,14 +42,14 @@ pub(crate) fn truth_type(truth: bool) -> BooleanType
     }
 }
 
-/// Returns whether what stands behind a left of `&&` is looked at: where that may be true.
+/// Returns whether the right side of `&&` is checked: if the left side may be true.
 pub(crate) fn is_looked_at(left: BooleanType) -> bool
     ensures { IsTrue result ↔ MayBeTrue (boolean_view left) }
 {
     left.may_be_true()
 }
 
-/// Returns a type, of what learns nothing.
+/// Returns a type without gained capabilities.
 pub(crate) fn plain<'a>(alloc: Global, kind: StaticType<'a>) -> Typed<'a>
     ensures kind { result.kind ≡ kind.entry }
     ensures learns { result.learns.items ≡ [] }
@@ -60,7 +60,7 @@ pub(crate) fn plain<'a>(alloc: Global, kind: StaticType<'a>) -> Typed<'a>
     }
 }
 
-/// Returns the type of a row, of what learns nothing.
+/// Returns the type of a row, without gained capabilities.
 pub(crate) fn typed_row<'a>(
     alloc: Global,
     row: Result<StaticType<'a>, ExpressionFault>,
@@ -73,7 +73,7 @@ pub(crate) fn typed_row<'a>(
     }
 }
 
-/// Returns what learns these pairs too, before its own.
+/// Returns the judgement with these gained capabilities in front of its own.
 pub(crate) fn learned_too<'a>(
     learns: Vec<Pair<'a>>,
     typed: Result<Typed<'a>, ExpressionFault>,

@@ -1,4 +1,4 @@
-//! The type of expressions that are joined, where nothing is known.
+//! The type of joined expressions, without known capabilities.
 ghost use Rattle.std.specs.Prelude.{◌≢◌, [], IfOk, IfErr};
 ghost use Rattle.typing.specs.Learned.{Pairs};
 ghost use Rattle.typing.specs.Typing.{Types};
@@ -16,16 +16,19 @@ use grammar_core::Expr;
 use std::alloc::Global;
 use type_capabilities::Capabilities;
 
-/// Returns the type of expressions that are joined by `&&`, to the right, the last of them by itself, as `a && (b &&
-/// last)`, in an environment where no field is known to be there; else why they have none: the fault of the first
-/// operand in order that has one, and then what the form demands. `NoMemory` where an allocation was refused, and only
-/// then.
+/// Returns the type of expressions that are joined by `&&`, to the right, with the last one by itself, as
+/// `a && (b && last)`, in an environment without known capabilities.
 ///
-/// Types that the schema declares are borrowed from it. It takes time linear in the expressions, but for the pairs that
-/// it knows, each of which takes one look-up in an ordered map, and for each common type of two records, which are
-/// compared field by field. Where `e` stands twice, as in `e is T && e in f`, or as a member of a set behind itself, it
-/// is typed once, and then compared with itself, form by form. It recurses: its stack grows with the height of the
+/// Declared types are borrowed from the schema. Takes time linear in the expressions, except for known capabilities,
+/// each of which takes one look-up in an ordered map, and for each common type of two records, which are compared
+/// field by field. An `e` that occurs twice, as in `e is T && e in f`, or that is repeated as the next member of a
+/// set, is typed once, and then compared with itself, node by node. Recursive: the stack grows with the height of the
 /// highest part, and not with their number.
+///
+/// # Errors
+///
+/// - The first error: that of the first operand, in order, that has one, and then that of the expression itself.
+/// - `NoMemory`: an allocation failed; possible at any point.
 ///
 /// Source: Cedar reference guide, "Policy validation".
 pub fn judge_all<'a>(

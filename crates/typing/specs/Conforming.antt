@@ -1,6 +1,6 @@
--- When a request and the stored entities are as an environment says, and what it means that an expression does not go
--- wrong.
--- Sources: cedar-spec, cedar-lean/Cedar/Validation/RequestEntityValidator.lean (`instanceOfRequestType`,
+-- Defines when a request and the stored entities conform to an environment, and what a sound outcome of an expression
+-- is.
+-- Source: cedar-spec, cedar-lean/Cedar/Validation/RequestEntityValidator.lean (`instanceOfRequestType`,
 -- `instanceOfEntitySchema`, `instanceOfActionSchema`) and cedar-lean/Cedar/Thm/Validation/Typechecker.lean
 -- (`type_of_is_sound`, `CapabilitiesInvariant`).
 use Rattle.std.specs.Prelude.{◌≡◌, List, true, IsTrue, IsFalse, Contains, Some, Ok, Err}
@@ -20,9 +20,9 @@ use Rattle.typing.specs.Membership.{Of}
 use Rattle.typing.specs.Environment.{Environment}
 use Rattle.typing.specs.Learned.{Pair, Pairs}
 
--- The request is of the environment's kind, the attributes of each stored entity are those of its type, and the
--- ancestors of an action are those that the schema says; those of another entity are of types that its own may be
--- below.
+-- `Conforms env W q` holds if the request `q` is of the environment's kind, the attributes of each stored entity are
+-- those of its type, the ancestors of an action are those that the schema states, and those of another entity are of
+-- types that may be ancestor types of its own.
 pub record Conforms (env : Environment) (W : World) (q : Request) : Type 0 where
   pub principal : q.principal.type_name ≡ env.principal
   pub action : q.action ≡ env.action
@@ -35,24 +35,25 @@ pub record Conforms (env : Environment) (W : World) (q : Request) : Type 0 where
   pub ancestors : (u a : EntityUid) → IsFalse (env.is_action_type u.type_name) → IsAncestor W.parents a u
       → IsTrue (env.may_be_below u.type_name a.type_name)
 
--- the two errors that are left: an entity that is not stored, and a number that leaves its bounds
+-- `IsPermittedError e` holds for the two errors that remain: `EntityDoesNotExist` and `ArithBoundsError`.
 pub data IsPermittedError : EvalFault → Type 0 where
   entity_is_missing : IsPermittedError EntityDoesNotExist
   number_out_of_bounds : IsPermittedError ArithBoundsError
 
--- a value of the type, or one of these errors
+-- `Fits t r` holds if `r` is a value of the type `t`, or one of these errors.
 abbrev pub Fits : StaticType → EvaluationResult → Type 0
 Fits t (Ok v) = Of v t
 Fits t (Err e) = IsPermittedError e
 
--- the expression has the field
+-- `IsPresent W q p` holds if the expression of the capability `p` has its field.
 abbrev pub IsPresent : World → Request → Pair → Type 0
 IsPresent W q p = EvaluatesTo W q (form.Has p.0 p.1) (Ok (boolean true))
 
+-- `ArePresent W q K` holds if each capability of `K` holds.
 pub record ArePresent (W : World) (q : Request) (K : Pairs) : Type 0 where
   pub each : (p : Pair) → Contains K p → IsPresent W q p
 
--- what an expression of type t gives that learns the pairs of L
+-- `IsSoundOutcome W q t L r` holds if `r` fits the type `t`, and each capability of `L` holds if `r` is true.
 pub record IsSoundOutcome (W : World) (q : Request) (t : StaticType) (L : Pairs) (r : EvaluationResult) : Type 0 where
   pub fits : Fits t r
   pub learned : r ≡ Ok (boolean true) → ArePresent W q L

@@ -1,5 +1,5 @@
--- A request and entities that conform, written out: Alice, who is among the staff, is to view a plan, which is among
--- what readers do. So what is said of those that conform is said of something.
+-- Defines an example of a request and entities that conform: Alice, who is among the staff, views a plan, which
+-- readers may do. So the theorem about conforming requests is not vacuous.
 use Rattle.std.specs.Prelude.{ℕ, List, [], ◌∷◌, pos, true, false, ◌&&◌, codes, Option, Some, None, if◌then◌else◌}
 use Rattle.std.specs.Ordering.{is_eq}
 use Rattle.std.specs.Str.{bytes_eq}
@@ -19,29 +19,35 @@ use Rattle.typing.specs.Types.{FieldTypes, no_field_types, field_type, boolean_t
 use Rattle.typing.specs.Environment.{Environment}
 use Rattle.typing.specs.Learned.{Pair}
 
+-- `uid type_name id` is the uid of these parts.
 abbrev pub uid : List ℕ → List ℕ → EntityUid
 uid type_name id = record { type_name = type_name; id = id }
 
+-- `alice` is the principal.
 abbrev pub alice : EntityUid
 alice = uid (codes "User") (codes "alice")
 
+-- `staff` is the parent of the principal.
 abbrev pub staff : EntityUid
 staff = uid (codes "Group") (codes "staff")
 
+-- `plan` is the resource.
 abbrev pub plan : EntityUid
 plan = uid (codes "Doc") (codes "plan")
 
+-- `view` is the action.
 abbrev pub view : EntityUid
 view = uid (codes "Action") (codes "view")
 
+-- `readers` is the parent of the action.
 abbrev pub readers : EntityUid
 readers = uid (codes "Action") (codes "readers")
 
--- a user may have an age
+-- a user has an optional age
 abbrev pub user_attributes : FieldTypes
 user_attributes = field_type (codes "age") long_type false no_field_types
 
--- a request says whether its sender is known
+-- the context of a request says whether its sender is known
 abbrev pub environment : Environment
 environment = record {
   principal = codes "User";
@@ -54,21 +60,25 @@ environment = record {
   action_ancestors = λ u. if is_eq (uid_cmp view u) then readers ∷ [] else [];
 }
 
+-- `parents` are the parents of Alice and of the action.
 abbrev pub parents : Parents
 parents = with_parents (with_parents no_parents alice (staff ∷ [])) view (readers ∷ [])
 
+-- `stored u` are the attributes of `u`: Alice's age; the plan has none.
 abbrev pub stored : EntityUid → Option (List Field)
 stored u =
     if is_eq (uid_cmp alice u) then Some ((codes "age", long (pos 30)) ∷ [])
     else (if is_eq (uid_cmp plan u) then Some [] else None)
 
+-- `world` has these attributes and parents.
 abbrev pub world : World
 world = record { stored = stored; parents = parents }
 
+-- `request` is the request: its sender is known.
 abbrev pub request : Request
 request = record { principal = alice; action = view; resource = plan; context = (codes "known", boolean true) ∷ [] }
 
--- that the principal has an age
+-- the capability that the principal has an age
 abbrev pub age_of_principal : Pair
 age_of_principal = (form.Variable Principal, codes "age")
 

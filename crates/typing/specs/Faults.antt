@@ -1,5 +1,6 @@
--- Why an expression has no type: the first operand in order that has none says why, else what the form demands. The
--- left of `&&` and of `||`, and the test of an `if`, are demanded boolean before the next operand is looked at.
+-- Defines the error of an expression without a type: that of the first operand, in order, that has none, else that of
+-- the expression itself. The left operands of `&&` and of `||`, and the test of an `if`, must be boolean before the
+-- next operand is checked.
 -- Source: the rules of Typing.antt, and the order in which operands are evaluated.
 use Rattle.std.specs.Prelude.{◌≡◌, ℕ, List, [], ◌∷◌, ◌++◌, map, Contains, Bool, None, Err}
 use Rattle.std.specs.Bool.{Decides}
@@ -19,8 +20,8 @@ use Rattle.typing.specs.Rows.{unary_type, binary_type, MayBeTrue, MayBeFalse, fi
 use Rattle.typing.specs.Rows.{set_literal_type, address_test_type, call_type}
 use Rattle.typing.specs.Typing.{Types, TypesEach}
 
--- The operands of a form that wants the types of them all, in order. `if`, `&&` and `||` want only what decides, and
--- `==` and `in` that literals settle want none.
+-- `WantsTypes env x xs` holds if `x` needs the types of all of its operands `xs`, in order. `if`, `&&` and `||` only
+-- need some, and `==` and `in` that literals decide need none.
 pub data WantsTypes (env : Environment) : Expr → List Expr → Type 0 where
   of_unary : (op : Unary) (a : Expr) → WantsTypes env (form.Unary op a) (a ∷ [])
   of_binary : (op : Binary) (a b : Expr) → IsUnsettled env op a b → WantsTypes env (form.Binary op a b) (a ∷ b ∷ [])
@@ -32,12 +33,12 @@ pub data WantsTypes (env : Environment) : Expr → List Expr → Type 0 where
   of_binary_call : (called : BinaryCall) (a b : Expr) → WantsTypes env (form.BinaryCall called a b) (a ∷ b ∷ [])
 
 mutual
-  -- where the pairs of K are known, the expression has no type, for this reason
+  -- `Faults env K x n` holds if `x` has the error `n`, where the capabilities `K` are known.
   pub data Faults (env : Environment) : Pairs → Expr → ExpressionFault → Type 0 where
-    -- the first operand that has none says why
+    -- the first operand with an error decides
     fault_in_operand : {K : Pairs} {x : Expr} {xs : List Expr} {n : ExpressionFault} → WantsTypes env x xs
         → FaultsEach env K xs n → Faults env K x n
-    -- else what the form demands of their types
+    -- else the types of the operands decide
     fault_of_unary : {K L : Pairs} (op : Unary) (a : Expr) {s : StaticType} {n : ExpressionFault} → Types env K a s L
         → unary_type op s ≡ Err n → Faults env K (form.Unary op a) n
     fault_of_binary : {K L M : Pairs} (op : Binary) (a b : Expr) {s t : StaticType} {n : ExpressionFault}
@@ -60,7 +61,7 @@ mutual
     fault_of_call : {K L M : Pairs} (called : BinaryCall) (a b : Expr) {s t : StaticType} {n : ExpressionFault}
         → Types env K a s L → Types env K b t M → call_type called s t ≡ Err n
         → Faults env K (form.BinaryCall called a b) n
-    -- `&&`, `||` and `if`: the left or the test, whether it is a boolean, and only then what is typed next
+    -- `&&`, `||` and `if`: the left operand or the test, then that it is boolean, and only then the next operand
     fault_left_of_and : {K : Pairs} (a b : Expr) {n : ExpressionFault} → Faults env K a n
         → Faults env K (form.And a b) n
     left_of_and_no_boolean : {K L : Pairs} (a b : Expr) {s : StaticType} → Types env K a s L → ¬ IsBoolean s
@@ -90,7 +91,7 @@ mutual
         → Types env (K ++ L) b s M → Types env K c t N → common s t ≡ None
         → Faults env K (form.If a b c) no_common_type
 
-  -- the first of these that has no type says why
+  -- `FaultsEach env K xs n` holds if `n` is the error of the first of `xs` that has one.
   pub data FaultsEach (env : Environment) : Pairs → List Expr → ExpressionFault → Type 0 where
     fault_here : {K : Pairs} {x : Expr} {xs : List Expr} {n : ExpressionFault} → Faults env K x n
         → FaultsEach env K (x ∷ xs) n

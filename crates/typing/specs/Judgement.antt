@@ -1,4 +1,4 @@
--- What the rules judge of an expression: its type, with what it learns, or why it has none.
+-- Defines the judgement on an expression: its type with the capabilities that it gains, or its error.
 use Rattle.evaluator.specs.grammar_core.declared.expr.Expr.{Expr}
 use Rattle.typing.specs.Types.{StaticType}
 use Rattle.typing.specs.Environment.{Environment, ExpressionFault}
@@ -6,10 +6,12 @@ use Rattle.typing.specs.Learned.{Pairs}
 use Rattle.typing.specs.Typing.{Types}
 use Rattle.typing.specs.Faults.{Faults}
 
+-- A `Judgement` is a type with gained capabilities, or an error.
 pub data Judgement : Type 0 where
   typed : StaticType → Pairs → Judgement
   faulty : ExpressionFault → Judgement
 
+-- `Judges env K x r` holds if `r` is the judgement on `x`, where the capabilities `K` are known.
 abbrev pub Judges : Environment → Pairs → Expr → Judgement → Type 0
 Judges env K x (typed t L) = Types env K x t L
 Judges env K x (faulty n) = Faults env K x n

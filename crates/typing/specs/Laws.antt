@@ -1,4 +1,4 @@
--- That expressions have one judgement each, and that what is typed does not go wrong.
+-- Defines the theorems that each expression has one judgement, and that typing is sound.
 use Rattle.std.specs.Prelude.{◌≡◌, ◌≢◌, ℕ, List, [], ◌∷◌, Contains, IsTrue, IsFalse, Bool, true, Ok}
 use Rattle.values.specs.declared.entity_uid.EntityUid.{EntityUid}
 use Rattle.values.specs.declared.request.Request.{Request}
@@ -20,73 +20,76 @@ use Rattle.typing.specs.Judgement.{Judgement, Judges}
 use Rattle.typing.specs.Example.{environment, world, request, parents, alice, view, age_of_principal, has_age, is_aged}
 use Rattle.typing.specs.Conforming.{Conforms, Fits, ArePresent, IsSoundOutcome}
 
--- whatever is known, each expression has exactly one judgement: a type with what it learns, or a fault
+-- `HaveOneJudgement`: whatever is known, each expression has exactly one judgement: a type with the capabilities that
+-- it gains, or an error.
 abbrev pub HaveOneJudgement : Type 0
 HaveOneJudgement = (env : Environment) (K : Pairs) (x : Expr)
     → (r : Judgement) × Judges env K x r × ((s : Judgement) → Judges env K x s → s ≡ r)
 
--- the pairs of the one are those of the other
+-- `AreSamePairs K M` holds if `K` and `M` have the same capabilities.
 pub record AreSamePairs (K M : Pairs) : Type 0 where
   pub there : (p : Pair) → Contains K p → Contains M p
   pub back : (p : Pair) → Contains M p → Contains K p
 
--- Judgements see the known pairs as a set: in whatever order they stand and however often, an expression has the same
--- type and the same fault, and learns the same pairs.
+-- `KnownPairsAreASet`: judgements see the known capabilities as a set: whatever their order and repeats, an
+-- expression has the same type and the same error, and gains the same capabilities.
 abbrev pub KnownPairsAreASet : Type 0
 KnownPairsAreASet = (env : Environment) (K M : Pairs) (x : Expr) → AreSamePairs K M
     → ((t : StaticType) (L : Pairs) → Types env K x t L → (N : Pairs) × AreSamePairs L N × Types env M x t N)
     × ((n : ExpressionFault) → Faults env K x n → Faults env M x n)
 
--- Where the keys of a schema's record types ascend, those of each expression's type do; so record types with the same
--- keys have them in the same order.
+-- `TypesAreOrdered`: if the keys of a schema's record types ascend, those of each expression's type do; so record
+-- types with the same keys have them in the same order.
 abbrev pub TypesAreOrdered : Type 0
 TypesAreOrdered = (env : Environment) → HasOrderedTypes env → (K L : Pairs) (x : Expr) (t : StaticType)
     → Types env K x t L → IsOrdered t
 
--- Where a request and the entities conform and each known pair is present, whatever an expression of type t gives is a
--- value of t or one of two errors, and where it is true each pair that is learned is present.
+-- `GoRightIn W` holds if typing is sound in `W`: if a request and the entities conform and each known capability
+-- holds, each outcome of an expression of type `t` is a value of `t` or one of two errors, and if it is true each
+-- gained capability holds.
 abbrev pub GoRightIn : World → Type 0
 GoRightIn W = (env : Environment) (q : Request) → Conforms env W q → (K L : Pairs) (x : Expr) (t : StaticType)
     → ArePresent W q K → Types env K x t L → (r : EvaluationResult) → EvaluatesTo W q x r → IsSoundOutcome W q t L r
 
--- So it is where a test decides who is above whom,
+-- `TypedGoesRight`: typing is sound if a test decides the ancestor relation.
 abbrev pub TypedGoesRight : Type 0
 TypedGoesRight = (W : World) (above : EntityUid → EntityUid → Bool) → Decides W.parents above → GoRightIn W
 
--- and where finitely many entities have parents.
+-- `TypedGoesRightInFiniteHierarchies`: typing is sound if finitely many entities have parents.
 abbrev pub TypedGoesRightInFiniteHierarchies : Type 0
 TypedGoesRightInFiniteHierarchies = (W : World) (stored : List EntityUid) → HaveAllParents W.parents stored
     → GoRightIn W
 
--- What is typed as a boolean where nothing is known gives a boolean or one of the two errors, and never true where its
--- type is False.
+-- `PoliciesGoRight`: an expression of boolean type, without known capabilities, gives a boolean or one of the two
+-- errors, and never true if its type is False.
 abbrev pub PoliciesGoRight : Type 0
 PoliciesGoRight = (W : World) (above : EntityUid → EntityUid → Bool) → Decides W.parents above → (env : Environment)
     (q : Request) → Conforms env W q → (x : Expr) (t : StaticType) (L : Pairs) → IsBoolean t → Types env [] x t L
     → (r : EvaluationResult) → EvaluatesTo W q x r → Fits boolean_type r × (t ≡ false_type → r ≢ Ok (boolean true))
 
--- A request and entities that conform, where two entities have parents.
+-- `SomethingConforms`: the example conforms, where two entities have parents.
 abbrev pub SomethingConforms : Type 0
 SomethingConforms = Conforms environment world request × HaveAllParents parents (alice ∷ view ∷ [])
 
--- There the age of a principal that has one is known behind `&&`,
+-- `SomethingIsTyped`: in it the age of a principal that has one may be accessed after `&&`.
 abbrev pub SomethingIsTyped : Type 0
 SomethingIsTyped = Types environment [] (form.And has_age is_aged) boolean_type (age_of_principal ∷ [])
 
--- and not behind `||`.
+-- `SomethingIsFaulty`: it may not be accessed after `||`.
 abbrev pub SomethingIsFaulty : Type 0
 SomethingIsFaulty = Faults environment [] (form.Or has_age is_aged) attribute_may_be_missing
 
--- what is below m is below all that m is below
+-- `IsTransitive below` holds if `below` is transitive.
 abbrev pub IsTransitive : (List ℕ → List ℕ → Bool) → Type 0
 IsTransitive below = (l m n : List ℕ) → IsTrue (below l m) → IsTrue (below m n) → IsTrue (below l n)
 
--- each parent of an entity that is no action is no action, and of a type that the entity's may be below
+-- `ParentsAreAllowed env parents` holds if each parent of an entity that is not an action is not an action, and of a
+-- type that may be an ancestor type of the entity's.
 abbrev pub ParentsAreAllowed : Environment → Parents → Type 0
 ParentsAreAllowed env parents = (u p : EntityUid) → IsFalse (env.is_action_type u.type_name) → Contains (parents u) p
     → IsTrue (env.may_be_below u.type_name p.type_name) × IsFalse (env.is_action_type p.type_name)
 
--- That the ancestors of entities conform can be told of each entity's parents.
+-- `ParentsTellAncestors`: the ancestors of entities conform if their parents do.
 abbrev pub ParentsTellAncestors : Type 0
 ParentsTellAncestors = (env : Environment) (parents : Parents) → IsTransitive env.may_be_below
     → ParentsAreAllowed env parents → (u a : EntityUid) → IsFalse (env.is_action_type u.type_name)

@@ -11,6 +11,6 @@ pub mod Ordered
 pub mod Rows
 pub mod Types
 pub mod Typing
--- crates below, passed on to those above
+-- Specifications of lower crates, re-exported.
 pub use Rattle.evaluator.specs as evaluator
 pub use Rattle.evaluator.specs.ancestor_search

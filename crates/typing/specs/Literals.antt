@@ -1,7 +1,8 @@
--- What literals settle by themselves, before any type is looked at.
--- Sources: Cedar reference guide 4.0, "Policy validation"; cedar-spec, cedar-lean/Cedar/Validation/Typechecker.lean
--- (`typeOfEq`, `typeOfInₑ`). Rules of this product: an action `in` entity literals is True or False by the schema's
--- actions; `ip` and `decimal` take a string literal.
+-- Defines what literals decide by themselves, before any type is checked.
+-- Source: Cedar reference guide 4.0, "Policy validation"; cedar-spec, cedar-lean/Cedar/Validation/Typechecker.lean
+-- (`typeOfEq`, `typeOfInₑ`).
+-- Rules of this product: an action `in` entity literals is True or False by the schema's actions; `ip` and `decimal`
+-- take a string literal.
 use Rattle.std.specs.Prelude.{◌≡◌, ◌⊎◌, ⊤, ℕ, ℤ, List, [], ◌∷◌, Contains, IsTrue, Bool}
 use Rattle.std.specs.Bool.{Decides}
 use Rattle.values.specs.extensions.DecimalText.{IsDecimalText}
@@ -20,28 +21,29 @@ use Rattle.evaluator.specs.grammar_core.declared.expr.Expr.TheVariants as form
 use Rattle.typing.specs.Types.{StaticType, decimal_type, ipaddr_type}
 use Rattle.typing.specs.Environment.{Environment}
 
--- the expression is this literal; `action` counts as the literal of its action
+-- `IsLiteral env x l` holds if `x` is the literal `l`; `action` counts as the literal of its action.
 pub data IsLiteral (env : Environment) : Expr → Literal → Type 0 where
   stated : {l : Literal} → IsLiteral env (form.Literal l) l
   action : IsLiteral env (form.Variable Action) (literal.Entity env.action)
 
--- the expressions are literals of these entities
+-- `AreEntityLiterals env xs us` holds if `xs` are literals of the entities `us`.
 pub data AreEntityLiterals (env : Environment) : List Expr → List EntityUid → Type 0 where
   no_literals : AreEntityLiterals env [] []
   literal_before : {x : Expr} {xs : List Expr} {u : EntityUid} {us : List EntityUid}
       → IsLiteral env x (literal.Entity u) → AreEntityLiterals env xs us → AreEntityLiterals env (x ∷ xs) (u ∷ us)
 
--- the expression is an entity literal, or a set literal of one or more
+-- `ListsEntities env x us` holds if `x` is an entity literal, or a set literal of at least one.
 pub data ListsEntities (env : Environment) : Expr → List EntityUid → Type 0 where
   alone : {x : Expr} {u : EntityUid} → IsLiteral env x (literal.Entity u) → ListsEntities env x (u ∷ [])
   in_set : {x : Expr} {xs : List Expr} {us : List EntityUid} → AreEntityLiterals env (x ∷ xs) us
       → ListsEntities env (form.Set (x ∷ xs)) us
 
--- by the schema: the action is the entity, or below it
+-- `IsActionIn env a b` holds if, by the schema, the action `a` is `b` or a descendant of it.
 abbrev pub IsActionIn : Environment → EntityUid → EntityUid → Type 0
 IsActionIn env a b = (a ≡ b) ⊎ Contains (env.action_ancestors a) b
 
--- the answer that literals settle: `==` of two, and an action's `in` entity literals
+-- `Settled env op a b r` holds if literals decide that the result is `r`: `==` of two, and an action's `in` entity
+-- literals.
 pub data Settled (env : Environment) : Binary → Expr → Expr → Bool → Type 0 where
   equal_literals : {a b : Expr} {l m : Literal} {r : Bool} → IsLiteral env a l → IsLiteral env b m
       → Decides r (l ≡ m) → Settled env Equal a b r
@@ -49,16 +51,18 @@ pub data Settled (env : Environment) : Binary → Expr → Expr → Bool → Typ
       → IsTrue (env.is_action_type u.type_name) → ListsEntities env b vs
       → Decides r ((v : EntityUid) × Contains vs v × IsActionIn env u v) → Settled env In a b r
 
+-- `IsUnsettled env op a b` holds if literals do not decide the result.
 abbrev pub IsUnsettled : Environment → Binary → Expr → Expr → Type 0
 IsUnsettled env op a b = (r : Bool) → ¬ Settled env op a b r
 
--- these calls take a text
+-- `TakesText called` holds if the call takes a string.
 abbrev pub TakesText : UnaryCall → Type 0
 TakesText Ip = ⊤
 TakesText Decimal = ⊤
 TakesText called = ⊥
 
--- the operand is a string literal of the extension's grammar, the values of which are of this type
+-- `ReadsLiteral called x t` holds if `x` is a string literal of the extension's grammar, whose values have the type
+-- `t`.
 pub data ReadsLiteral : UnaryCall → Expr → StaticType → Type 0 where
   reads_decimal : {t : List ℕ} {z : ℤ} → IsDecimalText t z
       → ReadsLiteral Decimal (form.Literal (literal.Text t)) decimal_type

@@ -1,6 +1,5 @@
--- Which values are of a type: plain membership.
--- Source: cedar-spec, cedar-lean/Cedar/Validation/RequestEntityValidator.lean (`instanceOfType`). A record has each
--- required field and none that is not declared.
+-- Defines which values are of a type: plain membership. A record has each required field and no undeclared one.
+-- Source: cedar-spec, cedar-lean/Cedar/Validation/RequestEntityValidator.lean (`instanceOfType`).
 use Rattle.std.specs.Prelude.{◌≡◌, ℕ, ℤ, List, Bool, true, false, Option, Some, None}
 use Rattle.values.specs.extensions.Network.{Network}
 use Rattle.values.specs.declared.entity_uid.EntityUid.{EntityUid}
@@ -11,6 +10,7 @@ use Rattle.typing.specs.Types.{StaticType, true_type, false_type, boolean_type, 
 use Rattle.typing.specs.Types.{set_type, record_type, decimal_type, ipaddr_type, FieldTypes, Declared, undeclared}
 use Rattle.typing.specs.Types.{optional, required, field_declared_at}
 
+-- `Of v t` holds if the value `v` is of the type `t`.
 mutual
   pub data Of : PlainValue → StaticType → Type 0 where
     of_true : Of (boolean true) true_type
@@ -26,11 +26,12 @@ mutual
     of_decimal : {z : ℤ} → Of (decimal z) decimal_type
     of_ipaddr : {n : Network} → Of (ipaddr n) ipaddr_type
 
+  -- `EachOf vs t` holds if each of `vs` is of the type `t`.
   pub data EachOf : PlainValues → StaticType → Type 0 where
     each_none : {t : StaticType} → EachOf no_values t
     each_more : {v : PlainValue} {vs : PlainValues} {t : StaticType} → Of v t → EachOf vs t → EachOf (value v vs) t
 
-  -- what stands at a key fits what is declared of it
+  -- `FieldOf o declared` holds if the value at a key, if any, fits its declaration.
   pub data FieldOf : Option PlainValue → Declared → Type 0 where
     absent : FieldOf None undeclared
     left_out : {t : StaticType} → FieldOf None (optional t)

@@ -1,11 +1,11 @@
--- The keys of record types ascend, at every depth.
+-- Defines that the keys of record types ascend, at every depth.
 use Rattle.std.specs.Prelude.{◌≡◌, ⊤, ℕ, List}
 use Rattle.std.specs.declared.cmp.Ordering.TheVariants.{Less}
 use Rattle.values.specs.Uids.{text_cmp}
 use Rattle.typing.specs.Types.{StaticType, set_type, record_type, FieldTypes, no_field_types, field_type}
 use Rattle.typing.specs.Environment.{Environment}
 
--- the key is below the first of these
+-- `IsBefore k ts` holds if the key `k` is less than the first key of `ts`.
 abbrev pub IsBefore : List ℕ → FieldTypes → Type 0
 IsBefore k no_field_types = ⊤
 IsBefore k (field_type l t r ts) = text_cmp k l ≡ Less
@@ -20,7 +20,7 @@ abbrev mutual
   AreOrdered no_field_types = ⊤
   AreOrdered (field_type k t r ts) = IsOrdered t × IsBefore k ts × AreOrdered ts
 
--- the types that the schema states
+-- `HasOrderedTypes env` holds if the types that the schema states are so.
 pub record HasOrderedTypes (env : Environment) : Type 0 where
   pub context : AreOrdered env.context
   pub attributes : (n : List ℕ) → AreOrdered (env.attributes n)

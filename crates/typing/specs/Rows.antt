@@ -1,7 +1,8 @@
--- What each form demands of its operands' types, and the type that it has then.
--- Sources: Cedar reference guide 4.0, "Policy validation" and "Operators and functions"; cedar-spec,
--- cedar-lean/Cedar/Validation/Typechecker.lean (`typeOfUnaryApp`, `typeOfBinaryApp`, `typeOfGetAttr`, `typeOfHasAttr`,
--- `typeOfSet`, `typeOfCall`). A rule of this product: `in` is False of unrelated types.
+-- Defines the type of each kind of expression by its operands' types, or the error.
+-- Source: Cedar reference guide 4.0, "Policy validation" and "Operators and functions"; cedar-spec,
+-- cedar-lean/Cedar/Validation/Typechecker.lean (`typeOfUnaryApp`, `typeOfBinaryApp`, `typeOfGetAttr`,
+-- `typeOfHasAttr`, `typeOfSet`, `typeOfCall`).
+-- Rules of this product: `in` is False of unrelated types.
 use Rattle.std.specs.Prelude.{ℕ, List, [], ◌∷◌, Bool, true, false, ◌||◌, Option, Some, None, Result, Ok, Err}
 use Rattle.std.specs.Prelude.{if◌then◌else◌}
 use Rattle.std.specs.Str.{bytes_eq}
@@ -26,18 +27,20 @@ use Rattle.typing.specs.Types.{required, field_declared_at, truth_type, common, 
 use Rattle.typing.specs.Environment.{Environment, ExpressionFault, unexpected, no_common_type, attribute_may_be_missing}
 use Rattle.typing.specs.Environment.{empty_set}
 
--- the type of a form, or what is wrong with its operands' types
+-- A `Row` is the type of an expression, or the error of its operands' types.
 abbrev pub Row : Type 0
 Row = Result StaticType ExpressionFault
 
 -- ---- literals and variables
 
+-- `literal_type l` is the type of the literal `l`.
 abbrev pub literal_type : Literal → StaticType
 literal_type (literal.Boolean b) = truth_type b
 literal_type (literal.Long z) = long_type
 literal_type (literal.Text t) = text_type
 literal_type (literal.Entity u) = entity_type u.type_name
 
+-- `variable_type env x` is the type of the variable `x`.
 abbrev pub variable_type : Environment → Variable → StaticType
 variable_type env Principal = entity_type env.principal
 variable_type env Action = entity_type env.action.type_name
@@ -46,6 +49,7 @@ variable_type env Context = record_type env.context
 
 -- ---- operators
 
+-- `unary_type op t` is the type of `op` on an operand of the type `t`.
 abbrev pub unary_type : Unary → StaticType → Row
 unary_type Not true_type = Ok false_type
 unary_type Not false_type = Ok true_type
@@ -55,29 +59,32 @@ unary_type (Like pattern) text_type = Ok boolean_type
 unary_type (Is n) (entity_type m) = Ok (truth_type (bytes_eq m n))
 unary_type op t = Err unexpected
 
--- a common type is needed: Bool
+-- `if_common o` is Bool, if there is a common type.
 abbrev pub if_common : Option StaticType → Row
 if_common None = Err no_common_type
 if_common (Some t) = Ok boolean_type
 
--- two unequal entity types: False; else a common type is needed
+-- `equal_type s t`: two unequal entity types give False; otherwise a common type is required.
 abbrev pub equal_type : StaticType → StaticType → Row
 equal_type (entity_type m) (entity_type n) = Ok (if bytes_eq m n then boolean_type else false_type)
 equal_type s t = if_common (common s t)
 
--- An entity of type m in one of type n: False where neither is an action's type, they differ, and m is not below n.
+-- `may_be_in env m n`: an entity of type `m` in one of type `n` is False if neither is an action type, they differ,
+-- and `n` is not an ancestor type of `m`.
 abbrev pub may_be_in : Environment → List ℕ → List ℕ → Bool
 may_be_in env m n =
     env.is_action_type m || (env.is_action_type n || (bytes_eq m n || env.may_be_below m n))
 
+-- `in_type env m n` is the type of `in` for these entity types.
 abbrev pub in_type : Environment → List ℕ → List ℕ → StaticType
 in_type env m n = if may_be_in env m n then boolean_type else false_type
 
--- two numbers give t
+-- `of_numbers t r s` is `t` for two integers.
 abbrev pub of_numbers : StaticType → StaticType → StaticType → Row
 of_numbers t long_type long_type = Ok t
 of_numbers t r s = Err unexpected
 
+-- `binary_type env op s t` is the type of `op` on operands of these types.
 abbrev pub binary_type : Environment → Binary → StaticType → StaticType → Row
 binary_type env Equal s t = equal_type s t
 binary_type env In (entity_type m) (entity_type n) = Ok (in_type env m n)
@@ -94,51 +101,56 @@ binary_type env op s t = Err unexpected
 
 -- ---- `&&` and `||`
 
+-- `MayBeTrue t` holds if `t` is True or Bool.
 pub data MayBeTrue : StaticType → Type 0 where
   surely : MayBeTrue true_type
   perhaps : MayBeTrue boolean_type
 
+-- `MayBeFalse t` holds if `t` is False or Bool.
 pub data MayBeFalse : StaticType → Type 0 where
   surely_not : MayBeFalse false_type
   perhaps_not : MayBeFalse boolean_type
 
--- `&&` whose left may be true: the right False: False; both True: True; else Bool
+-- `and_type s t` is the type of `&&` whose left side may be true: False if the right side is False; True if both are
+-- True; else Bool.
 abbrev pub and_type : StaticType → StaticType → StaticType
 and_type s false_type = false_type
 and_type true_type true_type = true_type
 and_type s t = boolean_type
 
--- `||` whose left is Bool: the right True: True; else Bool
+-- `or_type t` is the type of `||` whose left side is Bool: True if the right side is True; else Bool.
 abbrev pub or_type : StaticType → StaticType
 or_type true_type = true_type
 or_type t = boolean_type
 
--- ---- fields; the test says whether the expression is known to have the field
+-- ---- fields; the test says whether the capability is known
 
--- `e.f`: a required field, or an optional one that is known
+-- `access_type is_known declared` is the type of `e.f`: of a required field, or of an optional one with a capability.
 abbrev pub access_type : Bool → Declared → Row
 access_type is_known undeclared = Err attribute_may_be_missing
 access_type is_known (required t) = Ok t
 access_type true (optional t) = Ok t
 access_type false (optional t) = Err attribute_may_be_missing
 
+-- `field_type_of env is_known k t` is the type of `e.k`, where `e` is of the type `t`.
 abbrev pub field_type_of : Environment → Bool → List ℕ → StaticType → Row
 field_type_of env is_known k (record_type ts) = access_type is_known (field_declared_at k ts)
 field_type_of env is_known k (entity_type n) = access_type is_known (field_declared_at k (env.attributes n))
 field_type_of env is_known k t = Err unexpected
 
--- `e has f` of a record, where the pair is not known
+-- `record_has declared` is the type of `e has f` for a record, without the capability.
 abbrev pub record_has : Declared → StaticType
 record_has undeclared = false_type
 record_has (required t) = true_type
 record_has (optional t) = boolean_type
 
--- and of an entity, which may not be stored
+-- `entity_has declared` is that for an entity, which may not be stored.
 abbrev pub entity_has : Declared → StaticType
 entity_has undeclared = false_type
 entity_has (required t) = boolean_type
 entity_has (optional t) = boolean_type
 
+-- `has_type env is_known k t` is the type of `e has k`, where `e` is of the type `t`.
 abbrev pub has_type : Environment → Bool → List ℕ → StaticType → Row
 has_type env is_known k (record_type ts) = Ok (if is_known then true_type else record_has (field_declared_at k ts))
 has_type env is_known k (entity_type n) =
@@ -147,22 +159,24 @@ has_type env is_known k t = Err unexpected
 
 -- ---- sets
 
+-- `set_of_common o` is the type of sets with the common type `o`, if there is one.
 abbrev pub set_of_common : Option StaticType → Row
 set_of_common None = Err no_common_type
 set_of_common (Some t) = Ok (set_type t)
 
--- a set literal whose members have these types
+-- `set_literal_type ts` is the type of a set literal whose members have the types `ts`.
 abbrev pub set_literal_type : List StaticType → Row
 set_literal_type [] = Err empty_set
 set_literal_type (t ∷ ts) = set_of_common (common_of t ts)
 
 -- ---- calls
 
--- a test of an address
+-- `address_test_type t` is the type of a test of an IP address.
 abbrev pub address_test_type : StaticType → Row
 address_test_type ipaddr_type = Ok boolean_type
 address_test_type t = Err unexpected
 
+-- `of_decimals s t` is Bool for two decimals, and `of_addresses s t` for two IP addresses.
 abbrev pub of_decimals : StaticType → StaticType → Row
 of_decimals decimal_type decimal_type = Ok boolean_type
 of_decimals s t = Err unexpected
@@ -171,6 +185,7 @@ abbrev pub of_addresses : StaticType → StaticType → Row
 of_addresses ipaddr_type ipaddr_type = Ok boolean_type
 of_addresses s t = Err unexpected
 
+-- `call_type called s t` is the type of a call on operands of these types.
 abbrev pub call_type : BinaryCall → StaticType → StaticType → Row
 call_type LessThan s t = of_decimals s t
 call_type LessThanOrEqual s t = of_decimals s t

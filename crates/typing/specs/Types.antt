@@ -1,13 +1,14 @@
--- The types of expressions, and the common type of several.
--- Sources: Cedar reference guide 4.0, "Policy validation"; cedar-spec, cedar-lean/Cedar/Validation/Types.lean
--- (`CedarType`, `BoolType`) and Subtyping.lean (`lub?`). True and False are the types of booleans that are known before
--- any request is.
+-- Defines the types of expressions, and the common type of several. True and False are the types of booleans that are
+-- known statically.
+-- Source: Cedar reference guide 4.0, "Policy validation"; cedar-spec, cedar-lean/Cedar/Validation/Types.lean
+-- (`CedarType`, `BoolType`) and Subtyping.lean (`lub?`).
 use Rattle.std.specs.Prelude.{ℕ, List, [], ◌∷◌, Bool, true, false, ◌&&◌, Option, Some, None, if◌then◌else◌}
 use Rattle.std.specs.Option.{option_map, option_and_then}
 use Rattle.std.specs.Ordering.{match_ordering}
 use Rattle.std.specs.Str.{bytes_eq}
 use Rattle.values.specs.Uids.{text_cmp}
 
+-- A `StaticType` is the type of an expression.
 mutual
   pub data StaticType : Type 0 where
     true_type : StaticType
@@ -27,55 +28,59 @@ mutual
     no_field_types : FieldTypes
     field_type : List ℕ → StaticType → Bool → FieldTypes → FieldTypes
 
--- what a record type says of one key
+-- A `Declared` is what a record type declares of one key.
 pub data Declared : Type 0 where
   undeclared : Declared
   optional : StaticType → Declared
   required : StaticType → Declared
 
+-- `declared_as r t` is the declaration of a field of type `t`, required if `r`.
 abbrev pub declared_as : Bool → StaticType → Declared
 declared_as true t = required t
 declared_as false t = optional t
 
+-- `field_declared_at k ts` is the declaration of the key `k`.
 abbrev pub field_declared_at : List ℕ → FieldTypes → Declared
 field_declared_at k no_field_types = undeclared
 field_declared_at k (field_type l t r ts) = if bytes_eq k l then declared_as r t else field_declared_at k ts
 
--- the fields, with a required one of type t at k
+-- `put_required k t fields` are the fields, with a required one of type `t` at `k`.
 abbrev pub put_required : List ℕ → StaticType → FieldTypes → FieldTypes
 put_required k t no_field_types = field_type k t true no_field_types
 put_required k t (field_type l s r ts) =
     match_ordering (text_cmp k l) (field_type k t true (field_type l s r ts)) (field_type l t true ts)
     (field_type l s r (put_required k t ts))
 
--- the fields, with each of these names given its type, one after the other
+-- `put_each ks ts fields` are the fields, with each name of `ks` set to its type of `ts`, in order.
 abbrev pub put_each : List (List ℕ) → List StaticType → FieldTypes → FieldTypes
 put_each (k ∷ ks) (t ∷ ts) fields = put_each ks ts (put_required k t fields)
 put_each ks ts fields = fields
 
--- the type of a boolean that is known
+-- `truth_type b` is the type of a known boolean.
 abbrev pub truth_type : Bool → StaticType
 truth_type true = true_type
 truth_type false = false_type
 
--- a boolean type, the others of which make it Bool
+-- `IsBoolean t` holds if `t` is True, False or Bool.
 pub data IsBoolean : StaticType → Type 0 where
   is_true : IsBoolean true_type
   is_false : IsBoolean false_type
   is_either : IsBoolean boolean_type
 
+-- `same_requirement r q` tests whether both are required or both optional.
 abbrev pub same_requirement : Bool → Bool → Bool
 same_requirement true r = r
 same_requirement false true = false
 same_requirement false false = true
 
+-- `field_before k r t ts` is the field `k` of type `t` in front of `ts`, if both have a common type.
 abbrev pub field_before : List ℕ → Bool → Option StaticType → Option FieldTypes → Option FieldTypes
 field_before k r (Some t) (Some ts) = Some (field_type k t r ts)
 field_before k r (Some t) None = None
 field_before k r None ts = None
 
--- The common type of two: of equal types that type, of two boolean types that differ Bool, of sets by their members, of
--- records with equal keys and equal requirements field by field; of others there is none.
+-- `common s t` is the common type of two: of equal types that type, of different boolean types Bool, of sets by their
+-- members, of records with equal keys and requirements field by field; other types have none.
 abbrev mutual
   pub common : StaticType → StaticType → Option StaticType
   common true_type true_type = Some true_type
@@ -102,7 +107,7 @@ abbrev mutual
       if bytes_eq k l && same_requirement r q then field_before k r (common s t) (common_fields ss ts) else None
   common_fields ss ts = None
 
--- the common type of the first and each of the others in turn
+-- `common_of t ss` is the common type of `t` and each of `ss` in turn.
 abbrev pub common_of : StaticType → List StaticType → Option StaticType
 common_of t [] = Some t
 common_of t (s ∷ ss) = option_and_then (λ u. common_of u ss) (common t s)

@@ -1,7 +1,8 @@
--- The type of an expression, and what it learns: one case a rule.
--- Sources: Cedar reference guide 4.0, "Policy validation"; cedar-spec, cedar-lean/Cedar/Validation/Typechecker.lean
--- (`typeOf`). Rules of this product: those of Literals.antt on actions, and that `&&` whose right is False learns what
--- both sides do.
+-- Defines the type of an expression, and the capabilities that it gains, by one case for each rule.
+-- Source: Cedar reference guide 4.0, "Policy validation"; cedar-spec, cedar-lean/Cedar/Validation/Typechecker.lean
+-- (`typeOf`).
+-- Rules of this product: those of Literals.antt on actions, and that `&&` whose right side is False gains what both
+-- sides do.
 use Rattle.std.specs.Prelude.{◌≡◌, ℕ, List, [], ◌∷◌, ◌++◌, map, Contains, Bool, Some, Ok}
 use Rattle.std.specs.Bool.{Decides}
 use Rattle.evaluator.specs.grammar_core.declared.leaf.Literal.{Literal}
@@ -23,32 +24,32 @@ use Rattle.typing.specs.Rows.{literal_type, variable_type, unary_type, binary_ty
 use Rattle.typing.specs.Rows.{field_type_of, has_type, set_literal_type, address_test_type, call_type}
 
 mutual
-  -- where the pairs of K are known, the expression has type t, and learns L
+  -- `Types env K x t L` holds if `x` has the type `t` and gains `L`, where the capabilities `K` are known.
   pub data Types (env : Environment) : Pairs → Expr → StaticType → Pairs → Type 0 where
     types_literal : {K : Pairs} (l : Literal) → Types env K (form.Literal l) (literal_type l) []
     types_variable : {K : Pairs} (x : Variable) → Types env K (form.Variable x) (variable_type env x) []
     types_unary : {K L : Pairs} (op : Unary) (a : Expr) {s t : StaticType} → Types env K a s L
         → unary_type op s ≡ Ok t → Types env K (form.Unary op a) t []
-    -- the left False: the right isn't looked at
+    -- the left side is False: the right side is not checked
     and_of_false : {K L : Pairs} (a b : Expr) → Types env K a false_type L → Types env K (form.And a b) false_type []
     and_of_both : {K L M : Pairs} (a b : Expr) {s t : StaticType} → Types env K a s L → MayBeTrue s
         → Types env (K ++ L) b t M → IsBoolean t → Types env K (form.And a b) (and_type s t) (L ++ M)
-    -- the left True: the right isn't looked at
+    -- the left side is True: the right side is not checked
     or_of_true : {K L : Pairs} (a b : Expr) → Types env K a true_type L → Types env K (form.Or a b) true_type []
     or_of_false : {K L M : Pairs} (a b : Expr) {t : StaticType} → Types env K a false_type L → Types env K b t M
         → IsBoolean t → Types env K (form.Or a b) t M
     or_of_both : {K L M N : Pairs} (a b : Expr) {t : StaticType} → Types env K a boolean_type L
         → Types env K b t M → IsBoolean t → OrLearns t L M N → Types env K (form.Or a b) (or_type t) N
-    -- the test True or False: the other branch isn't looked at
+    -- the test is True or False: the other branch is not checked
     if_of_true : {K L M : Pairs} (a b c : Expr) {t : StaticType} → Types env K a true_type L
         → Types env (K ++ L) b t M → Types env K (form.If a b c) t (L ++ M)
     if_of_false : {K L M : Pairs} (a b c : Expr) {t : StaticType} → Types env K a false_type L
         → Types env K c t M → Types env K (form.If a b c) t M
-    -- it learns B: what both `else` learns, which is N, and the test and `then` together do, which is L ++ M
+    -- it gains `B`: what both `else`, which gains `N`, and the test and `then` together, which gain `L ++ M`, do
     if_of_both : {K L M N B : Pairs} (a b c : Expr) {s t u : StaticType} → Types env K a boolean_type L
         → Types env (K ++ L) b s M → Types env K c t N → common s t ≡ Some u → InBoth N (L ++ M) B
         → Types env K (form.If a b c) u B
-    -- literals that settle the answer have no further types
+    -- literals that decide the result have no further types
     types_settled : {K : Pairs} (op : Binary) (a b : Expr) {r : Bool} → Settled env op a b r
         → Types env K (form.Binary op a b) (truth_type r) []
     types_binary : {K L M : Pairs} (op : Binary) (a b : Expr) {s t u : StaticType} → IsUnsettled env op a b
@@ -73,7 +74,7 @@ mutual
     types_call : {K L M : Pairs} (called : BinaryCall) (a b : Expr) {s t u : StaticType} → Types env K a s L
         → Types env K b t M → call_type called s t ≡ Ok u → Types env K (form.BinaryCall called a b) u []
 
-  -- the types of these, in order
+  -- `TypesEach env K xs ts` holds if `ts` are the types of `xs`, in order.
   pub data TypesEach (env : Environment) : Pairs → List Expr → List StaticType → Type 0 where
     types_none : {K : Pairs} → TypesEach env K [] []
     types_more : {K L : Pairs} {x : Expr} {xs : List Expr} {t : StaticType} {ts : List StaticType}

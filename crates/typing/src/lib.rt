@@ -1,5 +1,5 @@
-//! The rules of the strict validator: types, which values are of a type, the typing relation with its faults, and why
-//! what is typed does not go wrong. The crate has definitions and laws about them, and no code.
+//! The rules of the strict validator: types, the values of a type, the typing relation with its errors, and the
+//! theorem that it is sound. The crate has only definitions and theorems.
 #![tactic(auto)]
 
 mod laws;

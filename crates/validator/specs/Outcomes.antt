@@ -1,4 +1,4 @@
--- Defines the outcome of validating a policy: exactly one, and sound if the policy passes.
+-- Defines the theorems about validation: each policy has exactly one outcome, and validation is sound.
 use Rattle.std.specs.Prelude.{◌≡◌, ◌≢◌, Bool, true, [], All, Contains, Ok}
 use Rattle.values.specs.declared.entity_uid.EntityUid.{EntityUid}
 use Rattle.values.specs.declared.request.Request.{Request}

@@ -1,23 +1,24 @@
--- The fields of a record: keys ascend strictly, each with its value.
+-- Defines the fields of a record: keys that ascend strictly, each with its value.
 use Rattle.std.specs.Prelude.{ℕ, List, [], ◌∷◌, map, Option, Some, None}
 use Rattle.std.specs.List.Sorted.{IsStrictlySortedBy}
 use Rattle.std.specs.Ordering.{match_ordering}
 use Rattle.values.specs.Values.{PlainValue}
 use Rattle.values.specs.Uids.{text_cmp}
 
+-- A `Field` is a key with its value.
 abbrev pub Field : Type 0
 Field = List ℕ × PlainValue
 
--- the keys ascend strictly, by their bytes
+-- `AreKeysAscending fs` holds if the keys of `fs` ascend strictly, by their bytes.
 abbrev pub AreKeysAscending : List Field → Type 0
 AreKeysAscending fs = IsStrictlySortedBy text_cmp (map (λ f. f.0) fs)
 
--- the fields, with v at k
+-- `put k v fs` are the fields `fs`, with the value `v` at the key `k`.
 abbrev pub put : List ℕ → PlainValue → List Field → List Field
 put k v [] = (k, v) ∷ []
 put k v (f ∷ fs) = match_ordering (text_cmp k f.0) ((k, v) ∷ f ∷ fs) ((f.0, v) ∷ fs) (f ∷ put k v fs)
 
--- the value at a key
+-- `find_field k fs` is the value of `fs` at the key `k`, if there is one.
 abbrev pub find_field : List ℕ → List Field → Option PlainValue
 find_field k [] = None
 find_field k (f ∷ fs) = match_ordering (text_cmp k f.0) (find_field k fs) (Some f.1) (find_field k fs)

@@ -11,5 +11,5 @@ pub mod ValueOrder
 pub mod ValueView
 pub mod Values
 pub mod WellFormed
--- crates below, passed on to those above
+-- Specifications of lower crates, re-exported.
 pub use Rattle.extensions.specs as extensions

@@ -1,5 +1,5 @@
--- How entity uids, names and requests are ordered.
--- A rule of this product: policies before entities; policies by the bytes of the id; entities by the bytes of the
+-- Defines the orders of entity uids, names and requests.
+-- Rules of this product: policies before entities; policies by the bytes of the id; entities by the bytes of the
 -- type's name, then of the id.
 use Rattle.std.specs.Prelude.{◌≡◌, refl}
 use Rattle.std.specs.Ordering.{ordering_then}
@@ -18,21 +18,21 @@ use Rattle.values.specs.declared.name.Name.TheVariants.{Policy, Entity}
 use Rattle.values.specs.declared.request.Request.{Request}
 use Rattle.values.specs.ValueOrder.{record_cmp, record_cmp-IsTotalOrder, record_cmp-IsAntisymmetric}
 
--- policies before entities
+-- `name_cmp a b` orders names: policies before entities.
 abbrev pub name_cmp : Name → Name → Ordering
 name_cmp (Policy a) (Policy b) = text_cmp a b
 name_cmp (Policy a) (Entity b) = Less
 name_cmp (Entity a) (Policy b) = Greater
 name_cmp (Entity a) (Entity b) = uid_cmp a b
 
--- by the principal, then by the action, then by the resource, then by the context
+-- `request_cmp a b` orders requests by principal, then action, then resource, then context.
 abbrev pub request_cmp : Request → Request → Ordering
 request_cmp a b =
     ordering_then (uid_cmp a.principal b.principal)
     (ordering_then (uid_cmp a.action b.action)
     (ordering_then (uid_cmp a.resource b.resource) (record_cmp a.context b.context)))
 
--- The three orders are total, and compare as equal only what is equal.
+-- The orders are total, and only equal names or requests compare as equal.
 
 antisymm : (a b : Name) → name_cmp a b ≡ ordering_reverse (name_cmp b a)
 antisymm (Policy a) (Policy b) = nat_list_cmp_total.antisymm a b

@@ -1,4 +1,4 @@
--- The Path that a list of words makes, and whether a text is a Path, as a test that computes.
+-- Defines the Path of a list of words, and whether a string is a Path, as a test that computes.
 -- Source: Cedar reference guide 4.0, "Grammar specification for Cedar policy syntax", Path = Ident { "::" Ident },
 -- without blanks or comments.
 use Prim.Native.Char.{code}
@@ -7,31 +7,32 @@ use Rattle.std.specs.List.{list_any, list_all}
 use Rattle.std.specs.Str.{bytes_eq}
 use Rattle.extensions.specs.plain.Words.{is_letter, is_word_byte, reserved_words, joined_path, IsIdent, IsPath}
 
--- the words with `::` between each two
+-- `path_of words` are the words with `::` between each two.
 abbrev pub path_of : List (List ℕ) → List ℕ
 path_of [] = []
 path_of (first ∷ more) = joined_path first more
 
+-- `is_word word` tests for a letter, followed by letters and digits.
 abbrev pub is_word : List ℕ → Bool
 is_word [] = false
 is_word (c ∷ cs) = is_letter c && list_all is_word_byte cs
 
--- a word that is not reserved
+-- `is_ident word` tests for a word that is not reserved.
 abbrev pub is_ident : List ℕ → Bool
 is_ident word = is_word word && not (list_any (bytes_eq word) reserved_words)
 
--- the pieces of a text between each two `::`; `word` has been read of the first
+-- `pieces word text` are the pieces of a string between each two `::`; `word` is the beginning of the first.
 unfoldable pub pieces : List ℕ → List ℕ → List (List ℕ)
 pieces word [] = word ∷ []
 pieces word (c ∷ []) = (word ++ c ∷ []) ∷ []
 pieces word (c ∷ d ∷ rest) =
     if c == code ":" && d == code ":" then word ∷ pieces [] rest else pieces (word ++ c ∷ []) (d ∷ rest)
 
--- each piece is an identifier
+-- `is_path text` tests whether each piece is an identifier.
 unfoldable pub is_path : List ℕ → Bool
 is_path text = list_all is_ident (pieces [] text)
 
--- the tests hold exactly of identifiers and of Paths
+-- `IdentTestIsExact` and `PathTestIsExact`: the tests accept exactly identifiers and Paths.
 abbrev pub IdentTestIsExact : Type 0
 IdentTestIsExact = (word : List ℕ) → IsTrue (is_ident word) ↔ IsIdent word
 

@@ -1,5 +1,5 @@
--- How texts and entity uids are ordered.
--- A rule of this product: texts by their bytes; uids by the bytes of the type's name, then of the id.
+-- Defines the orders of strings and entity uids.
+-- Rules of this product: strings by their bytes; uids by the bytes of the type's name, then of the id.
 use Rattle.std.specs.Prelude.{◌≡◌, ◌↔◌, ℕ, List, IsTrue, refl}
 use Rattle.std.specs.Ordering.{nat_cmp, ordering_then, is_eq}
 use Rattle.std.specs.Cmp.{IsTotalOrder}
@@ -11,15 +11,15 @@ use Rattle.std.proofs.Common.{ap, sym, ◌∙◌}
 use Rattle.std.proofs.lemmas.Cmp.{nat_list_cmp_total, then_total, on_total, tied_itself}
 use Rattle.values.specs.declared.entity_uid.EntityUid.{EntityUid}
 
--- texts, by their bytes
+-- `text_cmp a b` orders strings by their bytes.
 abbrev pub text_cmp : List ℕ → List ℕ → Ordering
 text_cmp = slice_cmp nat_cmp
 
--- by the type's name, then by the id
+-- `uid_cmp a b` orders uids by the type's name, then by the id.
 abbrev pub uid_cmp : EntityUid → EntityUid → Ordering
 uid_cmp a b = ordering_then (text_cmp a.type_name b.type_name) (text_cmp a.id b.id)
 
--- Both are total, and compare as equal only what is equal.
+-- Both are total, and only equal values compare as equal.
 
 pub text_cmp-IsTotalOrder : IsTotalOrder text_cmp
 text_cmp-IsTotalOrder = nat_list_cmp_total
@@ -48,7 +48,7 @@ equal_from Less h = absurd (cc)
 equal_from Equal h = refl
 equal_from Greater h = absurd (cc)
 
--- What a total order that is exact compares as equal is equal, and the other way round.
+-- In a total and antisymmetric order, values compare as equal if and only if they are equal.
 pub equal-is : {K : Type 0} {R : K → K → Ordering} → IsTotalOrder R → IsAntisymmetric R → (a b : K)
     → IsTrue (is_eq (R a b)) ↔ (a ≡ b)
 equal-is {R = R} total exact a b = (

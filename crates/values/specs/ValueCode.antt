@@ -1,4 +1,4 @@
--- A value as a list of tokens, which gives it back. The tokens also give the order of values.
+-- Defines a value as a list of tokens, which determines it, and which gives the order of values.
 use Rattle.std.specs.Prelude.{◌≡◌, ℕ, ℤ, pos, List, [], ◌∷◌, ◌++◌, Bool, true, false, cond, ◌==◌, refl}
 use Rattle.std.specs.Coded.{Coded, code_by, coded×, coded_ℕ, coded_ℤ, coded_list}
 use Rattle.std.proofs.Common.{ap, sym, ◌∙◌, append_assoc}
@@ -8,22 +8,25 @@ use Rattle.extensions.specs.Order.{version_number, network_of, network_of-networ
 use Rattle.values.specs.Values.{PlainValue, boolean, long, text, entity, set, record_of, decimal, ipaddr, PlainValues}
 use Rattle.values.specs.Values.{no_values, value, PlainFields, no_fields, field}
 
--- a token: what it begins, a number, and two texts
+-- A `Token` is what it begins, a number, and two strings.
 abbrev pub Token : Type 0
 Token = ℕ × (ℤ × (List ℕ × List ℕ))
 
+-- `as_number b` is 1 if `b`, else 0.
 abbrev pub as_number : Bool → ℤ
 as_number false = pos 0
 as_number true = pos 1
 
+-- `is_one z` tests whether `z` is 1.
 abbrev pub is_one : ℤ → Bool
 is_one (pos n) = n == 1
 is_one z = false
 
--- a network as a list of three numbers
+-- `network_list n` is the network `n` as a list of three numbers.
 abbrev pub network_list : Network → List ℕ
 network_list n = version_number n.version ∷ n.address ∷ n.prefix ∷ []
 
+-- `list_network ns` is the network that the list `ns` represents.
 abbrev pub list_network : List ℕ → Network
 list_network [] = network_of (0, (0, 0))
 list_network (v ∷ []) = network_of (v, (0, 0))
@@ -49,13 +52,13 @@ abbrev mutual
   record_tokens no_fields = (0, (pos 0, ([], []))) ∷ []
   record_tokens (field k v fs) = (9, (pos 0, (k, []))) ∷ (tokens v ++ record_tokens fs)
 
--- what a token that was read stands for
+-- An `Item` is what a token that was read represents.
 pub data Item : Type 0 where
   end : Item
   key : List ℕ → Item
   whole : PlainValue → Item
 
--- the members up to the next end, and what lies behind it
+-- `members st` are the values up to the next end, and `behind st` is what follows it.
 abbrev pub members : List Item → PlainValues
 members [] = no_values
 members (end ∷ st) = no_values
@@ -77,6 +80,7 @@ behind (end ∷ st) = st
 behind (key k ∷ st) = behind st
 behind (whole v ∷ st) = behind st
 
+-- `read_one n z s t st` are the items `st` with the next token, whose parts are `n`, `z`, `s` and `t`, in front.
 abbrev pub read_one : ℕ → ℤ → List ℕ → List ℕ → List Item → List Item
 read_one n z s t st =
     cond (n == 0) (end ∷ st) (cond (n == 1) (whole (boolean (is_one z)) ∷ st)
@@ -87,7 +91,7 @@ read_one n z s t st =
     (cond (n == 7) (whole (decimal z) ∷ st)
     (cond (n == 8) (whole (ipaddr (list_network s)) ∷ st) (key s ∷ st)))))))))
 
--- reads tokens, the last one first
+-- `read ts` reads the tokens `ts`, from the last to the first.
 abbrev pub read : List Token → List Item
 read [] = []
 read (t ∷ ts) = read_one t.0 t.1.0 t.1.1.0 t.1.1.1 (read ts)
@@ -160,12 +164,13 @@ pub from_tokens-tokens : (v : PlainValue) → from_tokens (tokens v) ≡ v
 from_tokens-tokens v =
     ap from_tokens (sym (append-nil (tokens v))) ∙ ap first_of (read-tokens v [])
 
+-- `value_code` encodes values by their tokens.
 abbrev pub value_code : Coded PlainValue
 value_code =
     code_by (List Token) (coded_list
     (coded× coded_ℕ (coded× coded_ℤ (coded× (coded_list coded_ℕ) (coded_list coded_ℕ))))) tokens from_tokens
     from_tokens-tokens
 
--- values with the same tokens are the same
+-- Values with the same tokens are equal.
 pub same_from_tokens : (v w : PlainValue) → tokens v ≡ tokens w → v ≡ w
 same_from_tokens v w e = sym (from_tokens-tokens v) ∙ (ap from_tokens e ∙ from_tokens-tokens w)

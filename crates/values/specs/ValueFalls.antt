@@ -1,4 +1,4 @@
--- What a value holds nests less deep than the value.
+-- Defines the proof that the content of a value nests less deeply than the value.
 use Rattle.std.specs.Prelude.{◌+◌, ◌≤◌, max, List, [], ◌∷◌, map, String}
 use Rattle.std.proofs.Common.{arith}
 use Rattle.std.specs.declared.alloc.Global.{Global}

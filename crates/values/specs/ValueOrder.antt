@@ -1,6 +1,7 @@
--- The order of values: by kind, and then false before true, numbers by size, texts by bytes, entities by uid, sets by
--- their members and records by their fields, item by item, a beginning first, decimals by size, addresses by version,
--- address and prefix. A rule of this product.
+-- Defines the order of values.
+-- Rules of this product: by kind, and then false before true, integers by size, strings by bytes, entities by uid,
+-- sets by their members and records by their fields, item by item, a prefix first, decimals by size, IP addresses by
+-- version, address and prefix.
 use Rattle.std.specs.Prelude.{◌≡◌, ℕ, pos, List, [], ◌∷◌, ◌++◌, Bool, true, false, refl}
 use Rattle.std.proofs.Common.{ap, sym, ◌∙◌, append_assoc}
 use Rattle.std.proofs.lemmas.List.{append-nil}
@@ -20,7 +21,7 @@ use Rattle.extensions.specs.Order.{version_number, network_cmp}
 use Rattle.values.specs.Uids.{text_cmp, uid_cmp}
 use Rattle.values.specs.ValueCode.{network_list, Token, as_number, tokens, set_tokens, record_tokens, same_from_tokens}
 
--- the place of a value's kind
+-- `kind_rank v` is the rank of the kind of `v`.
 abbrev pub kind_rank : PlainValue → ℕ
 kind_rank (boolean b) = 1
 kind_rank (long z) = 2
@@ -227,7 +228,7 @@ token_cmp_total = then_total (on_total (λ t. t.0) nat_cmp_total)
 by_tokens_total : IsTotalOrder (on tokens tokens_cmp)
 by_tokens_total = on_total tokens (lists_total token_cmp_total)
 
--- every two values are ordered
+-- The order of values is total.
 pub value_cmp-IsTotalOrder : IsTotalOrder value_cmp
 value_cmp-IsTotalOrder = record {
   antisymm = λ x y. by_tokens x y ∙ (by_tokens_total.antisymm x y ∙ ap ordering_reverse (sym (by_tokens y x)));
@@ -256,26 +257,26 @@ token_same x y e =
     let s = slice_cmp-IsAntisymmetric nat_cmp-IsAntisymmetric x.1.1.1 y.1.1.1 c.1 in
     same_token x y p q r s
 
--- only equal values tie
+-- Only equal values compare as equal.
 pub value_cmp-IsAntisymmetric : IsAntisymmetric value_cmp
 value_cmp-IsAntisymmetric v w e =
     same_from_tokens v w (slice_cmp-IsAntisymmetric token_same (tokens v) (tokens w) (sym (by_tokens v w) ∙ e))
 
 -- ---- sets and records
 
--- sets, member by member
+-- `set_cmp a b` orders sets, member by member.
 abbrev pub set_cmp : List PlainValue → List PlainValue → Ordering
 set_cmp a b = values_cmp (values_of a) (values_of b)
 
--- records, field by field
+-- `record_cmp a b` orders records, field by field.
 abbrev pub record_cmp : List (List ℕ × PlainValue) → List (List ℕ × PlainValue) → Ordering
 record_cmp a b = fields_cmp (fields_of a) (fields_of b)
 
--- fields, by the key and then by the value
+-- `field_cmp f g` orders fields by the key, and then by the value.
 abbrev pub field_cmp : List ℕ × PlainValue → List ℕ × PlainValue → Ordering
 field_cmp f g = ordering_then (text_cmp f.0 g.0) (value_cmp f.1 g.1)
 
--- they are the orders of lists that std has
+-- They are the orders of lists in std.
 pub set_cmp-is : (a b : List PlainValue) → set_cmp a b ≡ slice_cmp value_cmp a b
 set_cmp-is [] [] = refl
 set_cmp-is [] (w ∷ b) = refl

@@ -1,4 +1,4 @@
--- What the parts of a value are seen as.
+-- Defines the abstract view of the parts of a value.
 use Rattle.std.specs.Prelude.{List, map, String, string_bytes, ℕ}
 use Rattle.std.specs.declared.alloc.Global.{Global}
 use Rattle.values.specs.declared.value.Kind.{Kind}
@@ -6,6 +6,7 @@ use Rattle.values.specs.declared.value.Kind.TheVariants.{Boolean, Long, Text, En
 use Rattle.values.specs.Values.{PlainValue, boolean, long, text, entity, set, record_of, decimal, ipaddr, values_of}
 use Rattle.values.specs.Values.{fields_of}
 
+-- `of_kind k` is the value of a kind with its content.
 abbrev pub of_kind : Kind → PlainValue
 of_kind (Boolean b) = boolean b
 of_kind (Long z) = long z
@@ -16,5 +17,6 @@ of_kind (Record r) = record_of (fields_of r)
 of_kind (Decimal d) = decimal d
 of_kind (IpAddr n) = ipaddr n
 
+-- `of_entries es` are the fields of a record of the code.
 abbrev pub of_entries : List (String Global × PlainValue) → List (List ℕ × PlainValue)
 of_entries es = map (λ e. (string_bytes e.0, e.1)) es

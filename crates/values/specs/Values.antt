@@ -1,4 +1,4 @@
--- What a value of the policy language is, as plain data.
+-- Defines the values of the policy language.
 -- Source: Cedar reference guide 4.0, "Supported data types": boolean, long, string, entity, set, record, decimal,
 -- ipaddr.
 use Rattle.std.specs.Prelude.{◌≡◌, ℕ, suc, max, ℤ, List, [], ◌∷◌, Bool, refl}
@@ -6,8 +6,9 @@ use Rattle.std.proofs.Common.{ap}
 use Rattle.extensions.specs.Network.{Network}
 use Rattle.values.specs.declared.entity_uid.EntityUid.{EntityUid}
 
--- A text is its bytes, a set its members, a record its keys with their values, a decimal its number of ten-thousandths.
--- The lists of members and of fields are types of their own, since a data type can't hold lists of itself.
+-- A `PlainValue` has a string as its bytes, a set as its members, a record as its keys with their values, a decimal
+-- as its number of ten-thousandths. The lists of members and of fields are types of their own, since a data type
+-- cannot contain lists of itself.
 mutual
   pub data PlainValue : Type 0 where
     boolean : Bool → PlainValue
@@ -27,20 +28,22 @@ mutual
     no_fields : PlainFields
     field : List ℕ → PlainValue → PlainFields → PlainFields
 
--- the members of a set, as a list
+-- `list_of vs` are the members of a set, as a list.
 abbrev pub list_of : PlainValues → List PlainValue
 list_of no_values = []
 list_of (value v vs) = v ∷ list_of vs
 
+-- `values_of vs` are these members, as a set has them.
 abbrev pub values_of : List PlainValue → PlainValues
 values_of [] = no_values
 values_of (v ∷ vs) = value v (values_of vs)
 
--- the fields of a record, as a list
+-- `pairs_of fs` are the fields of a record, as a list.
 abbrev pub pairs_of : PlainFields → List (List ℕ × PlainValue)
 pairs_of no_fields = []
 pairs_of (field k v fs) = (k, v) ∷ pairs_of fs
 
+-- `fields_of fs` are these fields, as a record has them.
 abbrev pub fields_of : List (List ℕ × PlainValue) → PlainFields
 fields_of [] = no_fields
 fields_of (f ∷ fs) = field f.0 f.1 (fields_of fs)
@@ -61,7 +64,7 @@ pub pairs_of-fields_of : (fs : List (List ℕ × PlainValue)) → pairs_of (fiel
 pairs_of-fields_of [] = refl
 pairs_of-fields_of (f ∷ fs) = ap (λ w. f ∷ w) (pairs_of-fields_of fs)
 
--- how deep sets and records nest
+-- `height v` is how deeply sets and records nest in `v`.
 abbrev mutual
   pub height : PlainValue → ℕ
   height (boolean b) = 0

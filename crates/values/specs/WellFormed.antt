@@ -1,5 +1,6 @@
--- Values that are well formed at every depth: the members of each set in it ascend strictly, and so do the keys of each
--- record. A rule of this product: so equal sets and equal records are equal lists.
+-- Defines values that are well formed at every depth: the members of each set ascend strictly, and so do the keys of
+-- each record. So equal sets and equal records are equal lists.
+-- Rules of this product: these orders.
 use Rattle.std.specs.Prelude.{⊤}
 use Rattle.std.specs.List.Sorted.{IsStrictlySortedBy}
 use Rattle.values.specs.Fields.{AreKeysAscending}
@@ -7,6 +8,7 @@ use Rattle.values.specs.ValueOrder.{value_cmp}
 use Rattle.values.specs.Values.{PlainValue, boolean, long, text, entity, set, record_of, decimal, ipaddr, PlainValues}
 use Rattle.values.specs.Values.{no_values, value, PlainFields, no_fields, field, list_of, pairs_of}
 
+-- `IsWellFormed v` holds if the value `v` is well formed at every depth.
 abbrev mutual
   pub IsWellFormed : PlainValue → Type 0
   IsWellFormed (boolean b) = ⊤

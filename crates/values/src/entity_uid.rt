@@ -5,29 +5,29 @@ use crate::shared_text::SharedText;
 use crate::type_name::TypeName;
 use extensions::NoMemory;
 
-/// The name of an entity: its type's name and its id. Contracts see a record of two lists of bytes.
+/// The uid of an entity: its type's name and its id. Contracts see a record of two lists of bytes.
 ///
-/// Uids are ordered by the bytes of the type's name, and then by those of the id. Both texts are shared: a copy takes
-/// sixteen bytes where it is kept, and nothing of the allocator.
+/// Uids are ordered by the bytes of the type's name, and then by those of the id. Both strings are shared: a copy
+/// takes sixteen bytes, and does not allocate.
 #[derive(PartialEq, Eq, PartialOrd, Ord, Drop)]
 pub struct EntityUid {
     /// The entity's type.
     pub type_name: TypeName,
-    /// Any text.
+    /// Any string.
     pub id: SharedText,
 }
 
 impl EntityUid {
-    /// Returns whether two uids are one; takes no memory. Ids are compared first, since they differ more often than
-    /// types do.
+    /// Returns whether two uids are equal. Compares ids first, since they differ more often than types do. Does not
+    /// allocate.
     pub fn same(&self, other: &EntityUid) -> bool
         ensures { IsTrue result ↔ (self.now ≡ other.now) }
     {
         self.id.same(&other.id) && self.type_name.same(&other.type_name)
     }
 
-    /// Returns the same uid, its texts shared. It takes no memory, and it is `NoMemory` only where the holders of a
-    /// text are as many as can be counted.
+    /// Returns a copy that shares its strings, without allocating. `NoMemory` only if the count of references to a
+    /// string would overflow.
     pub fn copy(&self) -> Result<EntityUid, NoMemory>
         ensures { IfOk result (λ u. u ≡ self.now) }
     {

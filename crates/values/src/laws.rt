@@ -1,4 +1,4 @@
-//! Laws of sets and records; the functions do nothing.
+//! Theorems about sets and records. The functions are no-ops.
 ghost use Rattle.std.specs.Prelude.{◌≡◌, ◌≢◌, ℕ, List, Some};
 ghost use Rattle.values.specs.Fields.{find_field, put};
 ghost use Rattle.values.specs.Laws.{SetsHoldTheirMembers, SetsAreOneList, MemberTestIsExact, MembersAreFound};
@@ -10,8 +10,8 @@ ghost use Rattle.values.specs.Paths.{IdentTestIsExact, PathTestIsExact};
 use crate::record::Record;
 use crate::value::Value;
 
-/// A set is its members: the list of a set ascends strictly, has the members that it was made of, and is the only list
-/// that does. The test for a member and a binary search tell them.
+/// Proves that a set is determined by its members: its list ascends strictly, has the members that it was made of,
+/// and is the only list that does; and that the test for a member and a binary search find exactly these. No-op.
 pub fn sets_hold_their_members()
     ensures made { SetsHoldTheirMembers }
     ensures one { SetsAreOneList }
@@ -19,8 +19,8 @@ pub fn sets_hold_their_members()
     ensures found { MembersAreFound }
 {}
 
-/// A record is a finite map: a field that was set has its value, and each other field what it had; its keys ascend
-/// strictly; equal fields make equal records; in whatever order fields are set, the record is the same.
+/// Proves that a record is a finite map: a field that was set has its value, and the other fields keep theirs; keys
+/// ascend strictly; equal fields make equal records; and the order in which fields are set does not matter. No-op.
 pub fn records_are_maps()
     ensures here { (key : List ℕ) (value : Value) (fields : Record)
         → find_field key (put key value fields) ≡ Some value }
@@ -32,9 +32,11 @@ pub fn records_are_maps()
     ensures later { LaterValueStays }
 {}
 
-/// Values stay well formed at every depth: in each set the members ascend strictly, in each record the keys. A set of
-/// well-formed values is well formed, and a record with one more well-formed field; so are the members and the fields
-/// of what is well formed.
+/// Proves that values stay well formed at every depth: in each set the members ascend strictly, and in each record
+/// the keys. No-op.
+///
+/// A set of well-formed values is well formed, and so is a record with one more well-formed field; so are the members
+/// and the fields of a well-formed value.
 pub fn values_stay_well_formed()
     ensures sets { SetsAreWellFormed }
     ensures members { MembersAreWellFormed }
@@ -42,7 +44,7 @@ pub fn values_stay_well_formed()
     ensures fields { FieldsAreWellFormed }
 {}
 
-/// The tests for identifiers and for Paths hold exactly of these.
+/// Proves that the tests for identifiers and for Paths accept exactly these. No-op.
 pub fn paths_are_told()
     ensures idents { IdentTestIsExact }
     ensures paths { PathTestIsExact }

@@ -1,4 +1,4 @@
-//! Names, requests and values: entity types, entity uids, names of policies and entities, what is asked of a site, and
+//! Names, requests and values: entity types, entity uids, names of policies and entities, authorization requests, and
 //! the values that policies compute with.
 #![tactic(auto)]
 

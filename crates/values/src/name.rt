@@ -4,10 +4,10 @@ ghost use Rattle.std.specs.Prelude.{◌≡◌, IfOk};
 use crate::entity_uid::EntityUid;
 use extensions::{NoMemory, Text};
 
-/// What a site stores something under: a policy's id or an entity's uid.
+/// The name of an entry in a site's store: a policy's id or an entity's uid.
 ///
-/// Policies come before entities; policies are ordered by the bytes of the id, entities as their uids are.
-/// A policy's id is any text here: that it has 1 to 256 bytes is judged where ids come in.
+/// Policies come before entities; policies are ordered by the bytes of the id, and entities by their uids. A policy's
+/// id is any string here: callers check that it has 1 to 256 bytes.
 #[derive(PartialEq, Eq, PartialOrd, Ord, Drop)]
 pub enum Name {
     /// A policy, by its id.
@@ -17,7 +17,7 @@ pub enum Name {
 }
 
 impl Name {
-    /// Returns the same name, or `NoMemory`.
+    /// Returns a copy of the name, or `NoMemory`.
     pub fn copy(&self) -> Result<Name, NoMemory>
         ensures { IfOk result (λ n. n ≡ self.now) }
     {

@@ -1,4 +1,4 @@
-//! The orders of names, as laws.
+//! The orders of names, requests and values, as theorems. The functions are no-ops.
 ghost use Rattle.std.specs.Prelude.{◌≡◌, ◌↔◌, IsTrue, Contains};
 ghost use Rattle.std.specs.Cmp.Lexicographic.{slice_cmp};
 ghost use Rattle.std.specs.List.Sorted.{IsStrictlySortedBy};
@@ -15,8 +15,8 @@ use crate::set::Set;
 use crate::type_name::TypeName;
 use crate::value::Value;
 
-/// Type names are compared by their bytes: `cmp` is that order, which is total, and `Equal` only at equal names; `==`
-/// holds exactly at equal values.
+/// Proves that type names are compared by their bytes: `cmp` is that order, which is total, and `Equal` only for
+/// equal names; `==` holds exactly for equal values. No-op.
 pub fn type_names_are_ordered()
     ensures by { (a b : TypeName) → ⟦<TypeName as Ord>⟧.cmp a b ≡ text_cmp a b }
     ensures same { (a b : TypeName) → IsTrue (⟦<TypeName as PartialEq>⟧.eq a b) ↔ (a ≡ b) }
@@ -24,8 +24,8 @@ pub fn type_names_are_ordered()
     ensures exact { IsAntisymmetric text_cmp }
 {}
 
-/// Entity uids are compared by the type's name, then by the id: `cmp` is that order, which is total, and `Equal` only
-/// at equal uids; `==` holds exactly at equal values.
+/// Proves that entity uids are compared by the type's name, then by the id: `cmp` is that order, which is total, and
+/// `Equal` only for equal uids; `==` holds exactly for equal values. No-op.
 pub fn entity_uids_are_ordered()
     ensures by { (a b : EntityUid) → ⟦<EntityUid as Ord>⟧.cmp a b ≡ uid_cmp a b }
     ensures same { (a b : EntityUid) → IsTrue (⟦<EntityUid as PartialEq>⟧.eq a b) ↔ (a ≡ b) }
@@ -33,8 +33,8 @@ pub fn entity_uids_are_ordered()
     ensures exact { IsAntisymmetric uid_cmp }
 {}
 
-/// Names are compared with policies before entities: `cmp` is that order, which is total, and `Equal` only at equal
-/// names; `==` holds exactly at equal values.
+/// Proves that names are compared with policies before entities: `cmp` is that order, which is total, and `Equal`
+/// only for equal names; `==` holds exactly for equal values. No-op.
 pub fn names_are_ordered()
     ensures by { (a b : Name) → ⟦<Name as Ord>⟧.cmp a b ≡ name_cmp a b }
     ensures same { (a b : Name) → IsTrue (⟦<Name as PartialEq>⟧.eq a b) ↔ (a ≡ b) }
@@ -42,8 +42,8 @@ pub fn names_are_ordered()
     ensures exact { IsAntisymmetric name_cmp }
 {}
 
-/// Requests are compared by principal, action, resource and context: `cmp` is that order, which is total, and `Equal`
-/// only at equal requests; `==` holds exactly at equal values.
+/// Proves that requests are compared by principal, action, resource and context: `cmp` is that order, which is total,
+/// and `Equal` only for equal requests; `==` holds exactly for equal values. No-op.
 pub fn requests_are_ordered()
     ensures by { (a b : Request) → ⟦<Request as Ord>⟧.cmp a b ≡ request_cmp a b }
     ensures same { (a b : Request) → IsTrue (⟦<Request as PartialEq>⟧.eq a b) ↔ (a ≡ b) }
@@ -51,8 +51,8 @@ pub fn requests_are_ordered()
     ensures exact { IsAntisymmetric request_cmp }
 {}
 
-/// Values are compared by kind, then by what they hold: `cmp` is that order, which is total, and `Equal` only at equal
-/// values; `==` holds exactly at equal values.
+/// Proves that values are compared by kind, then by content: `cmp` is that order, which is total, and `Equal` only
+/// for equal values; `==` holds exactly for equal values. No-op.
 pub fn values_are_ordered()
     ensures by { (a b : Value) → ⟦<Value as Ord>⟧.cmp a b ≡ value_cmp a b }
     ensures same { (a b : Value) → IsTrue (⟦<Value as PartialEq>⟧.eq a b) ↔ (a ≡ b) }
@@ -60,7 +60,8 @@ pub fn values_are_ordered()
     ensures exact { IsAntisymmetric value_cmp }
 {}
 
-/// Sets are compared member by member, as ascending lists, a beginning first; two that have the same members are equal.
+/// Proves that sets are compared member by member, as ascending lists, with a prefix before a longer list; and that
+/// two sets with the same members are equal. No-op.
 pub fn sets_are_ordered()
     ensures by { (a b : Set) → ⟦<Set as Ord>⟧.cmp a b ≡ slice_cmp value_cmp a b }
     ensures same { (a b : Set) → IsTrue (⟦<Set as PartialEq>⟧.eq a b) ↔ (a ≡ b) }
@@ -68,8 +69,8 @@ pub fn sets_are_ordered()
         → ((v : Value) → Contains a v ↔ Contains b v) → a ≡ b }
 {}
 
-/// Records are compared field by field, by the key and then by the value, as lists that ascend by keys, a beginning
-/// first.
+/// Proves that records are compared field by field, by key and then by value, as lists that ascend by keys, with a
+/// prefix before a longer list. No-op.
 pub fn records_are_ordered()
     ensures by { (a b : Record) → ⟦<Record as Ord>⟧.cmp a b ≡ slice_cmp field_cmp a b }
     ensures same { (a b : Record) → IsTrue (⟦<Record as PartialEq>⟧.eq a b) ↔ (a ≡ b) }

@@ -1,22 +1,22 @@
-//! Whether a text is a Path of the policy language.
+//! The test whether a string is a Path of the policy language.
 ghost use Rattle.std.specs.Prelude.{◌↔◌, IsTrue};
 ghost use Rattle.extensions.specs.plain.Words.{is_word_byte, AllAre, IsReserved, IsIdent, IsPath};
 
 use extensions::{letter, word_len};
 
-/// The words that are no identifier.
+/// The reserved words, which are not identifiers.
 const RESERVED: [&[u8]; 10] = [
     b"true", b"false", b"if", b"then", b"else", b"in", b"is", b"like", b"has", b"__cedar",
 ];
 
-/// Returns whether no identifier may be this word.
+/// Returns whether a word is reserved.
 fn is_reserved(word: &[u8]) -> bool
     ensures { IsTrue result ↔ IsReserved word.now }
 {
     RESERVED.contains(&word)
 }
 
-/// Returns whether bytes of words are an identifier.
+/// Returns whether a word is an identifier.
 fn is_ident(word: &[u8]) -> bool
     requires { AllAre is_word_byte word.now }
     ensures { IsTrue result ↔ IsIdent word.now }
@@ -27,7 +27,7 @@ fn is_ident(word: &[u8]) -> bool
     }
 }
 
-/// Returns whether a text is identifiers with `::` between each two.
+/// Returns whether a string is identifiers with `::` between each two.
 pub(crate) fn is_path(text: &[u8]) -> bool
     ensures { IsTrue result ↔ IsPath text.now }
 {

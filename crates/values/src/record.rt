@@ -1,4 +1,4 @@
-//! Records: values by keys, seen as lists of these.
+//! Records: values by keys.
 ghost use Rattle.std.specs.Prelude.{◌≡◌, List, [], Some, IfOk, OnOk, OnErr, option_map, refl};
 ghost use Rattle.std.specs.Ordering.{is_eq};
 ghost use Rattle.std.specs.Cmp.{partial_equiv_from_equiv, partial_order_from_agreeing_total};
@@ -51,7 +51,7 @@ impl Model for Record {
 }
 
 impl Record {
-    /// Returns the record with no fields; takes no memory.
+    /// Creates an empty record. Does not allocate.
     pub fn new(alloc: Global) -> Record
         ensures { result ≡ [] }
     {
@@ -60,7 +60,7 @@ impl Record {
         }
     }
 
-    /// Sets the value of a field, or leaves all as it was at `NoMemory`.
+    /// Sets the value of a field. After `NoMemory` the record is unchanged.
     pub fn insert(&mut self, key: Text, value: Value) -> Result<(), NoMemory>
         ensures ok { OnOk result (self.new ≡ put key value self.old) }
         ensures err { OnErr result (self.new ≡ self.old) }
@@ -70,21 +70,21 @@ impl Record {
         Ok(())
     }
 
-    /// Returns the value of a field, or None where there is none; takes no memory.
+    /// Returns the value of a field, or `None` if there is no such field. Does not allocate.
     pub fn field(&self, key: &str) -> Option<&Value>
         ensures { option_map (λ v. v.now) result ≡ find_field key.now self.now }
     {
         self.fields.get(key)
     }
 
-    /// The record is well formed at every depth. It does nothing; its contract is the law.
+    /// Proves that the record is well formed at every depth. No-op.
     pub fn stays_well_formed(&self)
         ensures { IsWellFormed (record_of (fields_of self.now)) }
     {
         let _fields = &self.fields;
     }
 
-    /// Returns the fields, whose keys ascend by their bytes; takes no memory.
+    /// Returns the fields, whose keys ascend by their bytes. Does not allocate.
     pub fn as_map(&self) -> &BTreeMap<String, Value>
         ensures is { of_entries result.now.entries ≡ self.now }
         ensures ascending { AreKeysAscending self.now }
@@ -93,7 +93,7 @@ impl Record {
         &self.fields
     }
 
-    /// Returns the same record, or `NoMemory`.
+    /// Returns a copy of the record, or `NoMemory`.
     #[cycle(copy)]
     pub fn copy(&self, alloc: Global) -> Result<Record, NoMemory>
         ensures { IfOk result (λ r. r ≡ self.now) }
@@ -107,7 +107,7 @@ impl Record {
     }
 }
 
-/// Returns the order of records.
+/// Compares two records.
 #[cycle(compare)]
 pub(crate) fn compare_fields(a: &Record, b: &Record) -> Ordering
     ensures { result ≡ record_cmp a.now b.now }

@@ -1,4 +1,4 @@
-//! Requests: who would do what to which resource, and in which context.
+//! Authorization requests.
 ghost use Rattle.std.specs.Prelude.{◌≡◌, IfOk};
 
 use crate::entity_uid::EntityUid;
@@ -6,23 +6,23 @@ use crate::record::Record;
 use extensions::NoMemory;
 use std::alloc::Global;
 
-/// What is asked: may this principal do this action on this resource, in this context?
+/// An authorization request: may this principal perform this action on this resource, in this context?
 ///
 /// Ordered by principal, then action, then resource, then context.
 #[derive(PartialEq, Eq, PartialOrd, Ord, Drop)]
 pub struct Request {
-    /// Who asks.
+    /// The principal.
     pub principal: EntityUid,
-    /// What is to be done.
+    /// The action.
     pub action: EntityUid,
-    /// To what it is to be done.
+    /// The resource.
     pub resource: EntityUid,
-    /// What else is known of the request.
+    /// The context of the request.
     pub context: Record,
 }
 
 impl Request {
-    /// Returns the same request, or `NoMemory`.
+    /// Returns a copy of the request, or `NoMemory`.
     pub fn copy(&self, alloc: Global) -> Result<Request, NoMemory>
         ensures { IfOk result (λ q. q ≡ self.now) }
     {

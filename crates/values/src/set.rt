@@ -1,4 +1,4 @@
-//! Sets of values, seen as the lists of their members.
+//! Sets of values.
 ghost use Rattle.std.specs.Prelude.{◌≡◌, ◌↔◌, IsTrue, Contains, List, Some, IfOk, refl};
 ghost use Rattle.std.specs.Ordering.{is_eq};
 ghost use Rattle.std.specs.Cmp.{partial_equiv_from_equiv, partial_order_from_agreeing_total};
@@ -50,7 +50,7 @@ impl Model for Set {
 }
 
 impl Set {
-    /// Returns the set of these values, in any order and with repeats, or `NoMemory`.
+    /// Creates the set of these values, in any order and with repeats, or returns `NoMemory`.
     pub fn new(values: Vec<Value>) -> Result<Set, NoMemory>
         ensures is { IfOk result (λ s. s ≡ set_list values.items) }
         ensures members { IfOk result (λ s. (v : Value) → Contains s v ↔ Contains values.items v) }
@@ -63,14 +63,14 @@ impl Set {
         Ok(Set { members })
     }
 
-    /// The set is well formed at every depth. It does nothing; its contract is the law.
+    /// Proves that the set is well formed at every depth. No-op.
     pub fn stays_well_formed(&self)
         ensures { IsWellFormed (set (values_of self.now)) }
     {
         let _members = &self.members;
     }
 
-    /// Returns the members, which ascend strictly; takes no memory.
+    /// Returns the members, which ascend strictly. Does not allocate.
     pub fn members(&self) -> &[Value]
         ensures members { result.now ≡ self.now }
         ensures ascending { IsStrictlySortedBy value_cmp self.now }
@@ -78,7 +78,7 @@ impl Set {
         &self.members
     }
 
-    /// Returns the same set, or `NoMemory`.
+    /// Returns a copy of the set, or `NoMemory`.
     #[cycle(copy)]
     pub fn copy(&self, alloc: Global) -> Result<Set, NoMemory>
         ensures { IfOk result (λ s. s ≡ self.now) }
@@ -90,7 +90,7 @@ impl Set {
         Ok(Set { members: copies })
     }
 
-    /// Returns whether a value is a member; takes no memory, and logarithmic time.
+    /// Returns whether a value is a member. O(log n). Does not allocate.
     pub fn contains(&self, value: &Value) -> bool
         ensures is { result ≡ has_member self.now value.now }
         ensures member { IsTrue result ↔ Contains self.now value.now }
@@ -98,7 +98,7 @@ impl Set {
         self.members.binary_search(value).is_ok()
     }
 
-    /// Returns whether each member of the other set is a member of this one; takes no memory.
+    /// Returns whether each member of the other set is a member of this one. Does not allocate.
     pub fn contains_all(&self, other: &Set) -> bool
         ensures is { result ≡ list_all (has_member self.now) other.now }
         ensures members { IsTrue result ↔ ((v : Value) → Contains other.now v → Contains self.now v) }
@@ -106,7 +106,7 @@ impl Set {
         other.members.iter().all(|value| self.contains(value))
     }
 
-    /// Returns whether some member of the other set is a member of this one; takes no memory.
+    /// Returns whether some member of the other set is a member of this one. Does not allocate.
     pub fn contains_any(&self, other: &Set) -> bool
         ensures is { result ≡ list_any (has_member self.now) other.now }
         ensures member { IsTrue result ↔ ((v : Value) × Contains other.now v × Contains self.now v) }
@@ -115,7 +115,7 @@ impl Set {
     }
 }
 
-/// Values are well formed, each by itself.
+/// Proves that each of these values is well formed. No-op.
 fn all_well_formed(values: &[Value])
     ensures { AreMembersWellFormed (values_of values.now) }
 {
@@ -124,7 +124,7 @@ fn all_well_formed(values: &[Value])
     }
 }
 
-/// Returns the order of sets.
+/// Compares two sets.
 #[cycle(compare)]
 pub(crate) fn compare_members(a: &Set, b: &Set) -> Ordering
     ensures { result ≡ set_cmp a.now b.now }

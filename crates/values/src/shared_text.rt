@@ -1,4 +1,4 @@
-//! Texts that stand once, however many hold them.
+//! Shared strings.
 ghost use Rattle.std.specs.Prelude.{◌≡◌, ◌↔◌, IsTrue, IfOk, Some, refl};
 ghost use Rattle.std.specs.Ordering.{nat_cmp, is_eq};
 ghost use Rattle.std.specs.Cmp.{partial_equiv_from_equiv, partial_order_from_agreeing_total};
@@ -10,10 +10,10 @@ use std::alloc::Global;
 use std::cmp::Ordering;
 use std::marker::Model;
 
-/// A text of a name, which stands in memory once, however many hold it. Contracts see its bytes in UTF-8.
+/// A string of a name, stored once however many references it has. Contracts see its bytes in UTF-8.
 ///
-/// A holder more takes eight bytes, wherever it is kept, and nothing of the allocator. Equal texts that were made apart
-/// stand apart. They are equal where their bytes are, and ordered by bytes.
+/// Each further reference takes eight bytes, and does not allocate. Equal strings that were created separately are
+/// stored separately. They are equal if their bytes are, and ordered by bytes.
 #[derive(Drop)]
 pub struct SharedText {
     content: Shared<Text>,
@@ -28,7 +28,7 @@ impl Model for SharedText {
 }
 
 impl SharedText {
-    /// Returns a text of these characters with one holder, or `NoMemory`.
+    /// Creates a string of these characters with one reference, or returns `NoMemory`.
     pub fn from_str(alloc: Global, content: &str) -> Result<SharedText, NoMemory>
         ensures { IfOk result (λ t. t ≡ content.now) }
     {
@@ -36,7 +36,7 @@ impl SharedText {
         SharedText::from_text(alloc, text)
     }
 
-    /// Returns the text with one holder, without a copy of its characters, or `NoMemory`.
+    /// Creates a string with one reference, without copying its characters, or returns `NoMemory`.
     pub fn from_text(alloc: Global, text: Text) -> Result<SharedText, NoMemory>
         ensures { IfOk result (λ t. t ≡ text) }
     {
@@ -44,22 +44,22 @@ impl SharedText {
         Ok(SharedText { content })
     }
 
-    /// Returns the characters; takes no memory.
+    /// Returns the characters. Does not allocate.
     pub fn as_str(&self) -> &str
         ensures { result.now ≡ self.now }
     {
         self.content.get().as_str()
     }
 
-    /// Returns whether two texts have the same bytes; takes no memory.
+    /// Returns whether two strings have the same bytes. Does not allocate.
     pub fn same(&self, other: &SharedText) -> bool
         ensures { IsTrue result ↔ (self.now ≡ other.now) }
     {
         self.as_str() == other.as_str()
     }
 
-    /// Returns the same text for one holder more. It takes no memory, and it is `NoMemory` only where the holders are
-    /// as many as can be counted: 2^64 - 1.
+    /// Returns one more reference to the string, without allocating. `NoMemory` only if the count of references would
+    /// exceed 2^64 - 1.
     pub fn copy(&self) -> Result<SharedText, NoMemory>
         ensures { IfOk result (λ t. t ≡ self.now) }
     {

@@ -15,11 +15,11 @@ use std::alloc::Global;
 use std::cmp::Ordering;
 use std::marker::Model;
 
-/// The name of an entity type: identifiers with `::` between them, as `User` or `Photos::Album`. Contracts see it as
-/// its bytes.
+/// The name of an entity type: identifiers with `::` between them, as `User` or `Photos::Album`. Contracts see its
+/// bytes.
 ///
-/// Each identifier is `_` or an ASCII letter and then `_`, ASCII letters and digits, and no reserved word (Cedar
-/// reference guide, grammar: `Path`). Names are equal where their bytes are, and ordered by bytes.
+/// Each identifier is `_` or an ASCII letter, followed by `_`, ASCII letters and digits, and is not a reserved word
+/// (Cedar reference guide, grammar: `Path`). Names are equal if their bytes are, and ordered by bytes.
 #[derive(Drop)]
 pub struct TypeName {
     text: SharedText,
@@ -38,7 +38,8 @@ impl Model for TypeName {
 }
 
 impl TypeName {
-    /// Returns the type name that this text is, or None where it is no Path without blanks and comments.
+    /// Returns the type name of a string, or `None` if it is not a Path without whitespace and comments. The only
+    /// error is `NoMemory`.
     pub fn parse(alloc: Global, text: &str) -> Result<Option<TypeName>, NoMemory>
         ensures { IfOk result (λ o. MatchOption o (IsPath text.now → ⊥) (λ t. IsPath text.now × (t ≡ text.now))) }
     {
@@ -49,8 +50,8 @@ impl TypeName {
         Ok(Some(TypeName { text }))
     }
 
-    /// Returns the type name that these identifiers make, `::` between each two: that of a Path that was read with
-    /// blanks or comments between its words.
+    /// Returns the type name of these identifiers, with `::` between each two, as of a Path that was parsed with
+    /// whitespace or comments between its words. The only error is `NoMemory`.
     pub fn from_words(alloc: Global, words: &[&str]) -> Result<TypeName, NoMemory>
         requires some { 0 < length words.now }
         requires idents { AreIdents (map (λ w. w.now) words.now) }
@@ -65,7 +66,7 @@ impl TypeName {
         Ok(TypeName { text })
     }
 
-    /// This name in a namespace: `Album` in `Photos` is `Photos::Album`. Fails for memory alone.
+    /// Returns this name in a namespace: `Album` in `Photos` is `Photos::Album`. The only error is `NoMemory`.
     pub fn within(&self, alloc: Global, namespace: &TypeName) -> Result<TypeName, NoMemory>
         ensures { IfOk result (λ t. t ≡ namespace.now ++ codes "::" ++ self.now) }
     {
@@ -78,22 +79,22 @@ impl TypeName {
         Ok(TypeName { text })
     }
 
-    /// Returns the name as a text; takes no memory.
+    /// Returns the name as a string. Does not allocate.
     pub fn as_str(&self) -> &str
         ensures { result.now ≡ self.now }
     {
         self.text.as_str()
     }
 
-    /// Returns whether two names are one; takes no memory.
+    /// Returns whether two names are equal. Does not allocate.
     pub fn same(&self, other: &TypeName) -> bool
         ensures { IsTrue result ↔ (self.now ≡ other.now) }
     {
         self.text.same(&other.text)
     }
 
-    /// Returns the same name, its text shared. It takes no memory, and it is `NoMemory` only where the holders of the
-    /// text are as many as can be counted.
+    /// Returns a copy that shares its string, without allocating. `NoMemory` only if the count of references to the
+    /// string would overflow.
     pub fn copy(&self) -> Result<TypeName, NoMemory>
         ensures { IfOk result (λ t. t ≡ self.now) }
     {
@@ -102,7 +103,7 @@ impl TypeName {
     }
 }
 
-// Puts `::` and a word behind a text.
+// Appends `::` and a word to a string.
 fn append_word(joined: &mut String, word: &str) -> Result<(), NoMemory>
     ensures { OnOk result (string_bytes joined.new ≡ string_bytes joined.old ++ codes "::" ++ word.now) }
 {

@@ -1,4 +1,4 @@
-//! Values of the policy language, seen as plain data.
+//! Values of the policy language.
 ghost use Rattle.std.specs.Prelude.{◌≡◌, Some, IfOk, refl};
 ghost use Rattle.std.specs.Ordering.{is_eq};
 ghost use Rattle.std.specs.Cmp.{partial_equiv_from_equiv, partial_order_from_agreeing_total};
@@ -19,31 +19,31 @@ use std::alloc::Global;
 use std::cmp::Ordering;
 use std::marker::Model;
 
-/// A value of the policy language. Contracts see plain data: a value is equal to another exactly where that data is.
-/// The data is well formed at every depth: `stays_well_formed` says so of a value at hand.
+/// A value of the policy language. Contracts see an algebraic data type: values are equal if and only if that data
+/// is. The data is well formed at every depth; `stays_well_formed` proves this for a value.
 #[cycle(value)]
 #[derive(Drop)]
 pub struct Value {
     kind: Kind,
 }
 
-/// What a value is, with what it holds.
+/// A value by its kind, with its content.
 #[cycle(value)]
 #[derive(Drop)]
 pub enum Kind {
     /// True or false.
     Boolean(bool),
-    /// A whole number in signed 64 bits.
+    /// A signed 64-bit integer.
     Long(i64),
-    /// A text.
+    /// A string.
     Text(Text),
     /// An entity, by its uid.
     Entity(EntityUid),
     /// A set of values.
     Set(Set),
-    /// Values by keys.
+    /// A record: values by keys.
     Record(Record),
-    /// A number with four decimal places.
+    /// A decimal, with four places.
     Decimal(Decimal),
     /// An IP address with a prefix.
     IpAddr(IpNet),
@@ -73,7 +73,7 @@ impl Model for Value {
 }
 
 impl Value {
-    /// Returns a boolean; takes no memory.
+    /// Returns a boolean. Does not allocate.
     pub fn boolean(value: bool) -> Value
         ensures { result ≡ boolean value }
     {
@@ -82,7 +82,7 @@ impl Value {
         }
     }
 
-    /// Returns a number; takes no memory.
+    /// Returns an integer. Does not allocate.
     pub fn long(number: i64) -> Value
         ensures { result ≡ long number }
     {
@@ -91,7 +91,7 @@ impl Value {
         }
     }
 
-    /// Returns a text, which is moved in; takes no memory.
+    /// Returns a string, which is moved. Does not allocate.
     pub fn text(content: Text) -> Value
         ensures { result ≡ text content }
     {
@@ -100,7 +100,7 @@ impl Value {
         }
     }
 
-    /// Returns an entity, by its uid, which is moved in; takes no memory.
+    /// Returns an entity by its uid, which is moved. Does not allocate.
     pub fn entity(uid: EntityUid) -> Value
         ensures { result ≡ entity uid }
     {
@@ -116,7 +116,7 @@ impl Value {
         Ok(Value::from_set(Set::new(members)?))
     }
 
-    /// Returns a set; takes no memory.
+    /// Returns a set. Does not allocate.
     pub fn from_set(members: Set) -> Value
         ensures { result ≡ set (values_of members) }
     {
@@ -126,7 +126,7 @@ impl Value {
         }
     }
 
-    /// Returns a record; takes no memory.
+    /// Returns a record. Does not allocate.
     pub fn from_record(fields: Record) -> Value
         ensures { result ≡ record_of (fields_of fields) }
     {
@@ -136,7 +136,7 @@ impl Value {
         }
     }
 
-    /// Returns a decimal; takes no memory.
+    /// Returns a decimal. Does not allocate.
     pub fn decimal(number: Decimal) -> Value
         ensures { result ≡ decimal number }
     {
@@ -145,7 +145,7 @@ impl Value {
         }
     }
 
-    /// Returns an IP address with a prefix; takes no memory.
+    /// Returns an IP address with a prefix. Does not allocate.
     pub fn ipaddr(network: IpNet) -> Value
         ensures { result ≡ ipaddr network }
     {
@@ -154,29 +154,29 @@ impl Value {
         }
     }
 
-    /// The value is well formed at every depth: in each set the members ascend strictly, in each record the keys. It
-    /// does nothing; its contract is the law.
+    /// Proves that the value is well formed at every depth: in each set the members ascend strictly, and in each
+    /// record the keys. No-op.
     pub fn stays_well_formed(&self)
         ensures { IsWellFormed self.now }
     {
         let _kind = &self.kind;
     }
 
-    /// Returns what the value is, by reference; takes no memory.
+    /// Returns the value by its kind, borrowed. Does not allocate.
     pub fn kind(&self) -> &Kind
         ensures { of_kind result.now ≡ self.now }
     {
         &self.kind
     }
 
-    /// Returns the value, borrowed; takes no memory.
+    /// Returns the value, borrowed. Does not allocate.
     pub fn as_ref(&self) -> ValueRef<'_>
         ensures { result ≡ self.now }
     {
         ValueRef::of_kind(&self.kind)
     }
 
-    /// Returns the same value, or `NoMemory`.
+    /// Returns a copy of the value, or `NoMemory`.
     #[cycle(copy)]
     pub fn copy(&self, alloc: Global) -> Result<Value, NoMemory>
         ensures { IfOk result (λ v. v ≡ self.now) }
@@ -185,7 +185,7 @@ impl Value {
     }
 }
 
-/// Returns the order of values.
+/// Compares two values.
 #[cycle(compare)]
 pub(crate) fn compare(a: &Value, b: &Value) -> Ordering
     ensures { result ≡ value_cmp a.now b.now }

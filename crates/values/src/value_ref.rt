@@ -1,4 +1,4 @@
-//! Values that stand elsewhere, borrowed, and the order of values.
+//! Borrowed values, and the order of values.
 ghost use Rattle.std.specs.Prelude.{◌≡◌, IfOk};
 ghost use Rattle.values.specs.Values.{PlainValue, boolean, long, text, entity, record_of, fields_of};
 ghost use Rattle.values.specs.ValueOrder.{value_cmp, kind_rank};
@@ -14,30 +14,30 @@ use std::alloc::Global;
 use std::cmp::Ordering;
 use std::marker::Model;
 
-/// What a value is, with what it holds, borrowed where that has memory of its own. Parts that stand alone, as a text or
-/// the uid of an entity, are seen as a value by it, with no copy. Contracts see the value by `of_borrowed`.
+/// A value by its kind, with its content borrowed if that owns memory. A part alone, such as a string or the uid of
+/// an entity, is a value without a copy. Contracts see the value by `of_borrowed`.
 #[derive(Clone, Copy)]
 pub enum BorrowedKind<'a> {
     /// True or false.
     Boolean(bool),
-    /// A whole number in signed 64 bits.
+    /// A signed 64-bit integer.
     Long(i64),
-    /// A text.
+    /// A string.
     Text(&'a Text),
     /// An entity, by its uid.
     Entity(&'a EntityUid),
     /// A set of values.
     Set(&'a Set),
-    /// Values by keys.
+    /// A record: values by keys.
     Record(&'a Record),
-    /// A number with four decimal places.
+    /// A decimal, with four places.
     Decimal(Decimal),
     /// An IP address with a prefix.
     IpAddr(IpNet),
 }
 
-/// A value that stands elsewhere: a whole one, or a part alone, as the text of a literal or the uid that a request
-/// names, which is seen as a value with no copy. Contracts see the value.
+/// A borrowed value: a whole one, or a part alone, such as the string of a literal or the uid in a request, as a
+/// value without a copy. Contracts see the value.
 #[derive(Drop)]
 pub struct ValueRef<'a> {
     kind: BorrowedKind<'a>,
@@ -57,7 +57,7 @@ impl<'a> Model for ValueRef<'a> {
 }
 
 impl<'a> ValueRef<'a> {
-    /// Returns a boolean; takes no memory.
+    /// Returns a boolean. Does not allocate.
     pub fn boolean(truth: bool) -> ValueRef<'a>
         ensures { result ≡ boolean truth }
     {
@@ -66,7 +66,7 @@ impl<'a> ValueRef<'a> {
         }
     }
 
-    /// Returns a number; takes no memory.
+    /// Returns an integer. Does not allocate.
     pub fn long(number: i64) -> ValueRef<'a>
         ensures { result ≡ long number }
     {
@@ -75,7 +75,7 @@ impl<'a> ValueRef<'a> {
         }
     }
 
-    /// Returns a text; takes no memory.
+    /// Returns a string. Does not allocate.
     pub fn text(content: &'a Text) -> ValueRef<'a>
         ensures { result ≡ text content.now }
     {
@@ -84,7 +84,7 @@ impl<'a> ValueRef<'a> {
         }
     }
 
-    /// Returns an entity, by its uid; takes no memory.
+    /// Returns an entity by its uid. Does not allocate.
     pub fn entity(uid: &'a EntityUid) -> ValueRef<'a>
         ensures { result ≡ entity uid.now }
     {
@@ -93,7 +93,7 @@ impl<'a> ValueRef<'a> {
         }
     }
 
-    /// Returns a record; takes no memory.
+    /// Returns a record. Does not allocate.
     pub fn record(fields: &'a Record) -> ValueRef<'a>
         ensures { result ≡ record_of (fields_of fields.now) }
     {
@@ -102,7 +102,7 @@ impl<'a> ValueRef<'a> {
         }
     }
 
-    /// Returns the value that is of a kind, borrowed.
+    /// Returns the value of a kind, borrowed.
     pub(crate) fn of_kind(kind: &'a Kind) -> ValueRef<'a>
         ensures { result ≡ of_kind kind.now }
     {
@@ -120,7 +120,7 @@ impl<'a> ValueRef<'a> {
         }
     }
 
-    /// Returns what the value is, with what it holds borrowed; takes no memory.
+    /// Returns the value by its kind, with its content borrowed. Does not allocate.
     pub fn kind(&self) -> BorrowedKind<'a>
         ensures { of_borrowed result ≡ self.now }
     {
@@ -136,8 +136,7 @@ impl<'a> ValueRef<'a> {
         }
     }
 
-    /// Returns how it compares with another in the order of values: by kind, and then by what they hold; takes no
-    /// memory.
+    /// Compares two values in the order of values: by kind, and then by content. Does not allocate.
     #[cycle(compare)]
     pub fn compare(&self, other: &ValueRef<'_>) -> Ordering
         ensures { result ≡ value_cmp self.now other.now }
@@ -155,7 +154,7 @@ impl<'a> ValueRef<'a> {
         }
     }
 
-    /// Returns a value that owns what this one borrows, or `NoMemory`.
+    /// Returns an owned copy of the value, or `NoMemory`.
     #[cycle(copy)]
     pub fn copy(&self, alloc: Global) -> Result<Value, NoMemory>
         ensures { IfOk result (λ v. v ≡ self.now) }
@@ -173,7 +172,7 @@ impl<'a> ValueRef<'a> {
     }
 }
 
-/// Returns the place of a kind in the order of values.
+/// Returns the rank of a kind in the order of values.
 fn place(kind: &BorrowedKind<'_>) -> u8
     ensures { result ≡ kind_rank (of_borrowed kind.now) }
 {

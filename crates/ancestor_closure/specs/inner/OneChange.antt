@@ -1,4 +1,4 @@
--- One change of what is kept, step by step.
+-- Defines one update of the cache, step by step.
 use Rattle.std.specs.Prelude.{◌≡◌, ◌↔◌, ◌⊎◌, List, [], ◌∷◌, map, Vec, Contains, if◌then◌else◌}
 use Rattle.std.specs.declared.alloc.Global.{Global}
 use Rattle.std.specs.Ordering.{is_eq}
@@ -8,7 +8,8 @@ use Rattle.ancestor_search.specs.Hierarchy.{Parents, IsAncestor, IsAscending}
 use Rattle.ancestor_closure.specs.Lists.{IsListOf}
 use Rattle.ancestor_closure.specs.declared.changing.Change.{Change}
 
--- a child was taken from those of xs that are none of ps, and nothing else
+-- `TakesChild xs ps child before after` holds if `child` was removed from those of `xs` that are not in `ps`, and
+-- nothing else.
 pub record TakesChild (xs ps : List EntityUid) (child : EntityUid)
     (before after : EntityUid → List EntityUid) : Type 0 where
   pub from : (x y : EntityUid) → Contains (after x) y → Contains (before x) y
@@ -16,29 +17,30 @@ pub record TakesChild (xs ps : List EntityUid) (child : EntityUid)
       Contains (after x) y ⊎ ((child ≡ y) × Contains xs x × (Contains ps x → ⊥))
   pub taken : (x : EntityUid) → Contains xs x → (Contains ps x → ⊥) → Contains (after x) child → ⊥
 
--- lists with whose they are
+-- `firsts xs` are the entities of lists.
 abbrev pub firsts : List (EntityUid × Vec EntityUid Global) → List EntityUid
 firsts xs = map (λ x. x.0) xs
 
--- the list of q, after these were written over it
+-- `written xs q old` is the list of `q`, after the lists `xs` were written over `old`.
 abbrev pub written : List (EntityUid × Vec EntityUid Global) → EntityUid → List EntityUid → List EntityUid
 written [] q old = old
 written (x ∷ xs) q old = if is_eq (uid_cmp x.0 q) then x.1.items else written xs q old
 
--- an entity is in its own one of these lists
+-- `IsInOwn lists x` holds if `x` is in its own one of these lists.
 abbrev pub IsInOwn : List (EntityUid × Vec EntityUid Global) → EntityUid → Type 0
 IsInOwn lists x = (list : Vec EntityUid Global) × Contains lists (x, list) × Contains list.items x
 
--- these lists ascend
+-- `ListsAscend lists` holds if these lists ascend.
 abbrev pub ListsAscend : List (EntityUid × Vec EntityUid Global) → Type 0
 ListsAscend lists = (x : EntityUid) (list : Vec EntityUid Global) → Contains lists (x, list) → IsAscending list.items
 
--- some that are in their own ones of these lists were entered, and nothing else
+-- `Enters lists before after` holds if some that are in their own lists were added, and nothing else.
 pub record Enters (lists : List (EntityUid × Vec EntityUid Global)) (before after : List EntityUid) : Type 0 where
   pub kept : (x : EntityUid) → Contains before x → Contains after x
   pub from : (x : EntityUid) → Contains after x → Contains before x ⊎ IsInOwn lists x
 
--- those of the entities that are not in their own lists were taken out, and nothing else
+-- `Leaves entities ancestors before after` holds if those of `entities` that are not in their own lists were removed,
+-- and nothing else.
 pub record Leaves (entities : List EntityUid) (ancestors : EntityUid → List EntityUid)
     (before after : List EntityUid) : Type 0 where
   pub from : (x : EntityUid) → Contains after x → Contains before x
@@ -46,8 +48,8 @@ pub record Leaves (entities : List EntityUid) (ancestors : EntityUid → List En
       Contains after x ⊎ (Contains entities x × (Contains (ancestors x) x → ⊥))
   pub taken : (x : EntityUid) → Contains entities x → (Contains (ancestors x) x → ⊥) → Contains after x → ⊥
 
--- a change by the parents after it: the parents of the entity before and after, the entity and all below it, and their
--- new lists
+-- `IsPlanned parents uid ancestors children change` holds if `change` has the parents of `uid` before and after, the
+-- entity and its descendants, and their new lists.
 pub record IsPlanned (parents : Parents) (uid : EntityUid) (ancestors children : EntityUid → List EntityUid)
     (change : Change) : Type 0 where
   pub uid_is : change.uid ≡ uid

@@ -1,4 +1,5 @@
--- A breadth-first search backwards, from an entity to those that lead to it, and the least of the shortest walks.
+-- Defines a breadth-first search backwards, from an entity to those that reach it, and the least of the shortest
+-- walks.
 use Rattle.std.specs.Prelude.{◌≡◌, ℕ, ◌+◌, ◌≤◌, Bool, false, cond, List, [], ◌∷◌, length, Option, Some, None, Contains}
 use Rattle.std.specs.Prelude.{IsSome, ◌⊎◌, ◌↔◌, Vec}
 use Rattle.std.specs.declared.alloc.Global.{Global}
@@ -13,54 +14,56 @@ use Rattle.values.specs.Names.{uid_cmp}
 use Rattle.ancestor_search.specs.Hierarchy.{Parents, Path, names}
 use Rattle.ancestor_search.specs.Decided.{is_same}
 
--- ---- edges turned round
+-- ---- reversed edges
 abbrev pub names_or_none : Option (Vec (Bor EntityUid) Global) → List EntityUid
 names_or_none None = []
 names_or_none (Some v) = names v.items
 
--- those that an entity is a parent of, by a map
+-- `children_of m x` are the children of `x` in the map `m`.
 abbrev pub children_of : BTreeMap (Bor EntityUid) (Vec (Bor EntityUid) Global) → EntityUid → List EntityUid
 children_of m x = names_or_none (get_by (λ k. uid_cmp x k.now) m)
 
--- of the entities us, each is a child of its parents
+-- `AreChildrenAmong us parents children` holds if `children` are the reversed edges from the entities `us`.
 abbrev pub AreChildrenAmong : List EntityUid → Parents → (EntityUid → List EntityUid) → Type 0
 AreChildrenAmong us parents children = (x y : EntityUid) →
     Contains (children x) y ↔ (Contains us y × Contains (parents y) x)
 
+-- `AreChildren parents children` holds if `children` are the reversed edges.
 abbrev pub AreChildren : Parents → (EntityUid → List EntityUid) → Type 0
 AreChildren parents children = (x y : EntityUid) → Contains (children x) y ↔ Contains (parents y) x
 
--- y was added as a child of each of ps
+-- `AddsChild ps y children children'` holds if `y` was added as a child of each of `ps`.
 abbrev pub AddsChild : List EntityUid → EntityUid → (EntityUid → List EntityUid) →
     (EntityUid → List EntityUid) → Type 0
 AddsChild ps y children children' = (x z : EntityUid) →
     Contains (children' x) z ↔ (Contains (children x) z ⊎ (Contains ps x × (y ≡ z)))
 
 -- ---- distances
--- how many edges lead from an entity to the end, where that is known
+-- `dist_of known x` is the distance from `x` to the end, in edges, if it is known.
 abbrev pub dist_of : BTreeMap (Bor EntityUid) ℕ → EntityUid → Option ℕ
 dist_of known x = get_by (λ k. uid_cmp x k.now) known
 
--- what is known is the number of edges on a shortest path
+-- `AreDistances parents end dist` holds if each known distance is the number of edges on a shortest path.
 pub record AreDistances (parents : Parents) (end : EntityUid) (dist : EntityUid → Option ℕ) : Type 0 where
   pub sound : (x : EntityUid) (d : ℕ) → dist x ≡ Some d →
       (cs : List EntityUid) × Path parents x cs end × (length cs + 1 ≡ d)
   pub least : (x : EntityUid) (d : ℕ) → dist x ≡ Some d →
       (ds : List EntityUid) → Path parents x ds end → d ≤ length ds + 1
 
--- each entity at most k edges from the end is known
+-- `AreKnownUpTo parents end dist k` holds if each entity at distance at most `k` is known.
 abbrev pub AreKnownUpTo : Parents → EntityUid → (EntityUid → Option ℕ) → ℕ → Type 0
 AreKnownUpTo parents end dist k = (x : EntityUid) (ds : List EntityUid) →
     Path parents x ds end → length ds + 1 ≤ k → IsSome (dist x)
 
--- every shortest path back is known
+-- `ReachesBack parents end dist` holds if every shortest path back is known.
 pub record ReachesBack (parents : Parents) (end : EntityUid) (dist : EntityUid → Option ℕ) : Type 0 where
   pub known : AreDistances parents end dist
   pub all : (d : ℕ) → dist end ≡ Some d → AreKnownUpTo parents end dist d
   pub back : IsSome (dist end)
 
 -- ---- level by level
--- those at which the test holds are `far` from the end where nothing was known of them; the level has all so far
+-- `Reaches test far dist dist' ..` holds if the entities that pass `test` and were not known are now at distance
+-- `far`, and the level has all of these.
 pub record Reaches (test : EntityUid → Bool) (far : ℕ) (dist dist' : EntityUid → Option ℕ)
     (level level' : List EntityUid) (known known' : ℕ) : Type 0 where
   pub each : (x : EntityUid) → dist' x ≡ option_or (dist x) (cond (test x) (Some far) None)
@@ -68,34 +71,35 @@ pub record Reaches (test : EntityUid → Bool) (far : ℕ) (dist dist' : EntityU
       (x : EntityUid) → Contains level' x ↔ (dist' x ≡ Some far)
   pub count : length level' + known ≡ length level + known'
 
--- whether an entity is one of these
+-- `is_one_of xs x` tests whether `x` is one of `xs`.
 abbrev pub is_one_of : List EntityUid → EntityUid → Bool
 is_one_of xs x = list_any (λ k. is_same k x) xs
 
--- whether an entity is a child of one of these
+-- `is_child_of children ys x` tests whether `x` is a child of one of `ys`.
 abbrev pub is_child_of : (EntityUid → List EntityUid) → List EntityUid → EntityUid → Bool
 is_child_of children ys x = list_any (λ y. is_one_of (children y) x) ys
 
 -- ---- the walk
--- from x through the entities ws to the end: no such path is shorter, and of those as long none is less
+-- `IsLeastFrom parents end x ws` holds if `ws` leads from `x` to `end`, no such path is shorter, and of those of the
+-- same length none is less.
 pub record IsLeastFrom (parents : Parents) (end x : EntityUid) (ws : List EntityUid) : Type 0 where
   pub path : Path parents x ws end
   pub shortest : (ds : List EntityUid) → Path parents x ds end → length ws ≤ length ds
   pub least : (ds : List EntityUid) → Path parents x ds end → length ds ≡ length ws →
       is_gt (slice_cmp uid_cmp ws ds) ≡ false
 
--- y is the least of the parents ps that are d edges from the end
+-- `IsLeastAt ps dist d y` holds if `y` is the least of the parents `ps` at distance `d`.
 pub record IsLeastAt (ps : List EntityUid) (dist : EntityUid → Option ℕ) (d : ℕ) (y : EntityUid) : Type 0 where
   pub among : Contains ps y
   pub at : dist y ≡ Some d
   pub least : (e : EntityUid) → Contains ps e → dist e ≡ Some d → is_gt (uid_cmp y e) ≡ false
 
--- the least such parent, where there is one
+-- `IsLeastOf ps dist d o` holds if `o` is the least such parent, or `None` if there is none.
 abbrev pub IsLeastOf : List EntityUid → (EntityUid → Option ℕ) → ℕ → Option EntityUid → Type 0
 IsLeastOf ps dist d None = (e : EntityUid) → Contains ps e → dist e ≡ Some d → ⊥
 IsLeastOf ps dist d (Some y) = IsLeastAt ps dist d y
 
--- x and then the least of the shortest paths back to it
+-- `IsWalkBack parents x ws` holds if `ws` is `x` followed by the least of the shortest paths back to it.
 abbrev pub IsWalkBack : Parents → EntityUid → List EntityUid → Type 0
 IsWalkBack parents x [] = ⊥
 IsWalkBack parents x (y ∷ ys) = (y ≡ x) × IsLeastFrom parents x x ys

@@ -1,49 +1,51 @@
--- Numbers with edges to numbers, and groups of them that lead to one another.
+-- Defines graphs of numbers, and groups of numbers that reach one another.
 use Rattle.std.specs.Prelude.{◌≡◌, ℕ, ◌+◌, ◌-◌, ◌*◌, ◌^◌, ◌<◌, ◌≤◌, Bool, false, List, [], ◌∷◌, ◌++◌, length}
 use Rattle.std.specs.Prelude.{Contains, IsTrue, ◌⊎◌, ◌↔◌, slice_index_or, Vec}
 use Prim.Native.Nat.{zero, suc}
 use Rattle.std.specs.declared.alloc.Global.{Global}
 use Rattle.ancestor_search.specs.declared.walk.Bound.{Bound}
 
--- the numbers to which each has edges
+-- `Edges` are the numbers to which each number has edges.
 abbrev pub Edges : Type 0
 Edges = ℕ → List ℕ
 
--- the edges that lists stand for; none past the end
+-- `edges_of vs` are the edges that lists represent; none past the end.
 abbrev pub edges_of : List (Vec ℕ Global) → Edges
 edges_of [] x = []
 edges_of (v ∷ vs) zero = v.items
 edges_of (v ∷ vs) (suc x) = edges_of vs x
 
--- a way of one or more edges from b to a, through the numbers that are listed
+-- `Way e b cs a` holds if a path of one or more edges leads from `b` to `a`, through the numbers `cs`.
 abbrev pub Way : Edges → ℕ → List ℕ → ℕ → Type 0
 Way e b [] a = Contains (e b) a
 Way e b (c ∷ cs) a = Contains (e b) c × Way e c cs a
 
--- a way of one or more edges leads from b to a
+-- `LeadsTo e a b` holds if a path of one or more edges leads from `b` to `a`.
 abbrev pub LeadsTo : Edges → ℕ → ℕ → Type 0
 LeadsTo e a b = (through : List ℕ) × Way e b through a
 
--- a number is marked exactly where it is on a cycle
+-- `MarksCycles e found` holds if a number is marked if and only if it is cyclic.
 abbrev pub MarksCycles : Edges → List Bool → Type 0
 MarksCycles e found = (x : ℕ) → IsTrue (slice_index_or found x false) ↔ LeadsTo e x x
 
--- what is noted of a number that is done, or past the end
+-- `done_mark` is the mark of a number that is done, or past the end.
 abbrev pub done_mark : ℕ
 done_mark = 18446744073709551615
 
+-- `mark_of place x` is the mark of the number `x`.
 abbrev pub mark_of : List ℕ → ℕ → ℕ
 mark_of place x = slice_index_or place x done_mark
 
+-- `IsDone place x` holds if `x` is done, or past the end.
 abbrev pub IsDone : List ℕ → ℕ → Type 0
 IsDone place x = mark_of place x ≡ done_mark
 
--- a group as lists: its members, and those of their edges that were not looked at yet
+-- A `Group` has its members, and those of their edges that were not yet visited.
 pub record Group : Type 0 where
   pub members : List ℕ
   pub pending : List ℕ
 
--- the groups of a path, the last one first, stand in two lists
+-- `members_of` and `pending_of` are the concatenated lists of the groups of a path, the last group first.
 abbrev pub members_of : List Group → List ℕ
 members_of [] = []
 members_of (g ∷ gs) = members_of gs ++ g.members
@@ -52,23 +54,26 @@ abbrev pub pending_of : List Group → List ℕ
 pending_of [] = []
 pending_of (g ∷ gs) = pending_of gs ++ g.pending
 
+-- `bound_at members pending` has the lengths of both lists.
 abbrev pub bound_at : List ℕ → List ℕ → Bound
 bound_at members pending = record { members = length members; pending = length pending }
 
+-- `bound_after gs` has the lengths of the lists of the groups `gs`.
 abbrev pub bound_after : List Group → Bound
 bound_after gs = bound_at (members_of gs) (pending_of gs)
 
+-- `bounds_of gs` are the bounds before each group, the last group's last.
 abbrev pub bounds_of : List Group → List Bound
 bounds_of [] = []
 bounds_of (g ∷ gs) = bounds_of gs ++ bound_after gs ∷ []
 
--- x is a member of one of the groups
+-- `IsMember gs x` holds if `x` is a member of one of the groups.
 abbrev pub IsMember : List Group → ℕ → Type 0
 IsMember [] x = ⊥
 IsMember (g ∷ gs) x = Contains g.members x ⊎ IsMember gs x
 
--- A group, with what edges may lead to besides (what is done, and later groups) and the groups before it:
--- edges lead there, within, or were not looked at; the members lead to one another, and earlier groups lead to them
+-- `IsGroup e Beyond g before` holds if the edges of the members of `g` lead to `Beyond` (done numbers, and later
+-- groups), to `g`, or were not yet visited; its members reach one another, and the groups `before` reach them.
 pub record IsGroup (e : Edges) (Beyond : ℕ → Type 0) (g : Group) (before : List Group) : Type 0 where
   pub settled : (x y : ℕ) → Contains g.members x → Contains (e x) y →
       (Beyond y ⊎ Contains g.members y) ⊎ Contains g.pending y
@@ -77,35 +82,37 @@ pub record IsGroup (e : Edges) (Beyond : ℕ → Type 0) (g : Group) (before : L
   pub leads : (x y : ℕ) → IsMember before x → Contains g.members y → LeadsTo e y x
   pub apart : (x : ℕ) → Contains g.members x → Beyond x → ⊥
 
+-- `IsPath e Beyond gs` holds if each of `gs`, the last group first, is such a group with those before it.
 abbrev pub IsPath : Edges → (ℕ → Type 0) → List Group → Type 0
 IsPath e Beyond [] = Unit {0}
 IsPath e Beyond (g ∷ gs) = IsGroup e Beyond g gs × IsPath e (λ x. Beyond x ⊎ Contains g.members x) gs
 
--- a number is done, or was not seen and is in no group, or its place among the members is noted
+-- `IsAccounted place members x` holds if `x` is done, or not seen and in no group, or marked with its index among the
+-- members.
 abbrev pub IsAccounted : List ℕ → List ℕ → ℕ → Type 0
 IsAccounted place members x =
     IsDone place x
     ⊎ (((mark_of place x ≡ 0) × (Contains members x → ⊥))
     ⊎ ((k : ℕ) × (mark_of place x ≡ k + 1) × (k < length members) × (slice_index_or members k x ≡ x)))
 
--- what is done leads only to what is done, and those of it that are on cycles are found
+-- `IsFinished e place found` holds if done numbers lead only to done ones, and the cyclic ones of them are found.
 pub record IsFinished (e : Edges) (place : List ℕ) (found : List Bool) : Type 0 where
   pub closed : (x y : ℕ) → IsDone place x → Contains (e x) y → IsDone place y
   pub empty : (x : ℕ) → length found ≤ x → e x ≡ []
   pub right : (x : ℕ) → IsTrue (slice_index_or found x false) ↔ (IsDone place x × LeadsTo e x x)
 
--- a search along a path of groups
+-- `IsWalk e place found members path` holds for a search along a path of groups.
 pub record IsWalk (e : Edges) (place : List ℕ) (found : List Bool) (members : List ℕ) (path : List Group) : Type 0 where
   pub groups : IsPath e (IsDone place) path
   pub stands : (x : ℕ) → IsAccounted place members x
   pub same : members ≡ members_of path
   pub finished : IsFinished e place found
 
--- a group to which one more edge, to y, was not looked at
+-- `with_edge g y` is the group `g` with one more edge, to `y`, to be visited.
 abbrev pub with_edge : Group → ℕ → Group
 with_edge g y = record { members = g.members; pending = g.pending ++ y ∷ [] }
 
--- how many were not seen
+-- `one_unseen m` and `unseen ms` count the numbers that were not seen.
 abbrev pub one_unseen : ℕ → ℕ
 one_unseen zero = 1
 one_unseen (suc m) = 0
@@ -114,51 +121,56 @@ abbrev pub unseen : List ℕ → ℕ
 unseen [] = 0
 unseen (m ∷ ms) = one_unseen m + unseen ms
 
--- what falls at each step: numbers not seen, edges not looked at, and groups
+-- `effort place pending bounds` decreases at each step: numbers not seen, edges not visited, and groups.
 abbrev pub effort : List ℕ → List ℕ → List Bound → ℕ
 effort place pending bounds = unseen place * 2 ^ 65 + length pending + length bounds
 
--- a search, whatever its path
+-- `IsWalking ..` holds for a search along some path.
 abbrev pub IsWalking : Edges → List ℕ → List Bool → List ℕ → List ℕ → List Bound → Type 0
 IsWalking e place found members pending bounds =
     (path : List Group) × (bounds ≡ bounds_of path) × (pending ≡ pending_of path) × IsWalk e place found members path
 
--- the last group, whose bound was taken, waits for an edge to y to be looked at
+-- `IsHeld ..` holds if the last group, whose bound was taken, has an edge to `y` to be visited.
 abbrev pub IsHeld : Edges → List ℕ → ℕ → List ℕ → List ℕ → List Bound → Bound → Type 0
 IsHeld e place y members pending bounds last =
     (g : Group) × (gs : List Group) × (bounds ≡ bounds_of gs) × (last ≡ bound_after gs)
     × (members ≡ members_of (g ∷ gs)) × (pending ≡ pending_of (g ∷ gs)) × IsPath e (IsDone place) (with_edge g y ∷ gs)
 
+-- `Awaits ..` holds for a search whose last group has an edge to `y` to be visited.
 pub record Awaits (e : Edges) (place : List ℕ) (found : List Bool) (members pending : List ℕ)
     (bounds : List Bound) (last : Bound) (y : ℕ) : Type 0 where
   pub held : IsHeld e place y members pending bounds last
   pub stands : (x : ℕ) → IsAccounted place members x
   pub finished : IsFinished e place found
 
--- groups are joined until y, which has this place, is in the last one
+-- `JoinsDownTo at bounds last bounds' last'` holds if groups are merged until the number `y` at index `at` is in the
+-- last one.
 abbrev pub JoinsDownTo : ℕ → List Bound → Bound → List Bound → Bound → Type 0
 JoinsDownTo at bounds last bounds' last' =
     (e : Edges) (place : List ℕ) (y : ℕ) (members pending : List ℕ) →
     at ≤ length members → slice_index_or members (at - 1) y ≡ y →
     IsHeld e place y members pending bounds last → IsHeld e place y members pending bounds' last'
 
+-- `IsSeen place x` holds if the number `x` was seen.
 abbrev pub IsSeen : List ℕ → ℕ → Type 0
 IsSeen place x = mark_of place x ≡ 0 → ⊥
 
+-- `KeepsSeen place place'` holds if each seen number stays seen.
 abbrev pub KeepsSeen : List ℕ → List ℕ → Type 0
 KeepsSeen place place' = (x : ℕ) → IsSeen place x → IsSeen place' x
 
--- one of the numbers is not done
+-- `HasOpen ys place` holds if one of the numbers is not done.
 abbrev pub HasOpen : List ℕ → List ℕ → Type 0
 HasOpen ys place = (y : ℕ) × Contains ys y × (IsDone place y → ⊥)
 
--- those of the members are found from which an edge leads to what is not done
+-- `FindsOpen e place members found found'` holds if those members were found from which an edge leads to a number
+-- that is not done.
 pub record FindsOpen (e : Edges) (place members : List ℕ) (found found' : List Bool) : Type 0 where
   pub len : length found' ≡ length found
   pub same : (x : ℕ) → IsTrue (slice_index_or found' x false)
       ↔ (IsTrue (slice_index_or found x false) ⊎ ((x < length found) × Contains members x × HasOpen (e x) place))
 
--- the members are noted as done, and nothing else changes
+-- `Ends members place place'` holds if the members were marked as done, and nothing else changed.
 pub record Ends (members place place' : List ℕ) : Type 0 where
   pub each : (x : ℕ) →
       (Contains members x × IsDone place' x) ⊎ ((Contains members x → ⊥) × (mark_of place' x ≡ mark_of place x))

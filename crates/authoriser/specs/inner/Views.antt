@@ -1,4 +1,4 @@
--- How the values that the code holds are read by the definitions.
+-- Defines the abstract views of the values of the code.
 use Rattle.std.specs.Prelude.{◌≡◌, ◌⊎◌, ⊤, ℕ, List, [], map, Contains, true, false, Ok, MatchOption, option_map, All}
 use Rattle.std.specs.Borrow.{Bor}
 use Rattle.values.specs.declared.entity_uid.EntityUid.{EntityUid}
@@ -22,86 +22,94 @@ use Rattle.authoriser.specs.declared.tally.Tally.{Tally}
 use Rattle.scope_index.specs.Scopes.{IsEntityScopeTrue, IsActionScopeTrue}
 use Rattle.authoriser.specs.Answers.{PolicyOutcome, fault_of, satisfied, erring}
 
--- the entity is `of` itself, or `of` is among the ancestors that were looked up
+-- `IsWithin p of` holds if the entity `p` is `of`, or `of` is among its looked-up ancestors.
 abbrev pub IsWithin : KnownEntity → EntityUid → Type 0
 IsWithin p of = (p.uid.now ≡ of) ⊎ Contains (names p.ancestors.items) of
 
--- its ancestors are all that lie above it, ascending
+-- `HasItsAncestors parents entity p` holds if `p` is `entity` with all its ancestors, ascending.
 pub record HasItsAncestors (parents : Parents) (entity : EntityUid) (p : KnownEntity) : Type 0 where
   pub same : p.uid.now ≡ entity
   pub all : IsAllAbove parents entity (names p.ancestors.items)
   pub ascending : IsAscending (names p.ancestors.items)
 
+-- `HasRequestAncestors parents q s` holds if `s` are the three entities of `q`, each with all its ancestors.
 pub record HasRequestAncestors (parents : Parents) (q : Request) (s : RequestEntities) : Type 0 where
   pub principal : HasItsAncestors parents q.principal s.principal
   pub action : HasItsAncestors parents q.action s.action
   pub resource : HasItsAncestors parents q.resource s.resource
 
--- the ancestors of each of the three are all that lie above it
+-- `AllHaveTheirAncestors parents s` holds if each of the three entities has all its ancestors.
 pub record AllHaveTheirAncestors (parents : Parents) (s : RequestEntities) : Type 0 where
   pub principal : HasItsAncestors parents s.principal.uid.now s.principal
   pub action : HasItsAncestors parents s.action.uid.now s.action
   pub resource : HasItsAncestors parents s.resource.uid.now s.resource
 
--- its attributes are those that are stored; where none are, it has no parents
+-- `HasItsAttributes W entity p` holds if `p` has the stored attributes of `entity`; an entity that is not stored has
+-- no parents.
 pub record HasItsAttributes (W : World) (entity : EntityUid) (p : KnownEntity) : Type 0 where
   pub given : option_map (λ r. r.now) p.attributes ≡ W.stored entity
   pub alone : MatchOption p.attributes (W.parents entity ≡ []) (λ _. ⊤)
 
+-- `HasRequestAttributes W q s` holds if each of `s` has the stored attributes of that entity of `q`.
 pub record HasRequestAttributes (W : World) (q : Request) (s : RequestEntities) : Type 0 where
   pub principal : HasItsAttributes W q.principal s.principal
   pub action : HasItsAttributes W q.action s.action
   pub resource : HasItsAttributes W q.resource s.resource
 
--- what was looked up for a request's three entities is what the world says of them
+-- `AreLookedUp W q s` holds if `s` are the request's three entities as they are in `W`.
 pub record AreLookedUp (W : World) (q : Request) (s : RequestEntities) : Type 0 where
   pub ancestors : HasRequestAncestors W.parents q s
   pub attributes : HasRequestAttributes W q s
 
--- the attributes of each of the three are those that are stored
+-- `AllHaveTheirAttributes W s` holds if each of the three entities has its stored attributes.
 pub record AllHaveTheirAttributes (W : World) (s : RequestEntities) : Type 0 where
   pub principal : HasItsAttributes W s.principal.uid.now s.principal
   pub action : HasItsAttributes W s.action.uid.now s.action
   pub resource : HasItsAttributes W s.resource.uid.now s.resource
 
+-- `AreAscending s` holds if the ancestors of each of the three entities ascend.
 pub record AreAscending (s : RequestEntities) : Type 0 where
   pub principal : IsAscending (names s.principal.ancestors.items)
   pub action : IsAscending (names s.action.ancestors.items)
   pub resource : IsAscending (names s.resource.ancestors.items)
 
--- an entity beside the request's three: its ancestors are all that lie above it, ascending
+-- `HasAllAbove parents o` holds if the other entity `o` has all its ancestors, ascending.
 pub record HasAllAbove (parents : Parents) (o : Other) : Type 0 where
   pub all : IsAllAbove parents o.uid (names o.ancestors.items)
   pub ascending : IsAscending (names o.ancestors.items)
 
+-- `HaveAllAbove parents others` holds if each other entity of the memo has all its ancestors, ascending.
 abbrev pub HaveAllAbove : Parents → AncestorMemo → Type 0
 HaveAllAbove parents others = All (HasAllAbove parents) others.kept.items
 
--- what is known beside a world, of the three and of others, is what the world says
+-- `IsKnown W q s others` holds if the three entities `s` and the memo `others` agree with `W`.
 pub record IsKnown (W : World) (q : Request) (s : RequestEntities) (others : AncestorMemo) : Type 0 where
   pub three : AreLookedUp W q s
   pub rest : HaveAllAbove W.parents others
 
--- the scope is true, by the ancestors that were looked up
+-- `IsTrueOf scope s` holds if `scope` is true, by the looked-up ancestors.
 abbrev pub IsTrueOf : Scope → RequestEntities → Type 0
 IsTrueOf scope s =
     IsEntityScopeTrue (IsWithin s.principal) scope.principal s.principal.uid.now
     × IsActionScopeTrue (IsWithin s.action) scope.action s.action.uid.now
     × IsEntityScopeTrue (IsWithin s.resource) scope.resource s.resource.uid.now
 
--- what a condition as a test comes to
+-- `ConditionEvaluatesTo W q x outcome` holds if `outcome` is the result of the condition `x`.
 abbrev pub ConditionEvaluatesTo : World → Request → Expr → Outcome → Type 0
 ConditionEvaluatesTo W q x Satisfied = EvaluatesTo W q x (Ok (boolean true))
 ConditionEvaluatesTo W q x NotSatisfied = EvaluatesTo W q x (Ok (boolean false))
 ConditionEvaluatesTo W q x (Errs error) = TestFails W q x (fault_of error)
 
+-- `ids xs` are these ids without their borrows.
 abbrev pub ids : List (Bor (List ℕ)) → List (List ℕ)
 ids xs = map (λ x. x.now) xs
 
+-- `faults xs` are the erroring policies with their errors.
 abbrev pub faults : List (Bor (List ℕ) × PolicyError) → List ErringPolicy
 faults xs = map (λ x. record { policy = x.0.now; error = x.1 }) xs
 
--- the tally has the satisfied permits, the satisfied forbids and the erring policies of these
+-- `Counts t js` holds if the tally `t` has the satisfied permits, the satisfied forbids and the erroring policies of
+-- `js`.
 pub record Counts (t : Tally) (js : List PolicyOutcome) : Type 0 where
   pub permits : ids t.permits.items ≡ satisfied Permit js
   pub forbids : ids t.forbids.items ≡ satisfied Forbid js

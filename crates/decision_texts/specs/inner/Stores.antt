@@ -1,4 +1,4 @@
--- How the store of an array's entities is read by the definitions.
+-- Defines the abstract view of the store of an array's entities.
 use Rattle.std.specs.Prelude.{◌≡◌, ℕ, Bool, not, List, [], ◌∷◌, ◌++◌, Some, Result, Ok, Err}
 use Rattle.std.specs.List.{list_any}
 use Rattle.serde_json.specs.Data.{Data}
@@ -20,49 +20,50 @@ use Rattle.decision_texts.specs.EntityArrays.{placed}
 use Rattle.decision_texts.specs.Requests.{IsRequestText}
 use Rattle.decision_texts.specs.Decisions.{stated, IsAnswerTo}
 
--- the store has these entities, each as it is stated
+-- `Holds store es` holds if the store has the entities `es`, each as it is stated.
 abbrev pub Holds : Entries → List Entity → Type 0
 Holds store es = (q : EntityUid) → kept_in store q ≡ stated es q
 
--- what a store says, beside the actions that are declared
+-- `world_held r store` is the entity data of a store, with the declared actions.
 abbrev pub world_held : Reading → Entries → World
 world_held r store = world_in (with_actions r.actions (kept_in store))
 
--- an entity that was read has this uid
+-- `is_among uid es` tests whether one of the entities `es` has the uid `uid`.
 abbrev pub is_among : EntityUid → List Entity → Bool
 is_among uid es = list_any (λ e. is_same e.uid uid) es
 
--- the entity at a place of an array, behind those that were read: its own fault first, then whether its uid stands
--- among theirs
+-- `entity_after r es place d` is the entity at an index of an array, after the parsed ones `es`: its own error comes
+-- first, then that its uid is one of theirs.
 unfoldable pub entity_after : Reading → List Entity → ℕ → Data → Result Entity Refusal
 entity_after r es place d = do
   entity ← placed place (r.entity d)
   first ← demand (bad_shape (Some place)) (not (is_among entity.uid es))
   Ok entity
 
--- What keeping the next entity in a store of these comes to, unless memory was refused.
+-- `KeepsNext r es place d result store` holds if `result` is that of adding the next entity to a store of `es`, or
+-- `NoMemory`.
 abbrev pub KeepsNext : {A : Type 0} → Reading → List Entity → ℕ → Data → Result A Refusal → Entries → Type 0
 KeepsNext r es place d (Ok x) store = (e : Entity) × (entity_after r es place d ≡ Ok e) × Holds store (es ++ e ∷ [])
 KeepsNext r es place d (Err refusal) store = Fails no_memory refusal (entity_after r es place d)
 
--- The store has the entities that were read, and nothing else.
+-- `Keeps read store` holds if the store has exactly the entities that were parsed.
 pub record Keeps (read : Result (List Entity) Refusal) (store : Entries) : Type 0 where
   pub entities : List Entity
   pub are : read ≡ Ok entities
   pub held : Holds store entities
 
--- What reading entities into a store gives, unless memory was refused.
+-- `ReadsStore result read` holds if `result` is that of parsing entities into a store, or `NoMemory`.
 abbrev pub ReadsStore : Result Entries Refusal → Result (List Entity) Refusal → Type 0
 ReadsStore (Ok store) read = Keeps read store
 ReadsStore (Err refusal) read = Fails no_memory refusal read
 
--- the line of the answer to a request over these policies, where entities are as in W
+-- `IsLineIn policies W asked line` holds if `line` is that of the answer over these policies and the entities of `W`.
 pub record IsLineIn (policies : List NamedPolicy) (W : World) (asked : Request) (line : List ℕ) : Type 0 where
   pub answer : Answer
   pub answers : IsAnswerTo policies W asked answer
   pub line_is : line ≡ answer_line answer
 
--- the same, of the request that a text states
+-- `IsLineTo r policies W request line` is the same, for the request that a text states.
 pub record IsLineTo (r : Reading) (policies : List NamedPolicy) (W : World) (request line : List ℕ) : Type 0 where
   pub asked : Request
   pub question : IsRequestText r request asked

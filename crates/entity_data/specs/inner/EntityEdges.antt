@@ -1,4 +1,4 @@
--- The edges that lead from entities which are no actions: all that a cycle can go along.
+-- Defines the edges from entities that are not actions: a cycle has only such edges.
 use Rattle.std.specs.Prelude.{List, [], Contains, Option, Some, None, IsSome}
 use Rattle.values.specs.declared.entity_uid.EntityUid.{EntityUid}
 use Rattle.evaluator.specs.ancestor_search.Hierarchy.{Parents}
@@ -8,15 +8,16 @@ use Rattle.entity_data.specs.declared.data.EntityData.{EntityData}
 use Rattle.entity_data.specs.Entities.{EntityMap, AreListed, Actions, kept_parents}
 use Rattle.entity_data.specs.Listing.{kept_with_parents}
 
--- the parents of what is kept and is no action
+-- `parents_unless o e` are the parents of a stored entity that is not an action.
 abbrev pub parents_unless : Option (List EntityUid) → Option EntityData → List EntityUid
 parents_unless (Some parents) other = []
 parents_unless None other = kept_parents other
 
+-- `entity_edges actions entities` are the parents of each stored entity that is not an action.
 abbrev pub entity_edges : Actions → EntityMap → Parents
 entity_edges actions entities u = parents_unless (actions u) (entities u)
 
--- ---- each entity with parents is kept
+-- ---- each entity with parents is stored
 
 kept_unless : (o : Option (List EntityUid)) (e : Option EntityData) (a : EntityUid) → Contains (parents_unless o e) a
     → IsSome e

@@ -1,10 +1,10 @@
--- Looking for names in ascending order.
+-- Defines the look-up of names in ascending order.
 use Rattle.std.specs.Prelude.{◌≡◌, ℕ, List}
 use Rattle.std.specs.declared.cmp.Ordering.TheVariants.{Less}
 use Rattle.values.specs.Uids.{text_cmp}
 use Rattle.schema_types.specs.Cedar.{CedarFields}
 use Rattle.entity_values.specs.Parts.{declared_at}
 
--- what has this name, or one behind it, is declared alike by both
+-- `StateAlikeFrom name fs gs` holds if `fs` and `gs` declare alike each field whose name is not less than `name`.
 abbrev pub StateAlikeFrom : List ℕ → CedarFields → CedarFields → Type 0
 StateAlikeFrom name fs gs = (k : List ℕ) → (text_cmp k name ≡ Less → ⊥) → declared_at k fs ≡ declared_at k gs

@@ -1,8 +1,9 @@
--- Types whose values lie in one place, so that reading them takes no memory.
+-- Defines the types whose values do not own memory, so that parsing them does not allocate.
 use Rattle.std.specs.Prelude.{⊤}
 use Rattle.schema_types.specs.Cedar as cedar
 use Rattle.schema_types.specs.Cedar.{Cedar}
 
+-- `IsInPlace t` holds if a value of the type `t` is stored in place.
 abbrev pub IsInPlace : Cedar → Type 0
 IsInPlace cedar.boolean = ⊤
 IsInPlace cedar.long = ⊤

@@ -1,8 +1,8 @@
--- A fault inside a value.
+-- Defines the error of a value for an error inside it.
 use Rattle.entity_values.specs.declared.fault.ValueFault.{ValueFault}
 use Rattle.entity_values.specs.declared.fault.ValueFault.TheVariants.{NoMemory, WrongType, Undeclared, Missing}
 
--- what the code tells of it: want of memory stays what it is
+-- `inside_fault f` is the reported error; `NoMemory` stays `NoMemory`.
 abbrev pub inside_fault : ValueFault → ValueFault
 inside_fault NoMemory = NoMemory
 inside_fault WrongType = WrongType

@@ -1,4 +1,4 @@
--- What an expression computes is what it gives.
+-- Defines the theorem that the computed meaning of an expression is its outcome.
 use Rattle.std.specs.Prelude.{◌≡◌, Bool}
 use Rattle.values.specs.declared.entity_uid.EntityUid.{EntityUid}
 use Rattle.values.specs.declared.request.Request.{Request}
@@ -9,12 +9,13 @@ use Rattle.evaluator.specs.Operators.{World}
 use Rattle.evaluator.specs.Evaluation.{EvaluatesTo}
 use Rattle.evaluator.specs.inner.Computing.{decided_world, meaning}
 
--- the expression gives m, and nothing else
+-- `GivesOnly W q x m` holds if `m` is the only outcome of `x`.
 pub record GivesOnly (W : World) (q : Request) (x : Expr) (m : EvaluationResult) : Type 0 where
   pub given : EvaluatesTo W q x m
   pub only : (r : EvaluationResult) → EvaluatesTo W q x r → r ≡ m
 
--- where a test decides who is above whom, each expression gives what it computes
+-- `MeaningsAreGiven`: if a test decides the ancestor relation, the computed meaning of each expression is its only
+-- outcome.
 abbrev pub MeaningsAreGiven : Type 0
 MeaningsAreGiven = (W : World) (above : EntityUid → EntityUid → Bool) → Decides W.parents above
     → (q : Request) (x : Expr) →

@@ -1,4 +1,5 @@
--- What is decided of parts is decided of the whole. None of it has to be believed: what each decides is its type.
+-- Defines decisions of wholes from decisions of their parts. None of it is trusted: the type of each says what it
+-- decides.
 use Rattle.std.specs.Prelude.{◌≡◌, ◌⊎◌, ℕ, zero, suc, ◌<◌, true, List, [], ◌∷◌, ◌++◌, refl}
 use Rattle.std.proofs.Common.{inl, inr, ap, arith, sym, subst}
 use Rattle.std.proofs.lemmas.Bool.{cases_lt, cases_Bool, false≢true}
@@ -6,7 +7,7 @@ use Rattle.std.specs.Str.{bytes_eq}
 use Rattle.std.proofs.lemmas.Slice.Eq.{bytes_eq-Decides}
 use Rattle.extensions.specs.Decided.{Decided}
 
--- the same is decided of what is the same
+-- Equivalent facts are decided alike.
 pub decided_as : {P Q : Type 0} → (P → Q) → (Q → P) → Decided P → Decided Q
 decided_as there back (inl p) = inl (there p)
 decided_as there back (inr n) = inr (λ q. n (back q))
@@ -36,7 +37,7 @@ text_decided s t = elim (cases_Bool (bytes_eq s t)) [
   | inr e ↦ inr (λ same. false≢true (let h : bytes_eq s t ≡ true = (bytes_eq-Decides s t).1 same in cc))
 ]
 
--- some number below n
+-- Decides whether there is such a number below `n`.
 pub below_decided : (n : ℕ) (P : ℕ → Type 0) → ((k : ℕ) → Decided (P k)) → Decided ((k : ℕ) × (k < n) × P k)
 below_decided zero P d = inr (λ h. absurd (omega (arith, h.1)))
 below_decided (suc n) P d = elim (d n) [
@@ -50,7 +51,7 @@ below_decided (suc n) P d = elim (d n) [
       (below_decided n P d)
 ]
 
--- some way to part a text in two
+-- Decides whether there is such a way to cut a string in two.
 pub parted_decided : (P : List ℕ → List ℕ → Type 0) → ((a b : List ℕ) → Decided (P a b)) → (text : List ℕ)
     → Decided ((a b : List ℕ) × (text ≡ a ++ b) × P a b)
 parted_decided P d [] = decided_as
@@ -80,7 +81,7 @@ parted_decided P d (c ∷ cs) = elim (d [] (c ∷ cs)) [
         tail_of : c ∷ cs ≡ x ∷ (a ++ b) → cs ≡ a ++ b
         tail_of e = cc
 
--- something behind a first byte
+-- Decides the rest of a string after a first byte.
 pub behind_decided : (c : ℕ) (P : List ℕ → Type 0) → ((xs : List ℕ) → Decided (P xs)) → (text : List ℕ)
     → Decided ((xs : List ℕ) × (text ≡ c ∷ xs) × P xs)
 behind_decided c P d [] = inr (λ h. absurd (let e = h.1 in cc))

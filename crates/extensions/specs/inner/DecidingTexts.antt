@@ -1,5 +1,5 @@
--- How it is decided whether a text is a decimal's, or an IP address's, and of which, and whether a range lies in
--- another. None of it has to be believed: what each decides is its type.
+-- Defines how it is decided whether a string is a decimal, or an IP address, and of which value, and whether a range
+-- is within another. None of it is trusted: the type of each says what it decides.
 use Prim.Native.Char.{code}
 use Rattle.std.specs.Prelude.{◌≡◌, ◌⊎◌, ℕ, zero, suc, pos, ℤ, neg_ℤ, ◌+◌, ◌-◌, ◌*◌, ◌^◌, ◌<◌, ◌≤◌, List, [], ◌∷◌, ◌++◌}
 use Rattle.std.specs.Prelude.{length, replicate, codes, FitsSigned, refl}
@@ -35,7 +35,7 @@ short_decided text = decided_as (λ l. omega (arith, l)) (λ l. omega (arith, l)
 fits_decided : (z : ℤ) → Decided (FitsSigned w64 z)
 fits_decided z = decided_as (λ l. record { sfits = l }) (λ f. f.sfits) (lt_decided (mag z) (2 ^ hbits w64))
 
--- the ten-thousandths of digits before and behind a point
+-- `value_of whole fraction` are the ten-thousandths of digits before and after a point.
 value_of : List ℕ → List ℕ → ℕ
 value_of whole fraction = digits_value 10 (whole ++ fraction) * 10 ^ (4 - length fraction)
 
@@ -55,7 +55,7 @@ one_value n v (suc (suc (suc zero))) h e = omega arith
 one_value n v (suc (suc (suc (suc zero)))) h e = omega arith
 one_value n v (suc (suc (suc (suc (suc l))))) h e = absurd (omega arith)
 
--- a text without a sign, whose number has a property that is decided
+-- `Digits Q whole fraction` holds for a string without a sign whose number has the property `Q`.
 Digits : (ℕ → Type 0) → List ℕ → List ℕ → Type 0
 Digits Q whole fraction = IsNumeral 10 whole × IsNumeral 10 fraction × (length fraction ≤ 4)
     × Q (value_of whole fraction)
@@ -125,7 +125,7 @@ unfolding Plain Minus
 signed_cases _ _ (plain {text} {n} t) f = inl (n, t, f)
 signed_cases _ _ (minus {text} {n} t) f = inr (text, refl, (n, t, f))
 
--- whether the text is a decimal's, with its ten-thousandths
+-- Decides whether a string is a decimal, with its ten-thousandths.
 pub decimal_text_decided : (text : List ℕ) → Decided ((z : ℤ) × IsDecimalText text z)
 unfolding Plain Minus
 decimal_text_decided text = decided_as
@@ -178,7 +178,7 @@ group_decided text = decided_as
     (λ h. (h.1.hexadecimal, h.1.short))
     (both_decided (numeral_decided 16 text) (short_decided text))
 
--- some k groups
+-- `Groups k text` holds if `text` has some `k` groups.
 Groups : ℕ → List ℕ → Type 0
 Groups k text = (groups : List ℕ) × AreGroups text groups × (length groups ≡ k)
 
@@ -233,7 +233,7 @@ full_decided text = decided_as
     (λ h. (h.0, h.1.written, h.1.eight))
     (groups_decided 8 text)
 
--- k and l groups on the sides of `::`, with room for one more
+-- `Sides head tail` holds if there are groups on both sides of `::`, with at least one missing.
 Sides : List ℕ → List ℕ → Type 0
 Sides head tail = (k : ℕ) × (k < 8) × ((l : ℕ) × (l < 8) × ((k + l < 8) × (Groups k head × Groups l tail)))
 
@@ -329,7 +329,7 @@ prefix_decided bits text = decided_as
     (below_decided (bits + 1) (λ p. text ≡ codes "/" ++ decimal p)
     (λ p. text_decided text (codes "/" ++ decimal p))))
 
--- an address of this version, and a prefix of it
+-- `OfVersion v text` holds if `text` is an address of the version `v`, with a prefix.
 OfVersion : Version → List ℕ → Type 0
 OfVersion v text = (a b : List ℕ) × (text ≡ a ++ b)
     × (((n : ℕ) × IsAddressText v a n) × ((p : ℕ) × IsPrefixText (width v) b p))
@@ -363,7 +363,7 @@ versions : (v : Version) → (v ≡ V4) ⊎ (v ≡ V6)
 versions V4 = inl refl
 versions V6 = inr refl
 
--- whether the text is an IP address's, with its network
+-- Decides whether a string is an IP address, with its network.
 pub network_text_decided : (text : List ℕ) → Decided ((n : Network) × IsNetworkText text n)
 network_text_decided text = decided_as
     (λ h. elim h [ inl f ↦ of_version V4 text f | inr s ↦ of_version V6 text s ])
@@ -382,7 +382,7 @@ same_version_decided V4 V6 = inr (λ e. cc)
 same_version_decided V6 V4 = inr (λ e. cc)
 same_version_decided V6 V6 = inl refl
 
--- whether the first range lies in the second
+-- Decides whether the first range is within the second.
 pub within_decided : (a b : Network) → Decided (IsWithin a b)
 within_decided a b = decided_as
     (λ h. record { same_version = h.0; from = h.1.0; to = h.1.1 })
@@ -390,6 +390,6 @@ within_decided a b = decided_as
     (both_decided (same_version_decided a.version b.version)
     (both_decided (le_decided (least b) (least a)) (le_decided (greatest a) (greatest b))))
 
--- whether the range lies in one of two
+-- Decides whether the range is within one of two.
 pub in_either_decided : (n a b : Network) → Decided (IsWithin n a ⊎ IsWithin n b)
 in_either_decided n a b = either_decided (within_decided n a) (within_decided n b)

@@ -1,7 +1,7 @@
--- What is made of a result that may have been refused.
+-- Defines a fact about the value of a result.
 use Rattle.std.specs.Prelude.{Result, Ok, Err}
 
--- P of the value, which is there
+-- `Gave r P` holds if the result `r` is a value, of which `P` holds.
 abbrev pub Gave : {A E : Type 0} → Result A E → (A → Type 0) → Type 0
 Gave (Ok a) P = P a
 Gave (Err e) P = ⊥

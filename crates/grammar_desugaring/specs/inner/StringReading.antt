@@ -1,5 +1,5 @@
--- How the pieces of a string are read from its bytes, one byte after the other, and that they are those which the
--- grammar of strings and their escapes says. None of it has to be believed: what `string_meaning` is, its type says.
+-- Defines how the pieces of a string are read from its bytes, one after another, and proves that they are those of
+-- the grammar of strings and their escapes. None of it is trusted: the type of `string_meaning` says what it is.
 use Prim.Native.Char.{code}
 use Rattle.std.specs.Prelude.{◌==◌, if◌then◌else◌, drop, Option}
 use Rattle.std.proofs.Common.{◌≡◌, ◌≢◌, ℕ, ◌+◌, ◌*◌, true, false, List, [], ◌∷◌, ◌++◌, refl, sym, ◌∙◌, ap}
@@ -15,8 +15,8 @@ use Rattle.grammar_trees.specs.grammar_tokens.Lexing.{long, IsBody, done, itself
 use Rattle.grammar_trees.specs.grammar_tokens.Strings.{bytes_of, literals_of, IsStringOf, IsPatternOf}
 use Rattle.grammar_desugaring.specs.StringMeaning.{StringMeaning}
 
--- how far a string is read: up to a piece's end, behind a backslash, behind `\x` and its first digit, behind `\u` and
--- its digits
+-- A `Reading` is the state: at the end of a piece, after a backslash, after `\x` and its first digit, after `\u` and
+-- its digits.
 data Reading : Type 0 where
   between : Reading
   behind_backslash : Reading
@@ -29,7 +29,7 @@ abbrev scalar_of : Option ℕ → ℕ
 scalar_of None = 0
 scalar_of (Some c) = c
 
--- the pieces up to the closing quote
+-- `read state w` are the pieces up to the closing quote.
 abbrev read : Reading → List ℕ → List Piece
 read _ [] = []
 read between (b ∷ w) =
@@ -44,7 +44,7 @@ read brace (c ∷ w) = read (digits 0) w
 read (digits n) (c ∷ w) =
     if c == code "}" then piece.Char n ∷ read between w else read (digits (n * 16 + digit_value c)) w
 
--- the pieces of a string in its quotes
+-- `pieces_of spelling` are the pieces of a string in its quotes.
 abbrev pieces_of : List ℕ → List Piece
 pieces_of spelling = read between (drop 1 spelling)
 

@@ -1,4 +1,4 @@
--- What a tree is made of: tokens of the text, each of a kind that its place asks for.
+-- Defines well-formed trees: made of tokens of the text, each of a kind that its position allows.
 use Rattle.std.specs.Prelude.{◌≡◌, ℕ, true, List}
 use Rattle.std.specs.List.{AllByRecursion}
 use Rattle.grammar_trees.specs.grammar_tokens.declared.token.TokenKind.TheVariants as k
@@ -17,39 +17,46 @@ use Rattle.grammar_trees.specs.grammar_tokens.Kinds.{Kinds, only}
 use Rattle.grammar_trees.specs.grammar_tokens.Grammar.{identifiers}
 use Rattle.grammar_trees.specs.Parts.{parts_of}
 
--- The token is spelled in the text, and of these kinds.
+-- `TokenIn text kinds token` holds if `token` is spelled in `text`, and of these kinds.
 pub record TokenIn (text : List ℕ) (kinds : Kinds) (token : Token) : Type 0 where
   pub spelled : IsSpelledIn text token
   pub kind : kinds token.kind ≡ true
 
--- The tree is made of tokens of the text.
+-- `WellFormed text x` holds if the tree `x` is made of tokens of `text`.
 pub record WellFormed (text : List ℕ) (x : ExprTree) : Type 0 where
   pub parts : AllByRecursion (λ p. TokenIn text p.kinds p.token) (parts_of x)
 
--- ## The same of the parts of a tree
+-- ## The same for the parts of a tree
 
+-- `KeyIn text key` holds if the key is a token of `text`.
 abbrev pub KeyIn : List ℕ → KeyTree → Type 0
 KeyIn text (Word word) = TokenIn text identifiers word
 KeyIn text (Quoted quoted) = TokenIn text (only k.Text) quoted
 
+-- `PathIn text path` holds if the words of the Path are tokens of `text`.
 pub record PathIn (text : List ℕ) (path : PathTree) : Type 0 where
   pub first : TokenIn text identifiers path.first
   pub more : AllByRecursion (TokenIn text identifiers) path.more
 
+-- `UidIn text uid` holds if the words and the id of the Uid are tokens of `text`.
 pub record UidIn (text : List ℕ) (uid : UidTree) : Type 0 where
   pub path : PathIn text uid.path
   pub id : TokenIn text (only k.Text) uid.id
 
+-- `AllWellFormed text xs` holds if each of the trees `xs` is well formed.
 abbrev pub AllWellFormed : List ℕ → List ExprTree → Type 0
 AllWellFormed text = AllByRecursion (WellFormed text)
 
+-- `WellFormedEntry text entry` holds if the key and the value of a record's entry are well formed.
 pub record WellFormedEntry (text : List ℕ) (entry : Entry ExprTree) : Type 0 where
   pub key : KeyIn text entry.key
   pub value : WellFormed text entry.value
 
+-- `WellFormedTerm text term` holds if the operand of a sum's term is well formed.
 pub record WellFormedTerm (text : List ℕ) (term : Term ExprTree) : Type 0 where
   pub operand : WellFormed text term.operand
 
+-- `WellFormedAccess text access` holds if the key, or the method's name and arguments, are well formed.
 abbrev pub WellFormedAccess : List ℕ → Access (List ExprTree) → Type 0
 WellFormedAccess text (access.Field key) = KeyIn text key
 WellFormedAccess text (access.Method name arguments) = TokenIn text identifiers name × AllWellFormed text arguments

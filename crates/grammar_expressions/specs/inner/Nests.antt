@@ -1,4 +1,4 @@
--- A function value that reads expressions of so many levels of nesting.
+-- Defines a closure that parses expressions of at most so many levels of nesting.
 use Rattle.std.specs.Prelude.{ℕ, Result}
 use Rattle.std.specs.declared.alloc.Global.{Global}
 use denote.Ref.{MutBor}
@@ -8,6 +8,7 @@ use Rattle.grammar_trees.specs.grammar_tokens.declared.fault.StopCause.{StopCaus
 use Rattle.grammar_trees.specs.grammar_tokens.ParsesTo.{ParsesTo}
 use Rattle.grammar_expressions.specs.ExpressionReading.{expr}
 
+-- `Nests levels pre post` holds if the closure may always be called, and parses as `expr levels`.
 pub record Nests (levels : ℕ) (pre : Global → MutBor Cursor → ℕ → Type 0)
     (post : Global → MutBor Cursor → ℕ → Result ExprTree StopCause → MutBor Cursor → Type 0) : Type 0 where
   pub callable : (alloc : Global) (old : MutBor Cursor) → pre alloc old levels

@@ -1,4 +1,4 @@
--- What stands before a Member, and what it makes.
+-- Defines the token of a prefix of a Member, and the tree that it makes.
 use Rattle.grammar_trees.specs.grammar_tokens.declared.token.TokenKind.{TokenKind}
 use Rattle.grammar_trees.specs.grammar_tokens.declared.token.TokenKind.TheVariants as k
 use Rattle.grammar_expressions.specs.declared.operators.Prefix.{Prefix}
@@ -6,10 +6,12 @@ use Rattle.grammar_expressions.specs.declared.operators.Prefix.TheVariants.{Not,
 use Rattle.grammar_trees.specs.declared.tree.ExprTree.{ExprTree}
 use Rattle.grammar_trees.specs.declared.tree.ExprTree.TheVariants as tree
 
+-- `kind_of p` is the kind of the token of `p`.
 abbrev pub kind_of : Prefix → TokenKind
 kind_of Not = k.Not
 kind_of Minus = k.Minus
 
+-- `under p` is the tree of `p` over an operand.
 abbrev pub under : Prefix → ExprTree → ExprTree
 under Not = tree.Not
 under Minus = tree.Minus

@@ -1,4 +1,4 @@
--- What stands behind the first Sum of a relation, read before it is joined to the Sum.
+-- Defines what follows the first Sum of a relation, parsed before it is joined to the Sum.
 use Rattle.std.specs.Prelude.{Bool, Option, Some, None}
 use Rattle.grammar_trees.specs.grammar_tokens.declared.token.TokenKind.TheVariants as k
 use Rattle.grammar_trees.specs.declared.tree.ExprTree.{ExprTree}
@@ -11,22 +11,26 @@ use Rattle.grammar_expressions.specs.ExpressionReading.{symbol, key, sum, maybe_
 use Rattle.grammar_expressions.specs.declared.relations.Tail.{Tail}
 use Rattle.grammar_expressions.specs.declared.relations.Tail.TheVariants.{Compared, Has, Like, Is}
 
+-- `form x tail` is the tree of `x` with its tail.
 abbrev pub form : ExprTree → Tail → ExprTree
 form x (Compared operator y) = tree.Compare x operator y
 form x (Has name) = tree.Has x name
 form x (Like text) = tree.Like x text
 form x (Is type_name y) = is_in x type_name y
 
+-- `relate x o` is that tree, or `x` if there is no tail.
 abbrev pub relate : ExprTree → Option Tail → ExprTree
 relate x None = x
 relate x (Some tail) = form x tail
 
+-- `has` parses "has" and a key.
 unfoldable pub has : Parser (Option Tail)
 has = do
   token k.Has
   name ← key
   pure (Some (Has name))
 
+-- `like` parses "like" and a pattern.
 unfoldable pub like : Parser (Option Tail)
 like = do
   token k.Like
@@ -34,12 +38,14 @@ like = do
   pure (Some (Like text))
 
 module _ (may : Bool) (inner : Parser ExprTree) where
+  -- `compared` parses a comparison with a sum.
   unfoldable pub compared : Parser (Option Tail)
   compared = do
     operator ← symbol comparison_of
     y ← sum may inner
     pure (Some (Compared operator y))
 
+  -- `type_test` parses "is", a Path and maybe "in" and a sum.
   unfoldable pub type_test : Parser (Option Tail)
   type_test = do
     token k.Is
@@ -47,11 +53,14 @@ module _ (may : Bool) (inner : Parser ExprTree) where
     y ← maybe_inside may inner
     pure (Some (Is type_name y))
 
+  -- `test_tail` parses a tail that begins with "has", "like" or "is", or nothing.
   unfoldable pub test_tail : Parser (Option Tail)
   test_tail = either (only k.Has) has (either (only k.Like) like (either (only k.Is) type_test (pure None)))
 
+  -- `tail` parses a tail, or nothing.
   unfoldable pub tail : Parser (Option Tail)
   tail = either comparisons compared test_tail
 
+  -- `joined x` parses a tail after `x`.
   unfoldable pub joined : ExprTree → Parser ExprTree
   joined x = tail >>= (λ found. pure (relate x found))

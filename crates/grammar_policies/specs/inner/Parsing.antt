@@ -1,4 +1,4 @@
--- How the grammar is read, from the left, by the next token.
+-- Defines how the grammar is parsed, from the left with one token of lookahead.
 use Rattle.std.specs.Prelude.{ℕ, true, List, [], ◌∷◌, Option, None}
 use Rattle.grammar_expressions.specs.grammar_tokens.declared.token.TokenKind.{TokenKind}
 use Rattle.grammar_expressions.specs.grammar_tokens.declared.token.TokenKind.TheVariants as k
@@ -21,9 +21,11 @@ use Rattle.grammar_policies.specs.Grammar.{identifiers, words, effects, is_in, c
 
 -- ---- annotations
 
+-- `maybe_text` parses a String if one comes next.
 unfoldable pub maybe_text : Parser (Option Token)
 maybe_text = optional (only k.Text) (token k.Text)
 
+-- `annotation_value` parses maybe a String in parentheses.
 unfoldable pub annotation_value : Parser (Option Token)
 annotation_value = do
   token k.LParen
@@ -31,9 +33,11 @@ annotation_value = do
   token k.RParen
   pure text
 
+-- `maybe_value` parses these if "(" comes next.
 unfoldable pub maybe_value : Parser (Option Token)
 maybe_value = either (only k.LParen) annotation_value (pure None)
 
+-- `annotation` parses "@", a key and maybe a value.
 unfoldable pub annotation : Parser Annotation
 annotation = do
   at ← token k.At
@@ -41,17 +45,21 @@ annotation = do
   value ← maybe_value
   pure (record { at = at; key = key; value = value })
 
+-- `annotations` parses annotations as long as "@" comes next.
 unfoldable pub annotations : Parser (List Annotation)
 annotations = many (only k.At) annotation
 
 -- ---- scopes
 
+-- `equal_uid` parses "==" and a Uid.
 unfoldable pub equal_uid : Parser UidTree
 equal_uid = token k.Equal >> uid
 
+-- `in_uid` parses "in" and a Uid.
 unfoldable pub in_uid : Parser UidTree
 in_uid = token k.In >> uid
 
+-- `type_test` parses "is", a Path and maybe "in" and a Uid.
 unfoldable pub type_test : Parser PartTree
 type_test = do
   token k.Is
@@ -59,24 +67,30 @@ type_test = do
   entity ← optional (only k.In) in_uid
   pure (is_in type_name entity)
 
+-- `entity_constraint` parses the constraint of a principal or resource, which may be empty.
 unfoldable pub entity_constraint : Parser PartTree
 entity_constraint =
     either (only k.Equal) (equal_uid >>= (λ entity. pure (part.Equal entity)))
     (either (only k.In) (in_uid >>= (λ entity. pure (part.In entity)))
     (either (only k.Is) type_test (pure part.Any)))
 
+-- `entity_part variable` parses the variable and its constraint.
 unfoldable pub entity_part : TokenKind → Parser PartTree
 entity_part variable = token variable >> entity_constraint
 
+-- `comma_uid` parses "," and a Uid.
 unfoldable pub comma_uid : Parser UidTree
 comma_uid = token k.Comma >> uid
 
+-- `rest_of_uids first` parses the Uids after the first.
 unfoldable pub rest_of_uids : UidTree → Parser (List UidTree)
 rest_of_uids first = many (only k.Comma) comma_uid >>= (λ more. pure (first ∷ more))
 
+-- `uids` parses Uids with commas between them, or none.
 unfoldable pub uids : Parser (List UidTree)
 uids = either identifiers (uid >>= rest_of_uids) (pure [])
 
+-- `uid_list` parses Uids in "[" and "]".
 unfoldable pub uid_list : Parser ActionTree
 uid_list = do
   token k.LBracket
@@ -84,20 +98,25 @@ uid_list = do
   token k.RBracket
   pure (action.InList found)
 
+-- `list_or_uid` parses such a list, or one Uid.
 unfoldable pub list_or_uid : Parser ActionTree
 list_or_uid = either (only k.LBracket) uid_list (uid >>= (λ entity. pure (action.In entity)))
 
+-- `in_actions` parses "in" and such a list or a Uid.
 unfoldable pub in_actions : Parser ActionTree
 in_actions = token k.In >> list_or_uid
 
+-- `action_constraint` parses the constraint of an action, which may be empty.
 unfoldable pub action_constraint : Parser ActionTree
 action_constraint =
     either (only k.Equal) (equal_uid >>= (λ entity. pure (action.Equal entity)))
     (either (only k.In) in_actions (pure action.Any))
 
+-- `action_part` parses "action" and its constraint.
 unfoldable pub action_part : Parser ActionTree
 action_part = token k.Action >> action_constraint
 
+-- `scope` parses the three parts of a scope, with commas between them.
 unfoldable pub scope : Parser ScopeTree
 scope = do
   principal ← entity_part k.Principal
@@ -109,12 +128,13 @@ scope = do
 
 -- ---- policies
 
--- what a policy begins with
+-- `policy_firsts` are the kinds of the first token of a policy.
 abbrev pub policy_firsts : Kinds
 policy_firsts k.At = true
 policy_firsts kind = effects kind
 
 module _ (levels : ℕ) where
+  -- `condition` parses "when" or "unless" and an expression in braces.
   unfoldable pub condition : Parser Condition
   condition = do
     word ← symbol condition_word_of
@@ -123,10 +143,11 @@ module _ (levels : ℕ) where
     token k.RBrace
     pure (record { word = word; expression = x })
 
+  -- `conditions` parses conditions as long as one comes next.
   unfoldable pub conditions : Parser (List Condition)
   conditions = many condition_words condition
 
-  -- what stands behind the scope
+  -- what follows the scope
   unfoldable pub scope_tail : Parser (List Condition)
   scope_tail = do
     token k.RParen
@@ -134,7 +155,7 @@ module _ (levels : ℕ) where
     token k.Semicolon
     pure cs
 
-  -- the same, with what stands before it
+  -- the same, with what precedes it
   unfoldable pub policy_of : List Annotation → Token → ScopeTree → Parser PolicyTree
   policy_of notes effect found = do
     token k.RParen
@@ -149,6 +170,7 @@ module _ (levels : ℕ) where
       conditions = cs;
     })
 
+  -- `policy` parses annotations, an effect, a scope and conditions.
   unfoldable pub policy : Parser PolicyTree
   policy = do
     found_annotations ← annotations
@@ -157,5 +179,6 @@ module _ (levels : ℕ) where
     found ← scope
     policy_of found_annotations effect found
 
+  -- `policies` parses policies as long as one comes next.
   unfoldable pub policies : Parser (List PolicyTree)
   policies = many policy_firsts policy

@@ -1,4 +1,4 @@
--- What the parts of the lexer tell one another.
+-- Defines the contracts between the parts of the tokenizer.
 use Prim.Native.Char.{code}
 use Rattle.std.specs.Prelude.{◌≡◌, ℕ, Bool, true, not, ◌&&◌, ◌||◌, ◌==◌, List, [], ◌∷◌, ◌++◌}
 use Rattle.std.specs.Prelude.{length, drop, Option, Some, None, encode_utf8}
@@ -17,7 +17,7 @@ use Rattle.grammar_tokens.specs.Strings.{bytes_of, is_wildcard}
 
 -- ## Tokens at the front of a text
 
--- What was found to begin the text, cut off from it.
+-- `IsFirst found text` holds if `found` is the token at the front of `text`.
 pub record IsFirst (found : Found) (text : List ℕ) : Type 0 where
   pub w : List ℕ
   pub rest : List ℕ
@@ -25,29 +25,30 @@ pub record IsFirst (found : Found) (text : List ℕ) : Type 0 where
   pub longest : IsLongest found.kind w rest
   pub len : length w ≡ found.len
 
--- what a search for a token at the front tells
+-- `ReportsToken text o` holds if `o` is the token at the front of `text`, or `None` if no token starts there.
 abbrev pub ReportsToken : List ℕ → Option Found → Type 0
 ReportsToken text None = NoToken text
 ReportsToken text (Some found) = IsFirst found text
 
--- a token of so many bytes
+-- `sized n k` is a token of kind `k`, if there is one, of `n` bytes.
 abbrev pub sized : ℕ → Option TokenKind → Option Found
 sized n None = None
 sized n (Some k) = Some (record { kind = k; len = n })
 
+-- `first_found o other` is the token `o`, or `other` if there is none.
 abbrev pub first_found : Option Found → Option Found → Option Found
 first_found None other = other
 first_found (Some f) other = Some f
 
--- the mark at the front: one of two bytes, else one of one byte
+-- `mark_of text` is the punctuation at the front of `text`: one of two bytes, else one of one byte.
 abbrev pub mark_of : List ℕ → Option Found
 mark_of [] = None
 mark_of (c ∷ []) = sized 1 (listed singles (c ∷ []))
 mark_of (c ∷ d ∷ rest) = first_found (sized 2 (listed pairs (c ∷ d ∷ []))) (sized 1 (listed singles (c ∷ [])))
 
--- ## Blanks and comments at the front of a text
+-- ## Whitespace and comments at the front of a text
 
--- So many bytes come before what follows the gap at the front.
+-- `IsGapOf len text` holds if `text` begins with whitespace or a comment of `len` bytes.
 pub record IsGapOf (len : ℕ) (text : List ℕ) : Type 0 where
   pub w : List ℕ
   pub rest : List ℕ
@@ -55,12 +56,14 @@ pub record IsGapOf (len : ℕ) (text : List ℕ) : Type 0 where
   pub is : IsGap w rest
   pub long : length w ≡ len
 
--- what a search for a blank or comment at the front tells
+-- `ReportsGap text o` holds if `o` is the length of the whitespace or comment at the front of `text`, or `None` if
+-- there is none.
 abbrev pub ReportsGap : List ℕ → Option ℕ → Type 0
 ReportsGap text None = NoGap text
 ReportsGap text (Some len) = IsGapOf len text
 
--- what a search for a blank at the front tells: how many bytes it has
+-- `ReportsBlank text o` holds if `o` is the length of the whitespace character at the front of `text`, or `None` if
+-- there is none.
 abbrev pub ReportsBlank : List ℕ → Option ℕ → Type 0
 ReportsBlank text None = (c : ℕ) (more : List ℕ) → is_whitespace c ≡ true → text ≡ encode_utf8 c ++ more → ⊥
 ReportsBlank text (Some len) = (c : ℕ) × (more : List ℕ) × (is_whitespace c ≡ true) × (text ≡ encode_utf8 c ++ more)
@@ -68,10 +71,11 @@ ReportsBlank text (Some len) = (c : ℕ) × (more : List ℕ) × (is_whitespace 
 
 -- ## Strings
 
+-- `NoEscape text` holds if `text` begins with no escape.
 abbrev pub NoEscape : List ℕ → Type 0
 NoEscape text = (p : Piece) (w more : List ℕ) → IsEscape p w → text ≡ w ++ more → ⊥
 
--- What was found to begin the text, cut off from it.
+-- `IsFirstEscape found text` holds if `found` is the escape at the front of `text`.
 pub record IsFirstEscape (found : Escape) (text : List ℕ) : Type 0 where
   pub w : List ℕ
   pub rest : List ℕ
@@ -79,37 +83,38 @@ pub record IsFirstEscape (found : Escape) (text : List ℕ) : Type 0 where
   pub is : IsEscape found.piece w
   pub long : length w ≡ found.len
 
--- what a search for an escape at the front tells
+-- `ReportsEscape text o` holds if `o` is the escape at the front of `text`, or `None` if there is none.
 abbrev pub ReportsEscape : List ℕ → Option Escape → Type 0
 ReportsEscape text None = NoEscape text
 ReportsEscape text (Some found) = IsFirstEscape found text
 
--- the kind of a string that goes on with this piece
+-- `kind_with k p` is the kind of a string with the piece `p`, given its kind without it.
 abbrev pub kind_with : TokenKind → Piece → TokenKind
 kind_with k (Byte b) = k
 kind_with k (Char c) = k
 kind_with k Star = StarText
 
--- Whether a byte between quotes stands for itself; in a pattern a star doesn't.
+-- `is_plain in_pattern c` tests whether the byte `c` between quotes stands for itself; a star does not in a pattern.
 unfoldable pub is_plain : Bool → ℕ → Bool
 is_plain in_pattern c = not ((c == backslash) || (in_pattern && (c == code "*")))
 
--- the character that an escape stands for
+-- `character_of p` is the character of the escape `p`.
 abbrev pub character_of : Piece → ℕ
 character_of (Byte b) = code "*"
 character_of (Char c) = c
 character_of Star = code "*"
 
--- no wildcard among the pieces of a pattern
+-- `is_literal in_pattern ps` tests that, in a pattern, no piece of `ps` is a wildcard.
 abbrev pub is_literal : Bool → List Piece → Bool
 is_literal in_pattern ps = not (in_pattern && list_any is_wildcard ps)
 
--- a body's end, or a wildcard of a pattern
+-- `EndsLiteral in_pattern body` holds if `body` is empty, or begins with a wildcard of a pattern.
 abbrev pub EndsLiteral : Bool → List ℕ → Type 0
 EndsLiteral in_pattern [] = Unit {0}
 EndsLiteral in_pattern (c ∷ cs) = (in_pattern ≡ true) × (c ≡ code "*")
 
--- The front of a body, of so many bytes, stands for this value; what follows is a body too.
+-- `IsRead in_pattern value len body` holds if the first `len` bytes of `body` mean `value`, without a wildcard, and
+-- the rest is a body too.
 pub record IsRead (in_pattern : Bool) (value : List ℕ) (len : ℕ) (body : List ℕ) : Type 0 where
   pub front : List ℕ
   pub pieces : List Piece
@@ -122,7 +127,7 @@ pub record IsRead (in_pattern : Bool) (value : List ℕ) (len : ℕ) (body : Lis
   pub left : List Piece
   pub behind : IsBody left (drop len body)
 
--- The same, as far as the body is no wildcard.
+-- `IsLiteral in_pattern value len body` holds if moreover they end at the end or at a wildcard.
 pub record IsLiteral (in_pattern : Bool) (value : List ℕ) (len : ℕ) (body : List ℕ) : Type 0 where
   pub read : IsRead in_pattern value len body
   pub ends : EndsLiteral in_pattern (drop len body)

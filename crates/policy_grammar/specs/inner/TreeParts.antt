@@ -1,4 +1,4 @@
--- What the parts of the reader tell one another.
+-- Defines the contracts between the parts of the parser of trees.
 use Rattle.std.specs.Prelude.{ℕ, ◌≤◌, ◌<◌, List, length, slice_get}
 use Rattle.std.specs.List.{AllByRecursion}
 use Rattle.grammar_desugaring.specs.grammar_tokens.declared.token.Token.{Token}
@@ -9,19 +9,19 @@ use Rattle.policy_grammar.specs.declared.fault.ReadFault.{ReadFault}
 use Rattle.policy_grammar.specs.declared.fault.ReadFault.TheVariants as fault
 use Rattle.policy_grammar.specs.Texts.{byte_of}
 
--- the tokens of a text that is not too long
+-- `LexedIn most text tokens` holds if `text` is not too long and has these tokens.
 pub record LexedIn (most : ℕ) (text : List ℕ) (tokens : List Token) : Type 0 where
   pub short : length text ≤ most
   pub lexed : IsLexed text tokens
   pub spelled : AllByRecursion (IsSpelledIn text) tokens
 
--- why there are none
+-- `IsUnlexed most text why` holds if `why` is the error of a text that has no tokens, or is too long.
 abbrev pub IsUnlexed : ℕ → List ℕ → ReadFault → Type 0
 IsUnlexed most text fault.TooLong = most < length text
 IsUnlexed most text (fault.BadToken at) = (length text ≤ most) × IsBadAt text at
 IsUnlexed most text _ = ⊥
 
--- the refusal that a token's index tells, by the byte at which that token starts
+-- `refusal_of text tokens fault` is `fault`, at a token's index, as the error at that token's byte.
 abbrev pub refusal_of : List ℕ → List Token → SyntaxFault → ReadFault
 refusal_of text tokens syntax.NoMemory = fault.NoMemory
 refusal_of text tokens (syntax.Unexpected place) = fault.Unexpected (byte_of text (slice_get tokens place))

@@ -2,13 +2,12 @@
 use Rattle.std.specs.Prelude.{◌≡◌, ℕ, zero, suc, Bool, true, false, List, [], ◌∷◌, ◌++◌, Some, Result, Ok, Err}
 use Rattle.state_exchanges.specs.http_devices.declared.devices.Source.{Ghosts as Source}
 use Rattle.state_exchanges.specs.http_devices.declared.devices.Sink.{Ghosts as Sink}
-use Rattle.site_loading.specs.site_steps.SiteViews.{SiteView}
 use Rattle.program.specs.declared.device.Link.{Link}
 use Rattle.program.specs.declared.device.NetworkFailed.{NetworkFailed}
 use Rattle.program.specs.declared.device.Stream.TheVariants.{Faults}
 use Rattle.program.specs.Events.{Event, accepted, paused, wrote}
 use Rattle.program.specs.Reports.{ended}
-use Rattle.program.specs.Serving.{failing_line, pause_after, IsFailure, AreFailures, IsGivenUp, IsNextServed}
+use Rattle.program.specs.Serving.{Serving, failing_line, pause_after, IsFailure, AreFailures, IsGivenUp, IsNextServed}
 use Rattle.program.specs.Serving.{AreServed, AreCutShort}
 
 module _ {L : Type 0} where
@@ -34,15 +33,15 @@ module _ {L : Type 0} where
   IsWarned false line events = events ≡ []
   IsWarned true line events = (done : Bool) × (events ≡ wrote Faults (ended line) done ∷ [])
 
-module _ {R W : Type 0} (reader : Source R) (writer : Sink W) where
+module _ {R W G : Type 0} (reader : Source R) (writer : Sink W) (log : Sink G) where
   -- a connection was served, or none came
-  abbrev pub IsNextOrNone : List ℕ → SiteView → Result (Unit {0}) NetworkFailed → List (Event (Link R W))
-      → SiteView → Type 0
-  IsNextOrNone address old (Ok done) events new = IsNextServed reader writer address old events new
+  abbrev pub IsNextOrNone : List ℕ → Serving G → Result (Unit {0}) NetworkFailed → List (Event (Link R W))
+      → Serving G → Type 0
+  IsNextOrNone address old (Ok done) events new = IsNextServed reader writer log address old events new
   IsNextOrNone address old (Err failed) events new = IsGivenUp address events × (new ≡ old)
 
   -- so many were served, or fewer came
-  abbrev pub AreServedOrFewer : List ℕ → ℕ → SiteView → Result (Unit {0}) NetworkFailed → List (Event (Link R W))
-      → SiteView → Type 0
-  AreServedOrFewer address most old (Ok done) events new = AreServed reader writer address most old events new
-  AreServedOrFewer address most old (Err failed) events new = AreCutShort reader writer address most old events new
+  abbrev pub AreServedOrFewer : List ℕ → ℕ → Serving G → Result (Unit {0}) NetworkFailed → List (Event (Link R W))
+      → Serving G → Type 0
+  AreServedOrFewer address most old (Ok done) events new = AreServed reader writer log address most old events new
+  AreServedOrFewer address most old (Err failed) events new = AreCutShort reader writer log address most old events new

@@ -1,4 +1,4 @@
--- What the parts of a schema are made of, as code makes them one after the other.
+-- Defines how the code builds the parts of a schema, one after another.
 use Rattle.std.specs.Prelude.{◌≡◌, ⊤, ℕ, List, Contains, Option, Some, None, option_map}
 use Rattle.std.specs.BTreeMap.{BTreeMap, get}
 use Rattle.values.specs.declared.entity_uid.EntityUid.{EntityUid}
@@ -19,147 +19,180 @@ use Rattle.schema.specs.Places.{place_cmp, place_of}
 use Rattle.schema.specs.Schemas.{IsRecordOf, IsWritten}
 use Rattle.schema.specs.inner.Filling.{Adds, AddsEach, SomeMay, SomeMust, AllTold}
 
--- ---- types, written out
+-- ---- expanded types
 
--- each name of a common type in it is declared
+-- `IsClosedAt commons o` holds if each common type that is named in `o` is declared.
 abbrev pub IsClosedAt : Declarations → Option Qualified → Type 0
 IsClosedAt commons o = (r : Qualified) → o ≡ Some r → IsClosed commons r
 
+-- `IsWrittenAt commons o` holds if the expansion of `o`, if there is one, is within the limits.
 abbrev pub IsWrittenAt : Declarations → Option Qualified → Type 0
 IsWrittenAt commons o = (r : Qualified) → o ≡ Some r → IsWritten commons r
 
+-- `IsRefusedAt commons o f` holds if `f` is the error of expanding `o`.
 abbrev pub IsRefusedAt : Declarations → Option Qualified → SchemaFault → Type 0
 IsRefusedAt commons o f = (r : Qualified) × (o ≡ Some r) × TypeRefused commons r f
 
--- o is t once it is written out, within the limits
+-- `IsMade commons o t` holds if `t` is the expansion of `o`, within the limits.
 pub record IsMade (commons : Declarations) (o : Option Qualified) (t : Cedar) : Type 0 where
   pub is_record : IsRecordOf commons o t
   pub is_written : IsWrittenAt commons o
 
 -- ---- look-ups
 
+-- `shape_in shapes n` is the shape of the entity type `n`.
 abbrev pub shape_in : BTreeMap (List ℕ) EntityDecl → List ℕ → Option Cedar
 shape_in shapes n = option_map (λ d. cedar_view d.shape) (get text_cmp shapes n)
 
 -- ---- shapes
 
+-- `ShapeMay commons e n d` holds if `n` is the name of `e`, and `d` has its shape.
 abbrev pub ShapeMay : Declarations → FoundEntityType → List ℕ → EntityDecl → Type 0
 ShapeMay commons e n d = (e.name ≡ n) × IsRecordOf commons e.shape (cedar_view d.shape)
 
+-- `ShapeMust e n` holds if `n` is the name of `e`.
 abbrev pub ShapeMust : FoundEntityType → List ℕ → Type 0
 ShapeMust e n = e.name ≡ n
 
+-- `AddsShape commons e old new` holds if the shape of `e` was added, within the limits.
 abbrev pub AddsShape : Declarations → FoundEntityType → BTreeMap (List ℕ) EntityDecl → BTreeMap (List ℕ) EntityDecl
     → Type 0
 AddsShape commons e old new =
     Adds (ShapeMay commons e) (ShapeMust e) (IsWrittenAt commons e.shape) (get text_cmp old) (get text_cmp new)
 
+-- `AddsShapes commons es old new` holds if the shapes of `es` were added, within the limits.
 abbrev pub AddsShapes : Declarations → List FoundEntityType → BTreeMap (List ℕ) EntityDecl
     → BTreeMap (List ℕ) EntityDecl → Type 0
 AddsShapes commons es old new =
     AddsEach (ShapeMay commons) ShapeMust (λ e. IsWrittenAt commons e.shape) es (get text_cmp old) (get text_cmp new)
 
+-- `AreShapesClosed commons es` holds if each common type that is named in a shape is declared.
 abbrev pub AreShapesClosed : Declarations → List FoundEntityType → Type 0
 AreShapesClosed commons es = (e : FoundEntityType) → Contains es e → IsClosedAt commons e.shape
 
+-- `SomeShapeIsRefused commons es f` holds if `f` is the error of some shape.
 abbrev pub SomeShapeIsRefused : Declarations → List FoundEntityType → SchemaFault → Type 0
 SomeShapeIsRefused commons es f = (e : FoundEntityType) × Contains es e × IsRefusedAt commons e.shape f
 
--- the shapes of these entity types, and no other
+-- `AreShapes commons es shapes` holds if these are exactly the shapes of these entity types.
 abbrev pub AreShapes : Declarations → List FoundEntityType → BTreeMap (List ℕ) EntityDecl → Type 0
 AreShapes commons es shapes =
     AddsEach (ShapeMay commons) ShapeMust (λ e. IsWrittenAt commons e.shape) es (λ n. None) (get text_cmp shapes)
 
 -- ---- environments
 
+-- `Places` has the context of each place.
 abbrev pub Places : Type 0
 Places = BTreeMap Place CedarType
 
+-- `PlaceMay action context principal resource p c` holds if `p` is this place and `c` this context.
 abbrev pub PlaceMay : EntityUid → CedarType → List ℕ → List ℕ → Place → CedarType → Type 0
 PlaceMay action context principal resource p c = (place_of action principal resource ≡ p) × (c ≡ context)
 
+-- `PlaceMust action principal resource p` holds if `p` is this place.
 abbrev pub PlaceMust : EntityUid → List ℕ → List ℕ → Place → Type 0
 PlaceMust action principal resource p = place_of action principal resource ≡ p
 
+-- `AddsPlace action context principal resource old new` holds if this place was added.
 abbrev pub AddsPlace : EntityUid → CedarType → List ℕ → List ℕ → Places → Places → Type 0
 AddsPlace action context principal resource old new =
     Adds (PlaceMay action context principal resource) (PlaceMust action principal resource) ⊤
     (get place_cmp old) (get place_cmp new)
 
+-- `AddsResources action context resources principal old new` holds if the places with each of the resources were
+-- added.
 abbrev pub AddsResources : EntityUid → CedarType → List (List ℕ) → List ℕ → Places → Places → Type 0
 AddsResources action context resources principal old new =
     AddsEach (PlaceMay action context principal) (PlaceMust action principal) (λ r. ⊤) resources
     (get place_cmp old) (get place_cmp new)
 
+-- `AddsPrincipals action context resources principals old new` holds if the places with each principal and resource
+-- were added.
 abbrev pub AddsPrincipals : EntityUid → CedarType → List (List ℕ) → List (List ℕ) → Places → Places → Type 0
 AddsPrincipals action context resources principals old new =
     AddsEach (λ p. SomeMay (PlaceMay action context p) resources) (λ p. SomeMust (PlaceMust action p) resources)
     (λ p. AllTold (λ r. ⊤) resources) principals (get place_cmp old) (get place_cmp new)
 
+-- `UseMust action u p` holds if `p` is a place of what the action applies to.
 abbrev pub UseMust : EntityUid → FoundUse → Place → Type 0
 UseMust action u p = (action ≡ p.action) × Contains u.principals p.principal × Contains u.resources p.resource
 
+-- `UseMay commons action u p c` holds if it is one, and `c` is its context.
 abbrev pub UseMay : Declarations → EntityUid → FoundUse → Place → CedarType → Type 0
 UseMay commons action u p c = UseMust action u p × IsRecordOf commons u.context (cedar_view c)
 
+-- `AddsUse commons action u old new` holds if these places were added, with a context within the limits.
 abbrev pub AddsUse : Declarations → EntityUid → FoundUse → Places → Places → Type 0
 AddsUse commons action u old new =
     Adds (UseMay commons action u) (UseMust action u) (IsWrittenAt commons u.context)
     (get place_cmp old) (get place_cmp new)
 
+-- `ActionMust a p` holds if `p` is a place of the action `a`.
 abbrev pub ActionMust : FoundAction → Place → Type 0
 ActionMust a p = (u : FoundUse) × (a.applies_to ≡ Some u) × UseMust a.uid u p
 
+-- `ActionMay commons a p c` holds if it is one, and `c` is its context.
 abbrev pub ActionMay : Declarations → FoundAction → Place → CedarType → Type 0
 ActionMay commons a p c = (u : FoundUse) × (a.applies_to ≡ Some u) × UseMay commons a.uid u p c
 
+-- `IsContextWritten commons a` holds if the context of `a`, if it has one, is within the limits.
 abbrev pub IsContextWritten : Declarations → FoundAction → Type 0
 IsContextWritten commons a = (u : FoundUse) → a.applies_to ≡ Some u → IsWrittenAt commons u.context
 
+-- `IsContextClosed commons a` holds if each common type that is named in the context of `a` is declared.
 abbrev pub IsContextClosed : Declarations → FoundAction → Type 0
 IsContextClosed commons a = (u : FoundUse) → a.applies_to ≡ Some u → IsClosedAt commons u.context
 
+-- `IsContextRefused commons a f` holds if `f` is the error of the context of `a`.
 abbrev pub IsContextRefused : Declarations → FoundAction → SchemaFault → Type 0
 IsContextRefused commons a f = (u : FoundUse) × (a.applies_to ≡ Some u) × IsRefusedAt commons u.context f
 
+-- `AddsAction commons a old new` holds if the places of `a` were added.
 abbrev pub AddsAction : Declarations → FoundAction → Places → Places → Type 0
 AddsAction commons a old new =
     Adds (ActionMay commons a) (ActionMust a) (IsContextWritten commons a) (get place_cmp old) (get place_cmp new)
 
+-- `AddsActions commons us old new` holds if the places of the actions `us` were added.
 abbrev pub AddsActions : Declarations → List FoundAction → Places → Places → Type 0
 AddsActions commons us old new =
     AddsEach (ActionMay commons) ActionMust (IsContextWritten commons) us (get place_cmp old) (get place_cmp new)
 
+-- `AreContextsClosed commons us` holds if each common type that is named in their contexts is declared.
 abbrev pub AreContextsClosed : Declarations → List FoundAction → Type 0
 AreContextsClosed commons us = (a : FoundAction) → Contains us a → IsContextClosed commons a
 
+-- `SomeContextIsRefused commons us f` holds if `f` is the error of some context.
 abbrev pub SomeContextIsRefused : Declarations → List FoundAction → SchemaFault → Type 0
 SomeContextIsRefused commons us f = (a : FoundAction) × Contains us a × IsContextRefused commons a f
 
--- the places of these actions, and no other
+-- `ArePlaces commons us places` holds if these are exactly the places of these actions.
 abbrev pub ArePlaces : Declarations → List FoundAction → Places → Type 0
 ArePlaces commons us places =
     AddsEach (ActionMay commons) ActionMust (IsContextWritten commons) us (λ p. None) (get place_cmp places)
 
 -- ---- hierarchies
 
+-- `MemberMay parents a u us` holds if `u` is the uid of `a`, and `us` are its parents.
 abbrev pub MemberMay : Parents → FoundAction → EntityUid → List EntityUid → Type 0
 MemberMay parents a u us = (a.uid ≡ u) × (us ≡ parents u)
 
+-- `MemberMust a u` holds if `u` is the uid of `a`.
 abbrev pub MemberMust : FoundAction → EntityUid → Type 0
 MemberMust a u = a.uid ≡ u
 
+-- `AddsMember parents a old new` holds if the parents of `a` were added.
 abbrev pub AddsMember : Parents → FoundAction → BTreeMap EntityUid (List EntityUid)
     → BTreeMap EntityUid (List EntityUid) → Type 0
 AddsMember parents a old new =
     Adds (MemberMay parents a) (MemberMust a) ⊤ (get uid_cmp old) (get uid_cmp new)
 
+-- `AddsMembers parents us old new` holds if the parents of the actions `us` were added.
 abbrev pub AddsMembers : Parents → List FoundAction → BTreeMap EntityUid (List EntityUid)
     → BTreeMap EntityUid (List EntityUid) → Type 0
 AddsMembers parents us old new =
     AddsEach (MemberMay parents) MemberMust (λ a. ⊤) us (get uid_cmp old) (get uid_cmp new)
 
--- the parents of these actions, and of no other
+-- `AreMembers parents us members` holds if these are exactly the parents of these actions.
 abbrev pub AreMembers : Parents → List FoundAction → BTreeMap EntityUid (List EntityUid) → Type 0
 AreMembers parents us members =
     AddsEach (MemberMay parents) MemberMust (λ a. ⊤) us (λ u. None) (get uid_cmp members)

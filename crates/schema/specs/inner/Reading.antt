@@ -1,4 +1,4 @@
--- What code knows of a schema on the way to it.
+-- Defines the intermediate results of parsing a schema.
 use Rattle.std.specs.Prelude.{◌≡◌, map}
 use Rattle.std.specs.BTreeMap.{keys, get}
 use Rattle.std.specs.BTreeMap as tree
@@ -19,14 +19,16 @@ use Rattle.schema.specs.Schemas.{action_parents, type_parents, SomeActionIsOnCyc
 use Rattle.schema.specs.inner.Making.{AreShapes, ArePlaces, Places, AreMembers}
 use Rattle.schema.specs.inner.Numbering.{NumbersAll, AreAbove, AreNumbers}
 
--- these are the edges of the actions, and none is above itself
+-- `AreEdges s parents` holds if these are the edges of the actions, and no action is its own ancestor.
 pub record AreEdges (s : FoundSchema) (parents : Parents) : Type 0 where
   pub are : parents ≡ action_parents s
   pub no_cycle : SomeActionIsOnCycle s → ⊥
 
+-- `EdgesRefused s f` holds if some action is its own ancestor, and `f` is `ActionCycle`.
 abbrev pub EdgesRefused : FoundSchema → SchemaFault → Type 0
 EdgesRefused s f = (f ≡ ActionCycle) × SomeActionIsOnCycle s
 
+-- `AreTypesOf commons s t` holds if `t` has exactly the shapes and the environments of `s`.
 pub record AreTypesOf (commons : Declarations) (s : FoundSchema) (t : Types) : Type 0 where
   pub shapes : AreShapes commons s.entity_types t.shapes
   pub places : Places
@@ -34,14 +36,16 @@ pub record AreTypesOf (commons : Declarations) (s : FoundSchema) (t : Types) : T
   pub environments : t.environments ≡ map environment_of places.entries
   pub ordered : tree.IsOrdered place_cmp places
 
--- some shape or context is too large
+-- `TypesRefused commons s f` holds if some shape or context is too large.
 abbrev pub TypesRefused : Declarations → FoundSchema → SchemaFault → Type 0
 TypesRefused commons s f = (r : Qualified) × IsShapeOrContext s r × TypeRefused commons r f
 
--- each name of a common type in a shape or a context is declared
+-- `AreTypesClosed commons s` holds if each common type that is named in a shape or a context is declared.
 abbrev pub AreTypesClosed : Declarations → FoundSchema → Type 0
 AreTypesClosed commons s = (r : Qualified) → IsShapeOrContext s r → IsClosed commons r
 
+-- `AreHierarchiesOf s h` holds if `h` has the actions of `s` with their parents, and the numbered ancestors of
+-- actions and of types.
 pub record AreHierarchiesOf (s : FoundSchema) (h : Hierarchies) : Type 0 where
   pub members : AreMembers (action_parents s) s.actions h.members
   pub actions : h.actions ≡ keys h.members

@@ -1,4 +1,4 @@
--- Which common types mean no record, as code finds them: round by round.
+-- Defines which common types are not records, as the code finds them: round by round.
 use Rattle.std.specs.Prelude.{◌≡◌, ◌⊎◌, ◌<◌, ◌&&◌, ◌++◌, ℕ, List, [], ◌∷◌, Contains, Bool, true, not, String}
 use Rattle.std.specs.Prelude.{Option, Some, None}
 use Rattle.std.specs.List.{list_all, slice_get}
@@ -13,47 +13,50 @@ use Rattle.schema_names.specs.inner.Adding.{has_name}
 use Rattle.schema_types.specs.declared.fault.SchemaFault.{SchemaFault}
 use Rattle.schema_types.specs.declared.fault.SchemaFault.TheVariants.{BadShape, NoMemory}
 
+-- `means_by o known otherwise` is what `known` says of a name, or `otherwise` if there is none.
 abbrev pub means_by : Option (List ℕ) → (List ℕ → Bool) → Bool → Bool
 means_by (Some q) known otherwise = known q
 means_by None known otherwise = otherwise
 
--- whether a type means no record, where `known` tells it of common types
+-- `means_now known s own r` tests whether `r` is not a record, where `known` says it of common types.
 abbrev pub means_now : (List ℕ → Bool) → Scope → Option (List ℕ) → Raw → Bool
 means_now known s own r = means_by (common_meant s own r) known (is_no_record s own r)
 
 -- ---- rounds
 
--- a common type of this name means no record
+-- `NamesNoRecord ns q` holds if a common type named `q` is not a record.
 pub record NamesNoRecord (ns : List NamespaceOf) (q : List ℕ) : Type 0 where
   pub common : CommonOf
   pub declared : Contains (commons_declared ns) common
   pub is : common.name ≡ q
   pub means : MeansNoRecord ns common.own common.type
 
+-- `IsSound ns known` holds if each name of the set is that of a common type that is not a record.
 abbrev pub IsSound : List NamespaceOf → BTreeSet (String Global) → Type 0
 IsSound ns known = (q : List ℕ) → has_name known q ≡ true → NamesNoRecord ns q
 
+-- `AreAmong cs all` holds if each of `cs` is one of `all`.
 abbrev pub AreAmong : List CommonOf → List CommonOf → Type 0
 AreAmong cs all = (c : CommonOf) → Contains cs c → Contains all c
 
--- none of these is left to be added
+-- `IsSettled s known cs` holds if none of these is left to be added.
 abbrev pub IsSettled : Scope → BTreeSet (String Global) → List CommonOf → Type 0
 IsSettled s known cs =
     (c : CommonOf) → Contains cs c → means_now (λ q. has_name known q) s c.own c.type ≡ true
     → has_name known c.name ≡ true
 
--- what the set says stays so, for files that declare these
+-- `KeepsNames s cs old new` holds if the set stays right, for files that declare these.
 abbrev pub KeepsNames : Scope → List CommonOf → BTreeSet (String Global) → BTreeSet (String Global) → Type 0
 KeepsNames s cs old new =
     (ns : List NamespaceOf) → s ≡ scope_in ns → AreAmong cs (commons_declared ns) → IsSound ns old → IsSound ns new
 
--- A round leaves a set of what is so; either it is longer, or nothing was left to do.
+-- `Spreads s cs old new` holds if a round leaves a right set; either it is longer, or nothing was left to do.
 pub record Spreads (s : Scope) (cs : List CommonOf) (old new : BTreeSet (String Global)) : Type 0 where
   pub sound : (ns : List NamespaceOf) → s ≡ scope_in ns → AreAmong cs (commons_declared ns) → IsSound ns old
       → IsSound ns new
   pub grows : ((new ≡ old) × IsSettled s old cs) ⊎ (btree_set_len old < btree_set_len new)
 
--- what is declared at a place, where something is, and at places of a list in turn
+-- `tried_one` and `tried_in_order` are the declaration at an index, if there is one, and those at a list of indices.
 abbrev pub tried_one : Option CommonOf → List CommonOf
 tried_one None = []
 tried_one (Some c) = c ∷ []
@@ -62,7 +65,8 @@ abbrev pub tried_in_order : List CommonOf → List ℕ → List CommonOf
 tried_in_order cs [] = []
 tried_in_order cs (i ∷ is) = tried_one (slice_get cs i) ++ tried_in_order cs is
 
--- the set has the common types that mean no record, and so tells it of each type
+-- `ReportsRecords ns known` holds if the set has exactly the common types that are not records, and so decides it for
+-- each type.
 pub record ReportsRecords (ns : List NamespaceOf) (known : List ℕ → Bool) : Type 0 where
   pub sound : (own : Option (List ℕ)) (r : Raw) → means_now known (scope_in ns) own r ≡ true
       → MeansNoRecord ns own r
@@ -71,26 +75,32 @@ pub record ReportsRecords (ns : List NamespaceOf) (known : List ℕ → Bool) : 
 
 -- ---- shapes and contexts
 
+-- `is_record_at known s own o` tests whether a type, if there is one, is a record.
 abbrev pub is_record_at : (List ℕ → Bool) → Scope → Option (List ℕ) → Option Raw → Bool
 is_record_at known s own None = true
 is_record_at known s own (Some r) = not (means_now known s own r)
 
+-- `is_record_in known s own o` tests this of the context of what an action applies to.
 abbrev pub is_record_in : (List ℕ → Bool) → Scope → Option (List ℕ) → Option UseOf → Bool
 is_record_in known s own None = true
 is_record_in known s own (Some u) = is_record_at known s own u.context
 
+-- `are_shapes known s own es` tests whether all shapes are records.
 abbrev pub are_shapes : (List ℕ → Bool) → Scope → Option (List ℕ) → List EntityTypeOf → Bool
 are_shapes known s own es = list_all (λ e. is_record_at known s own e.shape) es
 
+-- `are_contexts known s own us` tests whether all contexts are records.
 abbrev pub are_contexts : (List ℕ → Bool) → Scope → Option (List ℕ) → List ActionOf → Bool
 are_contexts known s own us = list_all (λ a. is_record_in known s own a.applies_to) us
 
+-- `are_records_of known s n` tests this of all shapes and contexts of a namespace.
 abbrev pub are_records_of : (List ℕ → Bool) → Scope → NamespaceOf → Bool
 are_records_of known s n = are_shapes known s n.name n.entity_types && are_contexts known s n.name n.actions
 
+-- `are_records known s ns` tests this of all namespaces.
 abbrev pub are_records : (List ℕ → Bool) → Scope → List NamespaceOf → Bool
 are_records known s ns = list_all (λ n. are_records_of known s n) ns
 
--- why shapes and contexts may be refused
+-- `MayRefuseRecords ns f` holds if `f` may be the error of shapes and contexts.
 abbrev pub MayRefuseRecords : List NamespaceOf → SchemaFault → Type 0
 MayRefuseRecords ns f = (f ≡ NoMemory) ⊎ ((f ≡ BadShape) × SomeIsNoRecord ns)

@@ -1,4 +1,4 @@
--- The common types that a file declares, as a graph: an edge from each to the one that it is a name of.
+-- Defines the common types of a file as a graph: an edge from each to the one that it is a name of.
 -- Source: Cedar reference guide, "Schema JSON format": a common type may be a reference to another.
 use Rattle.std.specs.Prelude.{ℕ, ◌+◌, List, [], ◌∷◌, map, Option, Some, None, if◌then◌else◌}
 use Rattle.std.specs.Str.{bytes_eq}
@@ -9,29 +9,33 @@ use Rattle.schema_names.specs.Qualifying.{CommonOf, common_in}
 use Rattle.schema_names.specs.Records.{common_meant}
 use Rattle.schema_names.specs.declared.order.ListedCommon.{ListedCommon}
 
+-- `listed_view l` is the common type `l` of the code.
 abbrev pub listed_view : ListedCommon → CommonOf
 listed_view l = common_in l.own.now (common_view l.common.now)
 
--- the last place that declares a name, where cs stand from the place i on
+-- `place_from i cs q found` is the last index at which `cs`, from index `i` on, declare `q`.
 abbrev pub place_from : ℕ → List CommonOf → List ℕ → Option ℕ → Option ℕ
 place_from i [] q found = found
 place_from i (c ∷ cs) q found = place_from (i + 1) cs q (if bytes_eq c.name q then Some i else found)
 
+-- `place_of commons q` is the last index at which `commons` declare `q`.
 abbrev pub place_of : List CommonOf → List ℕ → Option ℕ
 place_of commons q = place_from 0 commons q None
 
+-- `place_meant place o` is the index of a name, if there is one.
 abbrev pub place_meant : (List ℕ → Option ℕ) → Option (List ℕ) → Option ℕ
 place_meant place None = None
 place_meant place (Some q) = place q
 
+-- `in_list o` is the list of an index, empty if there is none.
 abbrev pub in_list : Option ℕ → List ℕ
 in_list None = []
 in_list (Some a) = a ∷ []
 
--- the place of the common type that c is a name of, where it is one
+-- `place_used place s c` is the index of the common type that `c` is a name of, if it is one.
 abbrev pub place_used : (List ℕ → Option ℕ) → Scope → CommonOf → List ℕ
 place_used place s c = in_list (place_meant place (common_meant s c.own c.type))
 
--- to the place of each common type that of the one that it is a name of
+-- `uses s commons` has for each common type the index of the one that it is a name of.
 abbrev pub uses : Scope → List CommonOf → Graph
 uses s commons = map (λ c. place_used (place_of commons) s c) commons

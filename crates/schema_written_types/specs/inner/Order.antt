@@ -1,4 +1,4 @@
--- In which order common types are written out.
+-- Defines the order in which common types are expanded.
 use Rattle.std.specs.Prelude.{ℕ, ◌+◌, List, [], ◌∷◌, ◌++◌, map, Option, Some, None, if◌then◌else◌}
 use Rattle.std.specs.Str.{bytes_eq}
 use Rattle.schema_types.specs.Qualified as qualified
@@ -6,11 +6,12 @@ use Rattle.schema_types.specs.Qualified.{Qualified, QualifiedFields}
 use Rattle.schema_types.specs.WrittenOut.{Declarations}
 use Rattle.schema_written_types.specs.Orders.{Graph}
 
+-- `listed o` is the list of an index, empty if there is none.
 abbrev pub listed : Option ℕ → List ℕ
 listed None = []
 listed (Some a) = a ∷ []
 
--- the places of the common types that a type names
+-- `places_named place r` are the indices of the common types that `r` names.
 unfoldable mutual
   pub places_named : (List ℕ → Option ℕ) → Qualified → List ℕ
   places_named place qualified.text = []
@@ -27,14 +28,15 @@ unfoldable mutual
   fields_name place qualified.no_fields = []
   fields_name place (qualified.field k r required rs) = places_named place r ++ fields_name place rs
 
--- the last place that declares a name, where ds stand from the place i on
+-- `place_from i ds q found` is the last index at which `ds`, from index `i` on, declare `q`.
 abbrev pub place_from : ℕ → Declarations → List ℕ → Option ℕ → Option ℕ
 place_from i [] q found = found
 place_from i (d ∷ ds) q found = place_from (i + 1) ds q (if bytes_eq d.0 q then Some i else found)
 
+-- `place_of commons q` is the last index at which `commons` declare `q`.
 abbrev pub place_of : Declarations → List ℕ → Option ℕ
 place_of commons q = place_from 0 commons q None
 
--- to the place of each common type those of the common types that it names
+-- `uses commons` has for each common type the indices of the common types that it names.
 abbrev pub uses : Declarations → Graph
 uses commons = map (λ d. places_named (place_of commons) d.1) commons

@@ -1,4 +1,4 @@
--- How the size of a type, and the type itself, come from what is known of the common types in it.
+-- Defines the size and the expansion of a type by what is known of its common types.
 use Rattle.std.specs.Prelude.{◌≡◌, ⊤, ◌&&◌, ◌+◌, min, max, [], ◌∷◌, Bool, true, Option, Some, None}
 use Rattle.std.specs.Prelude.{◌≤◌, option_map, is_some, option_and_then, nat_lt, if◌then◌else◌}
 use Rattle.schema_types.specs.Qualified as qualified
@@ -8,20 +8,23 @@ use Rattle.schema_types.specs.Cedar.{Cedar, CedarFields}
 use Rattle.schema_types.specs.WrittenOut.{Declarations}
 use Rattle.schema_written_types.specs.Knowledge.{Extent, KnownType, Knowledge}
 
+-- `leaf_size` is the size of a type without parts.
 abbrev pub leaf_size : Extent
 leaf_size = record { parts = 1; deep = 1 }
 
+-- `no_size` is the size of no types.
 abbrev pub no_size : Extent
 no_size = record { parts = 0; deep = 0 }
 
--- one node above these
+-- `above s` is the size of a node over these.
 abbrev pub above : Extent → Extent
 above s = record { parts = min (s.parts + 1) 10001; deep = min (s.deep + 1) 65 }
 
+-- `beside s t` is the size of two types side by side.
 abbrev pub beside : Extent → Extent → Extent
 beside s t = record { parts = min (s.parts + t.parts) 10001; deep = max s.deep t.deep }
 
--- the size of a type, where each name in it is known
+-- `size_in known r` is the size of `r`, if each name in it is known.
 unfoldable mutual
   pub size_in : Knowledge → Qualified → Option Extent
   size_in known qualified.text = Some leaf_size
@@ -34,13 +37,13 @@ unfoldable mutual
   size_in known (qualified.entity n) = Some leaf_size
   size_in known (qualified.common q) = option_map (λ k. k.size) (known q)
 
-  -- the size of these beside a total
+  -- the size of these, added to a total
   pub sizes_in : Knowledge → Extent → QualifiedFields → Option Extent
   sizes_in known total qualified.no_fields = Some total
   sizes_in known total (qualified.field k r required rs) =
       option_and_then (λ s. sizes_in known (beside total s) rs) (size_in known r)
 
--- the type that is meant, where each name in it has one at hand
+-- `written_in known r` is the expansion of `r`, if each name in it has one in the table.
 unfoldable mutual
   pub written_in : Knowledge → Qualified → Option Cedar
   written_in known qualified.text = Some cedar.text
@@ -58,44 +61,49 @@ unfoldable mutual
   fields_in known (qualified.field k r required rs) =
       option_and_then (λ t. option_map (cedar.field k t required) (fields_in known rs)) (written_in known r)
 
--- ---- what is not too large
+-- ---- types that are not too large
 
+-- `IsWithin s` holds if the size `s` is within the limits.
 abbrev pub IsWithin : Extent → Type 0
 IsWithin s = (s.parts ≤ 10000) × (s.deep ≤ 64)
 
+-- `fits s` tests that.
 abbrev pub fits : Extent → Bool
 fits s = nat_lt s.parts 10001 && nat_lt s.deep 65
 
--- the type was counted, and is not too large
+-- `IsCounted known r` holds if the size of `r` is known, and not too large.
 pub record IsCounted (known : Knowledge) (r : Qualified) : Type 0 where
   pub size : Extent
   pub is : size_in known r ≡ Some size
   pub small : fits size ≡ true
 
--- what is built of a type of this size
+-- `built_of known s r` is the expansion of `r`, of size `s`, unless it is too large.
 abbrev pub built_of : Knowledge → Extent → Qualified → Option Cedar
 built_of known s r = if fits s then written_in known r else None
 
 -- ---- tables
 
--- no further name can be written out
+-- `AreSettled known ds` holds if no further name can be expanded.
 abbrev pub AreSettled : Knowledge → Declarations → Type 0
 AreSettled known [] = ⊤
 AreSettled known (d ∷ ds) = (known d.0 ≡ None → size_in known d.1 ≡ None) × AreSettled known ds
 
+-- `all_known known ds` tests whether each name is known.
 abbrev pub all_known : Knowledge → Declarations → Bool
 all_known known [] = true
 all_known known (d ∷ ds) = is_some (known d.0) && all_known known ds
 
+-- `is_small_at o` tests whether a definition, if there is one, is not too large.
 abbrev pub is_small_at : Option KnownType → Bool
 is_small_at None = true
 is_small_at (Some k) = fits k.size
 
+-- `all_small known ds` tests this of each name.
 abbrev pub all_small : Knowledge → Declarations → Bool
 all_small known [] = true
 all_small known (d ∷ ds) = is_small_at (known d.0) && all_small known ds
 
--- each common type that the type names is known
+-- `HasSize known r` holds if each common type that `r` names is known.
 pub record HasSize (known : Knowledge) (r : Qualified) : Type 0 where
   pub size : Extent
   pub is : size_in known r ≡ Some size

@@ -1,4 +1,4 @@
--- `a is T && a in b`, whose sides ask of the same operand.
+-- Defines `a is T && a in b`, whose sides have the same operand.
 use Rattle.std.specs.Prelude.{◌≡◌, ℕ, List, MatchResult, Result}
 use Rattle.grammar_core.specs.declared.operator.Unary.TheVariants.{Is}
 use Rattle.grammar_core.specs.declared.operator.Binary.{Binary}
@@ -11,11 +11,11 @@ use Rattle.type_checker.specs.Views.{static_view}
 use Rattle.type_checker.specs.declared.fault.ExpressionFault.{ExpressionFault}
 use Rattle.type_checker.specs.declared.typed.Typed.{Typed}
 
--- there is a type, which may be true
+-- `MayHold r` holds if there is a type, which may be true.
 abbrev pub MayHold : Result Typed ExpressionFault → Type 0
 MayHold r = MatchResult r (λ t. MayBeTrue (static_view t.kind)) (λ f. ⊥)
 
--- the left tests whether an operand is of the type n, which may be true; literals settle nothing of what asks of the
--- same operand a and of b
+-- `AsksAgain env left test op a b n` holds if `left` tests whether `a` is of the type `n`, which may be true, and
+-- literals do not decide `op` on the same operand `a` and `b`.
 abbrev pub AsksAgain : Environment → Expr → Result Typed ExpressionFault → Binary → Expr → Expr → List ℕ → Type 0
 AsksAgain env left test op a b n = (left ≡ form.Unary (Is n) a) × MayHold test × IsUnsettled env op a b

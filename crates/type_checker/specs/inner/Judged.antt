@@ -1,5 +1,5 @@
--- What answers say of expressions, where memory was not refused: types with what is learned, or faults. `after` are the
--- pairs that are known then: those that were known before, wherever there is a type.
+-- Defines the contracts of typing, unless an allocation failed: types with gained capabilities, or errors. `after`
+-- are the capabilities that are known afterwards: the same as before, if there is a type.
 use Rattle.std.specs.Prelude.{◌≡◌, ◌≢◌, ◌⊎◌, List, [], ◌∷◌, ◌++◌, map, Vec, Result, Ok, Err, MatchResult}
 use Rattle.grammar_core.specs.declared.operator.UnaryCall.{UnaryCall}
 use Rattle.grammar_core.specs.declared.expr.Expr.{Expr}
@@ -24,74 +24,80 @@ use Rattle.type_checker.specs.declared.typed.Then.TheVariants as then
 use Rattle.type_capabilities.specs.Pairs.{pairs}
 use Rattle.std.specs.declared.alloc.Global.{Global}
 
--- the pairs of K are known, and the expression is judged
+-- `Judged env K x r after` holds if `r` is the judgement on `x`, where the capabilities `K` are known.
 abbrev pub Judged : Environment → Pairs → Expr → Result Typed ExpressionFault → Pairs → Type 0
 Judged env K x r after =
     MatchResult r (λ t. (after ≡ K) × Types env K x (static_view t.kind) (pairs t.learns.items))
     (λ f. f ≢ NoMemory → Faults env K x (fault_view f))
 
--- The same where those of L are known too; what is learned has them in front.
+-- `JudgedBehind env K L x r after` is the same where those of `L` are known too, which are in front of what is
+-- gained.
 abbrev pub JudgedBehind : Environment → Pairs → Pairs → Expr → Result Typed ExpressionFault → Pairs → Type 0
 JudgedBehind env K L x r after =
     MatchResult r (λ t. (after ≡ K) × ((M : Pairs) × Types env (K ++ L) x (static_view t.kind) M
     × (pairs t.learns.items ≡ L ++ M)))
     (λ f. f ≢ NoMemory → Faults env (K ++ L) x (fault_view f))
 
--- each of several, in order
+-- `JudgedEach env K xs r after` is the same for several, in order.
 abbrev pub JudgedEach : Environment → Pairs → List Expr
     → Result (Vec built.StaticType Global) ExpressionFault → Pairs → Type 0
 JudgedEach env K xs r after =
     MatchResult r (λ ts. (after ≡ K) × TypesEach env K xs (map static_view ts.items))
     (λ f. f ≢ NoMemory → FaultsEach env K xs (fault_view f))
 
--- one more, whose type is put behind the others
+-- `IsNext env K x ts us` holds if `us` are the types `ts`, followed by that of `x`.
 abbrev pub IsNext : Environment → Pairs → Expr → List built.StaticType → List built.StaticType → Type 0
 IsNext env K x ts us =
     (t : StaticType) × (L : Pairs) × Types env K x t L × (map static_view us ≡ map static_view ts ++ t ∷ [])
 
--- Types of which a set has the type that a set of these members has: a member that repeats the one before adds none.
+-- `MembersHave env K xs ts` holds if a set of types `ts` has the type of a set of the members `xs`: a member that
+-- repeats the previous one adds none.
 abbrev pub MembersHave : Environment → Pairs → List Expr → List StaticType → Type 0
 MembersHave env K xs ts =
     (us : List StaticType) × TypesEach env K xs us × (set_literal_type us ≡ set_literal_type ts)
 
+-- `JudgedMembers env K xs r after` holds if `r` has the types of the members `xs`, up to repeats, or an error of one.
 abbrev pub JudgedMembers : Environment → Pairs → List Expr
     → Result (Vec built.StaticType Global) ExpressionFault → Pairs → Type 0
 JudgedMembers env K xs r after =
     MatchResult r (λ ts. (after ≡ K) × MembersHave env K xs (map static_view ts.items))
     (λ f. f ≢ NoMemory → FaultsEach env K xs (fault_view f))
 
--- the test a has type s, and with what it learns b is typed
+-- `ThenTyped env K a b s t` holds if the test `a` has the type `s`, and `t` is the judgement on `b` with what it
+-- gains.
 abbrev pub ThenTyped : Environment → Pairs → Expr → Expr → StaticType → Typed → Type 0
 ThenTyped env K a b s t =
     (L : Pairs) × (M : Pairs) × Types env K a s L × Types env (K ++ L) b (static_view t.kind) M
     × (pairs t.learns.items ≡ L ++ M)
 
--- `if a` and its `then`
+-- `ThenIs env K a b t` holds if `t` is the judgement on `if a` and its `then`.
 abbrev pub ThenIs : Environment → Pairs → Expr → Expr → Then → Type 0
 ThenIs env K a b then.Skipped = (L : Pairs) × Types env K a false_type L
 ThenIs env K a b (then.Only t) = ThenTyped env K a b true_type t
 ThenIs env K a b (then.Both t) = ThenTyped env K a b boolean_type t
 
+-- `ThenJudged env K a b r after` holds if `r` is the judgement on `if a` and its `then`, or an error of it.
 abbrev pub ThenJudged : Environment → Pairs → Expr → Expr → Result Then ExpressionFault → Pairs → Type 0
 ThenJudged env K a b r after =
     MatchResult r (λ t. (after ≡ K) × ThenIs env K a b t)
     (λ f. f ≢ NoMemory → (c : Expr) → Faults env K (form.If a b c) (fault_view f))
 
--- a row's type, which learns nothing
+-- `IsRow row r` holds if `r` is a row's type, without gained capabilities.
 abbrev pub IsRow : Result built.StaticType ExpressionFault → Result Typed ExpressionFault → Type 0
 IsRow row r = MatchResult r (λ t. (row ≡ Ok t.kind) × (t.learns.items ≡ [])) (λ f. row ≡ Err f)
 
--- the type of the first, which learns those of L before its own
+-- `AddsLearned L typed r` holds if `r` is `typed`, with the capabilities `L` in front of what it gains.
 abbrev pub AddsLearned : List Pair → Result Typed ExpressionFault → Result Typed ExpressionFault → Type 0
 AddsLearned L typed r =
     MatchResult r (λ t. (u : Typed) × (typed ≡ Ok u) × (t.kind ≡ u.kind) × (t.learns.items ≡ L ++ u.learns.items))
     (λ f. f ≢ NoMemory → typed ≡ Err f)
 
+-- `IsBranch branch typed r` holds if `r` is the branch of `typed`, or its error.
 abbrev pub IsBranch : (Typed → Then) → Result Typed ExpressionFault → Result Then ExpressionFault → Type 0
 IsBranch branch typed r = MatchResult r (λ b. (u : Typed) × (typed ≡ Ok u) × (b ≡ branch u)) (λ f. typed ≡ Err f)
 
--- The type of a call with one operand, which is of type s: a literal of the extension that it reads, or a test of an
--- address.
+-- `CallTyped called x s r` holds if `r` is the type of a call on `x`, of type `s`: of a literal of the extension, or
+-- of a test of an IP address.
 abbrev pub CallTyped : UnaryCall → Expr → StaticType → Result built.StaticType ExpressionFault → Type 0
 CallTyped called x s r =
     MatchResult r
@@ -100,7 +106,7 @@ CallTyped called x s r =
     (TakesText called × ((t : StaticType) → ¬ ReadsLiteral called x t) × (fault_view f ≡ bad_extension_literal))
     ⊎ (TakesAddress called × (address_test_type s ≡ Err (fault_view f))))
 
--- the type of `has`, with what it learns
+-- `IsHasRow p row r` holds if `r` is the type of `has`, with what it gains.
 abbrev pub IsHasRow : learned.Pair → Result built.StaticType ExpressionFault → Result Typed ExpressionFault → Type 0
 IsHasRow p row r =
     MatchResult r (λ t. (row ≡ Ok t.kind) × (pairs t.learns.items ≡ has_learns (static_view t.kind) p))

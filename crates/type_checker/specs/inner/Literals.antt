@@ -1,9 +1,10 @@
--- The literal that a borrowed one is.
+-- Defines the literal of a borrowed one.
 use Rattle.grammar_core.specs.declared.leaf.Literal.{Literal}
 use Rattle.grammar_core.specs.declared.leaf.Literal.TheVariants as literal
 use Rattle.type_checker.specs.declared.literals.LiteralRef.{LiteralRef}
 use Rattle.type_checker.specs.declared.literals.LiteralRef.TheVariants.{Boolean, Long, Text, Entity}
 
+-- `literal_of l` is the literal `l` without its borrows.
 abbrev pub literal_of : LiteralRef → Literal
 literal_of (Boolean b) = literal.Boolean b
 literal_of (Long z) = literal.Long z

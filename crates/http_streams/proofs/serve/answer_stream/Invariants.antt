@@ -5,6 +5,7 @@ use Rattle.http_framing.specs.declared.TheConstants.{MAX_HEAD}
 use Rattle.http_streams.specs.declared.TheConstants.{MAX_READ, REPLY_ROOM}
 use Rattle.http_framing.specs.http_texts.declared.reply.TheConstants.{HEAD_ROOM}
 use Rattle.http_framing.specs.Request.{IsUnfinished, StaysUnfinished}
+use Rattle.http_streams.specs.Logs.{notes}
 use Rattle.http_streams.specs.Stream.{Serves}
 use Rattle.http_streams.proofs.serve.answer_stream.Given as goal
 
@@ -19,9 +20,12 @@ invariant-loop-turn g l = record {
   below : StaysUnfinished l.buffer.items l.needed;
   read_count : g.R.Source.failed l.reader ≡ g.R.Source.failed l.fn.reader;
   write_count : g.W.Sink.failed l.writer ≡ g.W.Sink.failed l.fn.writer;
+  log_count : g.L.Sink.failed l.log ≡ g.L.Sink.failed l.fn.log;
+  line_room : g.S.Service.line_room ≤ vec_capacity l.line;
   so_far : (bytes : List ℕ) × (out : List ℕ) × (n : ℕ)
       × Consumes (g.R.Source.left l.fn.reader) (g.R.Source.left l.reader) bytes
       × Appends (g.W.Sink.holds l.fn.writer) (g.W.Sink.holds l.writer) out
       × Serves g.S.Answers.answers n l.fn.service bytes l.buffer.items out l.service
-      × (l.turn ≤ length bytes);
+      × (l.turn ≤ length bytes)
+      × (m : ℕ) × Serves (notes g.S.Service.lines g.L.Sink.holds) m l.fn.log bytes l.buffer.items out l.log;
 }

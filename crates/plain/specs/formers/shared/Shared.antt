@@ -1,4 +1,4 @@
--- A type may hold itself through `Shared`: its one value is the child, and a pointer is all that lies round it.
+-- Defines that a type may contain itself through `Shared`: its one value is the child, inside a pointer.
 use mathlib.Core.Path.{refl}
 use mathlib.Core.Former.{Former, this, const, pair, via}
 use base.Stored.{gnil}
@@ -22,14 +22,14 @@ use Rattle.plain.specs.declared.shared.Shared.TheView.{view, invariant}
 use Rattle.plain.specs.contracts.shared.Shared as seen
 use Rattle.plain.specs.contracts.shared.Shared.TheInside as inner
 
--- what contracts see is the child itself
+-- contracts see the child itself
 abbrev pub the_former : Former {0} → Former {0}
 the_former child = child
 
 abbrev pub the_weighed : {child : Former {0}} → Weighed child → Weighed (the_former child)
 the_weighed weight = weight
 
--- the struct: where the child lies, and the child
+-- the struct: the address of the child, and the child
 abbrev layout : Former {0}
 layout = via (pair (const Ptr) this) Inside
     (λ X s. (s.owner.ptr, s.owner.value))

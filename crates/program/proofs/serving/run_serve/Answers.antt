@@ -12,29 +12,29 @@ use Rattle.program.proofs.RefusalLemmas.{refused_for}
 use Rattle.program.proofs.serving.run_serve.Goals as goal
 
 -- what is left to do once the schema is read
-abbrev over_schema : {R W : Type 0} → Source R → Sink W → ServeOptions → List ℕ → Course (Link R W)
-over_schema reader writer options schema =
-    ReadsIfNamed (option_map (λ s. s.now) options.state) (IsServedFrom reader writer options schema)
+abbrev over_schema : {R W G : Type 0} → Source R → Sink W → Sink G → ServeOptions → List ℕ → Course (Link R W)
+over_schema reader writer log options schema =
+    ReadsIfNamed (option_map (λ s. s.now) options.state) (IsServedFrom reader writer log options schema)
 
 pub returns-in-Err : goal.returns-in-Err
 returns-in-Err g c =
-    reads_none g.H.Host.does _ _ _ (over_schema g.H.Reader.Source g.H.Writer.Sink c.args.options.now) _ c.in-Err.ensures
+    reads_none g.H.Host.does _ _ _ (over_schema g.H.Reader.Source g.H.Writer.Sink g.H.Log.Sink c.args.options.now) _ c.in-Err.ensures
 
 pub returns-in-Err-read_if_named : goal.returns-in-Err-read_if_named
 returns-in-Err-read_if_named g c =
     let options = c.args.options.now in
-    reads_on g.H.Host.does _ _ _ _ _ (over_schema g.H.Reader.Source g.H.Writer.Sink options) _ c.in-Ok.ensures (
+    reads_on g.H.Host.does _ _ _ _ _ (over_schema g.H.Reader.Source g.H.Writer.Sink g.H.Log.Sink options) _ c.in-Ok.ensures (
     named_none g.H.Host.does _ _ (option_map (λ s. s.now) options.state)
-    (IsServedFrom g.H.Reader.Source g.H.Writer.Sink options c.in-Ok.bytes.items) _ c.in-Err-read_if_named.ensures)
+    (IsServedFrom g.H.Reader.Source g.H.Writer.Sink g.H.Log.Sink options c.in-Ok.bytes.items) _ c.in-Err-read_if_named.ensures)
 
 pub returns-in-Ok-begin : goal.returns-in-Ok-begin
 returns-in-Ok-begin g c =
     let options = c.args.options.now in
     let schema = c.in-Ok.bytes.items in
     let state = option_map (λ b. b.items) c.in-Ok-read_if_named.found in
-    reads_on g.H.Host.does _ _ _ _ _ (over_schema g.H.Reader.Source g.H.Writer.Sink options) _ c.in-Ok.ensures (
+    reads_on g.H.Host.does _ _ _ _ _ (over_schema g.H.Reader.Source g.H.Writer.Sink g.H.Log.Sink options) _ c.in-Ok.ensures (
     named_on g.H.Host.does _ _ _ (option_map (λ s. s.now) options.state) state
-    (IsServedFrom g.H.Reader.Source g.H.Writer.Sink options schema) _ c.in-Ok-read_if_named.ensures (
+    (IsServedFrom g.H.Reader.Source g.H.Writer.Sink g.H.Log.Sink options schema) _ c.in-Ok-read_if_named.ensures (
     runs_as g.H.Host.does _ _ _ _ (λ events told. inl (
       c.in-Ok-begin.site,
       rw (c.deref.ensures.value, c.lent.ensures) at c.in-Ok-begin.ensures.begun,
@@ -47,9 +47,9 @@ returns g c =
     let options = c.args.options.now in
     let schema = c.in-Ok.bytes.items in
     let state = option_map (λ b. b.items) c.in-Ok-read_if_named.found in
-    reads_on g.H.Host.does _ _ _ _ _ (over_schema g.H.Reader.Source g.H.Writer.Sink options) _ c.in-Ok.ensures (
+    reads_on g.H.Host.does _ _ _ _ _ (over_schema g.H.Reader.Source g.H.Writer.Sink g.H.Log.Sink options) _ c.in-Ok.ensures (
     named_on g.H.Host.does _ _ _ (option_map (λ s. s.now) options.state) state
-    (IsServedFrom g.H.Reader.Source g.H.Writer.Sink options schema) _ c.in-Ok-read_if_named.ensures (
+    (IsServedFrom g.H.Reader.Source g.H.Writer.Sink g.H.Log.Sink options schema) _ c.in-Ok-read_if_named.ensures (
     runs_as g.H.Host.does _ _ _ _ (λ events told.
     inr (refused_for (IsNotBegun schema state) c.in-Err-begin.refusal (exit_status c.report_refusal.result)
     (rw (c.deref.ensures.value, c.lent.ensures) at c.in-Err-begin.ensures.refused) events told))

@@ -1,52 +1,46 @@
-use Rattle.std.proofs.Common.{◌++◌, codes}
+use Rattle.std.proofs.Common.{ap, option_map, Option}
 use Rattle.std.specs.Process.{exit_status}
-use Rattle.program.specs.Courses.{Listens}
-use Rattle.program.specs.Serving.{AreAllServed, IsServedListening, most_of, own_stamps_line}
-use Rattle.program.proofs.EventLemmas.{warned_on, listens_on, listens_none, announces_on, announces_none}
-use Rattle.program.proofs.ServeLemmas.{serving_done, serving_cut}
+use Rattle.program_lines.specs.declared.line.ServeOptions.{ServeOptions}
+use Rattle.state_exchanges.specs.http_devices.declared.devices.Source.{Ghosts as Source}
+use Rattle.state_exchanges.specs.http_devices.declared.devices.Sink.{Ghosts as Sink}
+use Rattle.site_loading.specs.site_steps.SiteViews.{SiteView}
+use Rattle.program.specs.declared.device.Link.{Link}
+use Rattle.program.specs.Courses.{Course, Listens, OpensIfNamed}
+use Rattle.program.specs.Serving.{IsServedListening, own_stamps_line}
+use Rattle.program.proofs.EventLemmas.{none_opened, not_opened, opened_on, warned_on}
 use Rattle.program.proofs.serving.serve_begun.Goals as goal
+
+-- what is left to do once the log is opened
+abbrev over_log : {R W G : Type 0} → Source R → Sink W → Sink G → ServeOptions → SiteView → Option G → Course (Link R W)
+over_log reader writer log options site opened =
+    Listens options.listen.now options.idle (IsServedListening reader writer log options (record { site = site; log = opened }))
+
+pub returns-in-Ok : goal.returns-in-Ok
+returns-in-Ok g c =
+    let options = c.args.options.now in
+    let named = option_map (λ s. s.now) options.log in
+    let goes_on = over_log g.H.Reader.Source g.H.Writer.Sink g.H.Log.Sink options c.args.site in
+    warned_on g.H.Host.does _ _ _ _ (own_stamps_line options.site) (OpensIfNamed named goes_on)
+    (exit_status c.serve_listening.result) c.warn_of_own_stamps.ensures (
+    opened_on g.H.Host.does _ _ _ named c.in-Some.name.now c.in-Ok.log goes_on (exit_status c.serve_listening.result)
+    (ap (option_map (λ s. s.now)) c.in-Some.is) c.in-Ok.ensures c.serve_listening.ensures)
 
 pub returns-in-Err : goal.returns-in-Err
 returns-in-Err g c =
     let options = c.args.options.now in
-    let listening = IsServedListening g.H.Reader.Source g.H.Writer.Sink options c.args.site in
-    warned_on g.H.Host.does _ _ _ _ (own_stamps_line options.site) (Listens options.listen.now options.idle listening)
+    let named = option_map (λ s. s.now) options.log in
+    let goes_on = over_log g.H.Reader.Source g.H.Writer.Sink g.H.Log.Sink options c.args.site in
+    warned_on g.H.Host.does _ _ _ _ (own_stamps_line options.site) (OpensIfNamed named goes_on)
     (exit_status c.report_failure.result) c.warn_of_own_stamps.ensures (
-    listens_none g.H.Host.does _ _ _ options.listen.now options.idle listening (exit_status c.report_failure.result) c.in-Err.ensures c.report_failure.ensures)
+    not_opened g.H.Host.does _ _ _ named c.in-Some.name.now goes_on (exit_status c.report_failure.result)
+    (ap (option_map (λ s. s.now)) c.in-Some.is) c.in-Err.ensures c.report_failure.ensures)
 
-pub returns-in-Err-write_line : goal.returns-in-Err-write_line
-returns-in-Err-write_line g c =
+pub returns-in-None : goal.returns-in-None
+returns-in-None g c =
     let options = c.args.options.now in
-    let listening = IsServedListening g.H.Reader.Source g.H.Writer.Sink options c.args.site in
-    let all = AreAllServed g.H.Reader.Source g.H.Writer.Sink options.listen.now (most_of options.connections) c.args.site in
-    warned_on g.H.Host.does _ _ _ _ (own_stamps_line options.site) (Listens options.listen.now options.idle listening)
-    (exit_status c.from.result) c.warn_of_own_stamps.ensures (
-    listens_on g.H.Host.does _ _ _ options.listen.now options.idle listening (exit_status c.from.result) c.in-Ok.ensures (
-    announces_none g.H.Host.does _ _ (codes "listening " ++ options.listen.now) all (exit_status c.from.result)
-    (rw c.as_bytes.ensures.value at c.in-Err-write_line.ensures) c.from.ensures))
-
-pub returns-in-Ok-serve_all : goal.returns-in-Ok-serve_all
-returns-in-Ok-serve_all g c =
-    let options = c.args.options.now in
-    let listening = IsServedListening g.H.Reader.Source g.H.Writer.Sink options c.args.site in
-    let all = AreAllServed g.H.Reader.Source g.H.Writer.Sink options.listen.now (most_of options.connections) c.args.site in
-    warned_on g.H.Host.does _ _ _ _ (own_stamps_line options.site) (Listens options.listen.now options.idle listening)
-    (exit_status c.from-in-Ok-serve_all.result) c.warn_of_own_stamps.ensures (
-    listens_on g.H.Host.does _ _ _ options.listen.now options.idle listening (exit_status c.from-in-Ok-serve_all.result) c.in-Ok.ensures (
-    announces_on g.H.Host.does _ _ _ (codes "listening " ++ options.listen.now) all (exit_status c.from-in-Ok-serve_all.result)
-    (rw c.as_bytes.ensures.value at c.in_default.ensures) (
-    serving_done g.H.Host.does g.H.Reader.Source g.H.Writer.Sink options.listen.now _ _ _ _ (most_of options.connections) (exit_status c.from-in-Ok-serve_all.result)
-    (rw c.most_of-most.ensures at c.in-Ok-serve_all.ensures) c.from-in-Ok-serve_all.ensures)))
-
-pub returns : goal.returns
-returns g c =
-    let options = c.args.options.now in
-    let listening = IsServedListening g.H.Reader.Source g.H.Writer.Sink options c.args.site in
-    let all = AreAllServed g.H.Reader.Source g.H.Writer.Sink options.listen.now (most_of options.connections) c.args.site in
-    warned_on g.H.Host.does _ _ _ _ (own_stamps_line options.site) (Listens options.listen.now options.idle listening)
-    (exit_status c.report_failure-in-Err-serve_all.result) c.warn_of_own_stamps.ensures (
-    listens_on g.H.Host.does _ _ _ options.listen.now options.idle listening (exit_status c.report_failure-in-Err-serve_all.result) c.in-Ok.ensures (
-    announces_on g.H.Host.does _ _ _ (codes "listening " ++ options.listen.now) all (exit_status c.report_failure-in-Err-serve_all.result)
-    (rw c.as_bytes.ensures.value at c.in_default.ensures) (
-    serving_cut g.H.Host.does g.H.Reader.Source g.H.Writer.Sink options.listen.now _ _ _ _ _ (most_of options.connections)
-    (exit_status c.report_failure-in-Err-serve_all.result) (rw c.most_of-most.ensures at c.in-Err-serve_all.ensures) c.report_failure-in-Err-serve_all.ensures)))
+    let named = option_map (λ s. s.now) options.log in
+    let goes_on = over_log g.H.Reader.Source g.H.Writer.Sink g.H.Log.Sink options c.args.site in
+    warned_on g.H.Host.does _ _ _ _ (own_stamps_line options.site) (OpensIfNamed named goes_on)
+    (exit_status c.serve_listening-in-None.result) c.warn_of_own_stamps.ensures (
+    none_opened g.H.Host.does _ _ named goes_on (exit_status c.serve_listening-in-None.result)
+    (ap (option_map (λ s. s.now)) c.in-None.is) c.serve_listening-in-None.ensures)

@@ -34,3 +34,10 @@ returns-in-Ok-store_in-clause-err g c =
     let m = abstract_store c.in-Ok-store_in.store in
     let ready : IsReady c.args.schema.now (option_map (λ b. b.now) c.args.state) s m = record { schema_is = c.in-Ok.ensures.read; state_is = c.in-Ok-store_in.ensures.holds } in
     err_weaker c.pull_under.result (or_else (λ begun. (s, m, ready, begun))) c.pull_under.ensures.err
+
+pub returns-in-Ok-store_in-clause-too_large : goal.returns-in-Ok-store_in-clause-too_large
+returns-in-Ok-store_in-clause-too_large g c f told =
+    let s = schema_view c.in-Ok.schema in
+    let m = abstract_store c.in-Ok-store_in.store in
+    let ready : IsReady c.args.schema.now (option_map (λ b. b.now) c.args.state) s m = record { schema_is = c.in-Ok.ensures.read; state_is = c.in-Ok-store_in.ensures.holds } in
+    (s, m, ready, c.pull_under.ensures.too_large f told)

@@ -1,0 +1,3 @@
+pub mod Blamed
+pub mod Laws
+pub mod Places

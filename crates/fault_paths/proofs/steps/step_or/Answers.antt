@@ -1,0 +1,28 @@
+use Rattle.std.proofs.Common.{sym, ap}
+use Rattle.grammar_core.specs.declared.expr.Expr.TheVariants as form
+use Rattle.std.proofs.lemmas.Result.{IfOk-weaker}
+use Rattle.type_checker.specs.Views.{typing_environment}
+use Rattle.type_checker.specs.type_capabilities.Pairs.{pairs}
+use Rattle.fault_paths.proofs.Finding.{some_found, none_found}
+use Rattle.fault_paths.proofs.Stepping.{or_at, or_down_left}
+use Rattle.fault_paths.proofs.steps.step_or.Goals as goal
+
+pub returns-in-Some : goal.returns-in-Some
+returns-in-Some c =
+    let E = typing_environment c.args.env in
+    let K = pairs c.args.known.now.items in
+    let one = c.expressions_have_one_judgement.ensures in
+    let a = c.get-left.result.now in
+    IfOk-weaker c.from_or.result _ _
+    (λ st h. or_at E K _ st c.get-left.ensures c.get-right.ensures (h a (some_found E a K c.in-Some.is c.in_ok-typed.ensures)))
+    c.from_or.ensures
+
+pub returns-in-None : goal.returns-in-None
+returns-in-None c =
+    let E = typing_environment c.args.env in
+    let K = pairs c.args.known.now.items in
+    let one = c.expressions_have_one_judgement.ensures in
+    let r = c.args.right.now in
+    let y = c.get-left.result in
+    or_down_left one E K (form.Or c.args.left.now r) y r (ap (λ z. form.Or z r) (sym c.get-left.ensures))
+    (none_found E y.now K c.in-None.is c.in_ok-typed.ensures).1

@@ -1,0 +1,24 @@
+-- Defines what is told of a refused policy: the fault, the environment, and what is blamed in it.
+-- Source: docs/codes.md; Blamed.antt.
+-- Rules of this product: the fault is that of `check`; the environment, by its index, the first one that has a fault.
+use Rattle.std.specs.Prelude.{◌≡◌, List}
+use Rattle.grammar_core.specs.declared.expr.Expr.{Expr}
+use Rattle.type_checker.specs.schema.Schemas.{StatedSchema}
+use Rattle.validator.specs.typing.Environment.{Environment, ExpressionFault}
+use Rattle.validator.specs.Faults.{of_typing}
+use Rattle.validator.specs.Passing.{environments_of, FirstFaulty}
+use Rattle.fault_paths.specs.FirstBlamed.{environment_blamed, blamed_there}
+use Rattle.fault_paths.specs.Views.{place_view}
+use Rattle.fault_paths.specs.declared.blaming.TypeBlame.{TypeBlame}
+
+-- The expression is at fault in some of these environments, and what is told is what each derivation says of the first
+-- fault: there is one, and no two say otherwise.
+pub record IsFirstBlame (envs : List Environment) (x : Expr) (b : TypeBlame) : Type 0 where
+  pub fault : ExpressionFault
+  pub first : FirstFaulty x envs fault
+  pub code : b.fault ≡ of_typing fault
+  pub environment : (n : ExpressionFault) (h : FirstFaulty x envs n) → environment_blamed h ≡ b.environment
+  pub place : (n : ExpressionFault) (h : FirstFaulty x envs n) → blamed_there h ≡ place_view b.place
+
+abbrev pub IsTypeBlame : StatedSchema → Expr → TypeBlame → Type 0
+IsTypeBlame s x b = IsFirstBlame (environments_of s) x b

@@ -1,0 +1,9 @@
+-- Defines what the places at hand are.
+-- Source: Blamed.antt.
+use Rattle.std.specs.Prelude.{map}
+use Rattle.type_checker.specs.Views.{static_view}
+use Rattle.fault_paths.specs.declared.descending.Place.{Place}
+use Rattle.expression_paths.specs.Blamed.{Blame}
+
+abbrev pub place_view : Place → Blame
+place_view p = record { path = p.path.items; form = p.form.now; types = map static_view p.types.items }

@@ -1,0 +1,35 @@
+-- What is told of one environment.
+use Rattle.std.specs.Prelude.{◌≡◌, ◌≢◌, ℕ, [], Option, Some, None, Result, Ok, Err, MatchOption}
+use Rattle.grammar_core.specs.declared.expr.Expr.{Expr}
+use Rattle.validator.specs.declared.fault.TypeFault.{TypeFault}
+use Rattle.validator.specs.typing.Types.{StaticType}
+use Rattle.validator.specs.typing.Environment.{Environment, ExpressionFault}
+use Rattle.validator.specs.typing.Faults.{Faults}
+use Rattle.validator.specs.Faults.{of_typing, of_types}
+use Rattle.type_checker.specs.declared.typed.Typed.{Typed}
+use Rattle.type_checker.specs.declared.fault.ExpressionFault as at_hand
+use Rattle.type_checker.specs.declared.fault.ExpressionFault.TheVariants.{NoMemory}
+use Rattle.validator.specs.Passing.{HasType}
+use Rattle.expression_paths.specs.Blamed.{blamed}
+use Rattle.fault_paths.specs.Views.{place_view}
+use Rattle.fault_paths.specs.declared.blaming.TypeBlame.{TypeBlame}
+
+abbrev pub IsFault : Environment → Expr → TypeFault → Type 0
+IsFault env x f = (n : ExpressionFault) × (f ≡ of_typing n) × Faults env [] x n
+
+-- the fault of an expression, or that it has a type
+abbrev pub IsFaultyIn : Environment → Expr → Option TypeFault → Type 0
+IsFaultyIn env x o = MatchOption o ((t : StaticType) × HasType x t env) (IsFault env x)
+
+abbrev pub IsBlamedAt : Environment → ℕ → Expr → TypeBlame → Type 0
+IsBlamedAt env i x b = (b.environment ≡ i) × IsFault env x b.fault
+    × ((n : ExpressionFault) (h : Faults env [] x n) → blamed h ≡ place_view b.place)
+
+abbrev pub IsBlamedIn : Environment → ℕ → Expr → Option TypeBlame → Type 0
+IsBlamedIn env i x o = MatchOption o ((t : StaticType) × HasType x t env) (IsBlamedAt env i x)
+
+-- the fault that is told, or that there is a type
+abbrev pub IsToldIn : {B : Type 0} → Result Typed at_hand.ExpressionFault → Result (Option TypeFault) B → Type 0
+IsToldIn judged (Ok None) = (t : Typed) × (judged ≡ Ok t)
+IsToldIn judged (Ok (Some g)) = (f : at_hand.ExpressionFault) × (f ≢ NoMemory) × (judged ≡ Err f) × (g ≡ of_types f)
+IsToldIn judged (Err e) = Unit {0}

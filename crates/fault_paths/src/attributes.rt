@@ -1,0 +1,41 @@
+//! Why an attribute cannot be read: whether it is declared.
+ghost use Rattle.std.specs.Prelude.{◌≡◌, ◌↔◌, IsTrue, IfOk, true, Ok};
+ghost use Rattle.type_checker.specs.schema.Views.{schema_view, environment_view};
+ghost use Rattle.type_checker.specs.FromSchemas.{typing_environment_of};
+ghost use Rattle.type_checker.specs.Views.{static_view};
+ghost use Rattle.validator.specs.typing.Types as types;
+ghost use Rattle.validator.specs.typing.Rows.{field_type_of};
+
+use plain::NoMemory;
+use type_checker::{
+    Environment, ExpressionFault, Schema, StaticType, TypingEnvironment, field_type,
+};
+
+/// Returns whether an attribute of a type is declared, required or optional: whether it may be read where it is known
+/// to be present. Where it is not, no `has` before it helps.
+///
+/// # Errors
+///
+/// * `NoMemory`: the attribute's type is held by as many as can be counted.
+pub fn is_declared<'a>(
+    schema: &'a Schema,
+    environment: &'a Environment,
+    owner: &StaticType<'a>,
+    name: &str,
+) -> Result<bool, NoMemory>
+    ensures { let E = typing_environment_of (schema_view schema.entry.now) (environment_view environment.entry.now) in
+        IfOk result (λ b. IsTrue b
+        ↔ ((t : types.StaticType) × (field_type_of E true name.now (static_view owner.now) ≡ Ok t))) }
+{
+    let env = TypingEnvironment::new(schema, environment);
+    match field_type(env, true, name, owner) {
+        Ok(kind) => {
+            drop(kind);
+            Ok(true)
+        }
+        Err(fault) => match fault {
+            ExpressionFault::NoMemory => Err(NoMemory),
+            _ => Ok(false),
+        },
+    }
+}

@@ -1,0 +1,117 @@
+//! The first environment in which a policy is at fault, and what the fault blames there.
+ghost use Rattle.std.specs.Prelude.{◌≡◌, IfOk, MatchOption, All};
+ghost use Rattle.type_checker.specs.policy_grammar.Whole.{expression_of};
+ghost use Rattle.type_checker.specs.schema.Views.{schema_view, environment_view};
+ghost use Rattle.type_checker.specs.Views.{typing_environment};
+ghost use Rattle.type_checker.specs.FromSchemas.{typing_environment_of};
+ghost use Rattle.validator.specs.Passing.{environments_of, HasBooleanType};
+ghost use Rattle.fault_paths.specs.Told.{IsTypeBlame};
+ghost use Rattle.fault_paths.specs.inner.Judging.{IsBlamedIn, IsFaultyIn, IsToldIn};
+
+use crate::descending::{Place, descend};
+use grammar_core::Expr;
+use plain::NoMemory;
+use std::alloc::Global;
+use type_checker::{
+    Environment, ExpressionFault, Pair, Policy, Schema, Typed, TypingEnvironment,
+    expressions_have_one_judgement, judge_behind,
+};
+use validator::TypeFault;
+
+/// What a fault of typing blames.
+#[derive(Drop)]
+pub struct TypeBlame<'a> {
+    /// The fault, as [`check`](validator::check) gives it.
+    pub fault: TypeFault,
+    /// The index of the first environment of the schema that has a fault.
+    pub environment: usize,
+    /// What is blamed in it.
+    pub place: Place<'a>,
+}
+
+/// Returns the fault that is told, or `None` where there is a type.
+fn told(judged: Result<Typed<'_>, ExpressionFault>) -> Result<Option<TypeFault>, NoMemory>
+    ensures { IsToldIn judged.entry result }
+{
+    match judged {
+        Ok(typed) => {
+            drop(typed);
+            Ok(None)
+        }
+        Err(fault) => match fault {
+            ExpressionFault::NoMemory => Err(NoMemory),
+            _ => Ok(Some(TypeFault::from(fault))),
+        },
+    }
+}
+
+/// Returns why an expression has no type where nothing is known, or `None` where it has one.
+fn fault_in<'a>(
+    alloc: Global,
+    env: TypingEnvironment<'a>,
+    whole: &'a Expr,
+) -> Result<Option<TypeFault>, NoMemory>
+    ensures { IfOk result (IsFaultyIn (typing_environment env.entry) whole.entry.now) }
+{
+    let nothing: Vec<Pair<'a>> = Vec::new(alloc);
+    told(judge_behind(alloc, env, nothing.as_slice(), whole))
+}
+
+/// Returns the fault in one environment with what it blames, or `None` where there is none.
+fn blame_in<'a>(
+    alloc: Global,
+    schema: &'a Schema,
+    environment: &'a Environment,
+    at: usize,
+    whole: &'a Expr,
+) -> Result<Option<TypeBlame<'a>>, NoMemory>
+    ensures { IfOk result (IsBlamedIn (typing_environment_of (schema_view schema.entry.now)
+        (environment_view environment.entry.now)) at whole.entry.now) }
+{
+    let env = TypingEnvironment::new(schema, environment);
+    match fault_in(alloc, env, whole)? {
+        Some(fault) => {
+            let place = descend(alloc, env, whole)?;
+            Ok(Some(TypeBlame {
+                fault,
+                environment: at,
+                place,
+            }))
+        }
+        None => Ok(None),
+    }
+}
+
+/// Returns what the first fault of typing of a policy blames, in the first environment that has one, or `None` where
+/// the policy has a boolean type in each environment.
+///
+/// `whole` is the policy's expression, as [`expression_of`](validator::expression_of) builds it: paths begin at its
+/// root.
+///
+/// It judges the policy once in each environment up to the first that has a fault; there, as often again as the blamed
+/// expression is deep.
+///
+/// # Errors
+///
+/// * `NoMemory`: an allocation failed.
+pub fn blame_type<'a>(
+    alloc: Global,
+    schema: &'a Schema,
+    policy: &Policy,
+    whole: &'a Expr,
+) -> Result<Option<TypeBlame<'a>>, NoMemory>
+    requires { whole.now ≡ expression_of policy.now }
+    ensures { let s = schema_view schema.entry.now in IfOk result (λ blame. MatchOption blame
+        (All (HasBooleanType (expression_of policy.now)) (environments_of s))
+        (IsTypeBlame s (expression_of policy.now))) }
+{
+    expressions_have_one_judgement();
+    let environments = schema.environments();
+    for (at, environment) in environments.iter().enumerate() {
+        match blame_in(alloc, schema, environment, at, whole)? {
+            Some(blame) => return Ok(Some(blame)),
+            None => {}
+        }
+    }
+    Ok(None)
+}

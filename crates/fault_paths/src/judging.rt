@@ -1,0 +1,76 @@
+//! Expressions judged on the way down.
+ghost use Rattle.std.specs.Prelude.{◌≡◌, ◌++◌, IfOk};
+ghost use Rattle.type_checker.specs.Views.{typing_environment};
+ghost use Rattle.type_checker.specs.type_capabilities.Pairs.{pairs};
+ghost use Rattle.fault_paths.specs.inner.Steps.{IsFound, IsFoundIn};
+
+use grammar_core::Expr;
+use plain::NoMemory;
+use std::alloc::Global;
+use type_checker::{ExpressionFault, Pair, Typed, TypingEnvironment, judge_behind};
+
+/// Returns the type that was found, or `None` where there is none.
+fn found<'a>(judged: Result<Typed<'a>, ExpressionFault>) -> Result<Option<Typed<'a>>, NoMemory>
+    ensures { IsFoundIn judged.entry result }
+{
+    match judged {
+        Ok(typed) => Ok(Some(typed)),
+        Err(fault) => match fault {
+            ExpressionFault::NoMemory => Err(NoMemory),
+            _ => Ok(None),
+        },
+    }
+}
+
+/// Returns the type of an expression where these pairs are known, or `None` where it has none.
+pub(crate) fn judge<'a>(
+    alloc: Global,
+    env: TypingEnvironment<'a>,
+    known: &Vec<Pair<'a>>,
+    expr: &'a Expr,
+) -> Result<Option<Typed<'a>>, NoMemory>
+    ensures { IfOk result (λ found. IsFound (typing_environment env.entry) (pairs known.now.items)
+        expr.entry.now found) }
+{
+    found(judge_behind(alloc, env, known.as_slice(), expr))
+}
+
+/// Puts what is learned behind what is known.
+pub(crate) fn know_too<'a>(
+    known: &mut Vec<Pair<'a>>,
+    learns: &Vec<Pair<'a>>,
+) -> Result<(), NoMemory>
+    ensures { IfOk result (λ _. known.new.items ≡ known.old.items ++ learns.now.items) }
+{
+    known.extend_from_slice(learns.as_slice())?;
+    Ok(())
+}
+
+/// Returns both: what is known, and behind it what is learned.
+fn both<'a>(
+    alloc: Global,
+    known: &Vec<Pair<'a>>,
+    learns: &Vec<Pair<'a>>,
+) -> Result<Vec<Pair<'a>>, NoMemory>
+    ensures { IfOk result (λ both. both.items ≡ known.now.items ++ learns.now.items) }
+{
+    let mut both = Vec::new(alloc);
+    know_too(&mut both, known)?;
+    know_too(&mut both, learns)?;
+    Ok(both)
+}
+
+/// Returns the type of an expression where both are known, or `None` where it has none.
+pub(crate) fn judge_with<'a>(
+    alloc: Global,
+    env: TypingEnvironment<'a>,
+    known: &Vec<Pair<'a>>,
+    learns: &Vec<Pair<'a>>,
+    expr: &'a Expr,
+) -> Result<Option<Typed<'a>>, NoMemory>
+    ensures { IfOk result (λ found. IsFound (typing_environment env.entry)
+        (pairs known.now.items ++ pairs learns.now.items) expr.entry.now found) }
+{
+    let known = both(alloc, known, learns)?;
+    judge(alloc, env, &known, expr)
+}

@@ -1,0 +1,163 @@
+//! The first name of a policy that the schema does not know, and where it stands.
+ghost use Rattle.std.specs.Prelude.{[], ◌∷◌, IfOk, MatchOption, All};
+ghost use Rattle.type_checker.specs.schema.Views.{schema_view};
+ghost use Rattle.validator.specs.Names.{names_in, entity, tested_type, literal_names, operator_names};
+ghost use Rattle.validator.specs.Unknown.{IsKnown};
+ghost use Rattle.fault_paths.specs.NamesAt.{IsNameBlame};
+ghost use Rattle.fault_paths.specs.inner.Naming.{AreNames, IsOwnName, IsNameFound};
+
+use expression_paths::operand;
+use grammar_core::{Expr, Literal, Unary};
+use plain::NoMemory;
+use std::alloc::Global;
+use type_checker::Schema;
+use validator::{TypeFault, unknown_entity, unknown_tested_type};
+use values::{EntityUid, TypeName};
+
+/// A name that a schema does not know.
+#[derive(Clone, Copy)]
+pub enum UnknownName<'a> {
+    /// A type behind `is`.
+    TestedType(&'a TypeName),
+    /// An entity that is written out.
+    Entity(&'a EntityUid),
+}
+
+/// An unknown name with its fault.
+#[derive(Clone, Copy)]
+pub(crate) struct NameFault<'a> {
+    pub(crate) name: UnknownName<'a>,
+    pub(crate) fault: TypeFault,
+}
+
+/// The first name of a policy that the schema does not know.
+#[derive(Drop)]
+pub struct NameBlame<'a> {
+    /// The fault, as [`check`](validator::check) gives it.
+    pub fault: TypeFault,
+    /// The name.
+    pub name: UnknownName<'a>,
+    /// The indexes of operands that lead from the whole expression to the form that has the name.
+    pub path: Vec<usize>,
+}
+
+/// Returns an entity that is written out, if the schema does not know it.
+fn entity_fault<'a>(schema: &Schema, uid: &'a EntityUid) -> Option<NameFault<'a>>
+    ensures { AreNames (schema_view schema.now) (entity uid.entry.now ∷ []) result }
+{
+    match unknown_entity(schema, uid) {
+        Some(fault) => Some(NameFault {
+            name: UnknownName::Entity(uid),
+            fault,
+        }),
+        None => None,
+    }
+}
+
+/// Returns a type behind `is`, if the schema does not know it.
+fn type_fault<'a>(schema: &Schema, name: &'a TypeName) -> Option<NameFault<'a>>
+    ensures { AreNames (schema_view schema.now) (tested_type name.entry.now ∷ []) result }
+{
+    match unknown_tested_type(schema, name) {
+        Some(fault) => Some(NameFault {
+            name: UnknownName::TestedType(name),
+            fault,
+        }),
+        None => None,
+    }
+}
+
+/// Returns the entity of a literal, if the schema does not know it.
+fn literal_fault<'a>(schema: &Schema, literal: &'a Literal) -> Option<NameFault<'a>>
+    ensures { AreNames (schema_view schema.now) (literal_names literal.entry.now) result }
+{
+    match literal {
+        Literal::Entity(uid) => entity_fault(schema, uid),
+        Literal::Boolean(_) => None,
+        Literal::Long(_) => None,
+        Literal::Text(_) => None,
+    }
+}
+
+/// Returns the type of an operator, if the schema does not know it.
+fn operator_fault<'a>(schema: &Schema, operator: &'a Unary) -> Option<NameFault<'a>>
+    ensures { AreNames (schema_view schema.now) (operator_names operator.entry.now) result }
+{
+    match operator {
+        Unary::Is(name) => type_fault(schema, name),
+        Unary::Not => None,
+        Unary::Negate => None,
+        Unary::Like(_) => None,
+    }
+}
+
+/// Returns the name that a form has itself, if the schema does not know it.
+fn own_name<'a>(schema: &Schema, expr: &'a Expr) -> Option<NameFault<'a>>
+    ensures { IsOwnName (schema_view schema.now) expr.entry.now result }
+{
+    match expr {
+        Expr::Literal(literal) => literal_fault(schema, literal),
+        Expr::Unary(operator, _) => operator_fault(schema, operator),
+        Expr::Variable(_) => None,
+        Expr::If(_, _, _) => None,
+        Expr::And(_, _) => None,
+        Expr::Or(_, _) => None,
+        Expr::Binary(_, _, _) => None,
+        Expr::Field(_, _) => None,
+        Expr::Has(_, _) => None,
+        Expr::Set(_) => None,
+        Expr::Record(_) => None,
+        Expr::UnaryCall(_, _) => None,
+        Expr::BinaryCall(_, _, _) => None,
+    }
+}
+
+/// Returns the first name of an expression that the schema does not know; the path to it is put behind what stands in
+/// `path`, which else stays as it is.
+fn find<'a>(
+    schema: &Schema,
+    expr: &'a Expr,
+    path: &mut Vec<usize>,
+) -> Result<Option<NameFault<'a>>, NoMemory>
+    ensures { IfOk result (IsNameFound (schema_view schema.now) expr.entry.now path.old.items path.new.items) }
+{
+    let mut at = 0usize;
+    'each: loop {
+        match operand(expr, at) {
+            Some(next) => {
+                path.push(at)?;
+                let found = find(schema, next, path)?;
+                if found.is_some() {
+                    return Ok(found);
+                }
+                let _ = path.pop();
+                at += 1;
+            }
+            None => return Ok(own_name(schema, expr)),
+        }
+    }
+}
+
+/// Returns the first name of an expression that the schema does not know, or `None` where it knows all.
+///
+/// # Errors
+///
+/// * `NoMemory`: an allocation failed.
+pub fn blame_name<'a>(
+    alloc: Global,
+    schema: &Schema,
+    whole: &'a Expr,
+) -> Result<Option<NameBlame<'a>>, NoMemory>
+    ensures { let s = schema_view schema.now in IfOk result (λ blame. MatchOption blame
+        (All (IsKnown s) (names_in whole.entry.now)) (IsNameBlame s whole.entry.now)) }
+{
+    let mut path = Vec::new(alloc);
+    match find(schema, whole, &mut path)? {
+        Some(found) => Ok(Some(NameBlame {
+            fault: found.fault,
+            name: found.name,
+            path,
+        })),
+        None => Ok(None),
+    }
+}

@@ -1,0 +1,66 @@
+//! What is told of a refused policy.
+ghost use Rattle.std.specs.Prelude.{◌≡◌, All, IfOk, MatchOption};
+ghost use Rattle.type_checker.specs.policy_grammar.Whole.{expression_of};
+ghost use Rattle.type_checker.specs.schema.Views.{schema_view};
+ghost use Rattle.validator.specs.Names.{names_in};
+ghost use Rattle.validator.specs.Unknown.{IsKnown};
+ghost use Rattle.validator.specs.Passing.{Passes};
+ghost use Rattle.fault_paths.specs.Refused.{IsBlame};
+
+use crate::blaming::{TypeBlame, blame_type};
+use crate::names::{NameBlame, blame_name};
+use grammar_core::Expr;
+use plain::NoMemory;
+use std::alloc::Global;
+use type_checker::{Policy, Schema};
+
+/// What a policy is refused for, and where it stands.
+#[derive(Drop)]
+pub enum PolicyBlame<'a> {
+    /// A name that the schema does not know (40, 41).
+    Name(NameBlame<'a>),
+    /// A fault of typing (42 to 46).
+    Typing(TypeBlame<'a>),
+}
+
+/// Returns what the first fault of typing of a policy blames, all names of which are known.
+fn by_types<'a>(
+    alloc: Global,
+    schema: &'a Schema,
+    policy: &Policy,
+    whole: &'a Expr,
+) -> Result<Option<PolicyBlame<'a>>, NoMemory>
+    requires { whole.now ≡ expression_of policy.now }
+    ensures { let s = schema_view schema.entry.now in All (IsKnown s) (names_in whole.entry.now)
+        → IfOk result (λ blame. MatchOption blame (Passes s policy.now) (IsBlame s policy.now)) }
+{
+    match blame_type(alloc, schema, policy, whole)? {
+        Some(blame) => Ok(Some(PolicyBlame::Typing(blame))),
+        None => Ok(None),
+    }
+}
+
+/// Returns what a policy is refused for, with its place, or `None` where the policy passes.
+///
+/// `whole` is the policy's expression, as [`expression_of`](validator::expression_of) builds it: paths begin at its
+/// root.
+/// The fault is the one that [`check`](validator::check) gives.
+///
+/// # Errors
+///
+/// * `NoMemory`: an allocation failed.
+pub fn blame<'a>(
+    alloc: Global,
+    schema: &'a Schema,
+    policy: &Policy,
+    whole: &'a Expr,
+) -> Result<Option<PolicyBlame<'a>>, NoMemory>
+    requires { whole.now ≡ expression_of policy.now }
+    ensures { let s = schema_view schema.entry.now in IfOk result (λ blame. MatchOption blame
+        (Passes s policy.now) (IsBlame s policy.now)) }
+{
+    match blame_name(alloc, schema, whole)? {
+        Some(name) => Ok(Some(PolicyBlame::Name(name))),
+        None => by_types(alloc, schema, policy, whole),
+    }
+}

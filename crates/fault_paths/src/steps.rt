@@ -1,0 +1,329 @@
+//! One step down towards the blamed expression.
+ghost use Rattle.std.specs.Prelude.{◌≡◌, ◌∷◌, [], ◌++◌, IfOk, Some, None};
+ghost use Rattle.grammar_core.specs.declared.expr.Expr.{Expr};
+ghost use Rattle.grammar_core.specs.declared.expr.Expr.TheVariants as form;
+ghost use Rattle.validator.specs.typing.Types as types;
+ghost use Rattle.validator.specs.typing.Types.{false_type, IsBoolean};
+ghost use Rattle.validator.specs.typing.Learned.{Pairs};
+ghost use Rattle.validator.specs.typing.Typing.{Types};
+ghost use Rattle.type_checker.specs.Views.{static_view, typing_environment};
+ghost use Rattle.type_checker.specs.type_capabilities.Pairs.{pairs};
+ghost use Rattle.fault_paths.specs.inner.Steps.{IsStep, IsStepAmong, StopsAt, StopsAtItself, KeepsType};
+
+use crate::judging::{judge, judge_with, know_too};
+use expression_paths::operand;
+use grammar_core::Expr;
+use plain::{NoMemory, Shared};
+use std::alloc::Global;
+use type_checker::{Pair, StaticType, Typed, TypingEnvironment, expressions_have_one_judgement};
+
+/// A step from a form that is at fault.
+#[derive(Drop)]
+pub(crate) enum Step<'a> {
+    /// Down to the operand of this index, which is at fault.
+    Down(usize, &'a Expr),
+    /// The form's demand is not met: the operand of this index is blamed, or the form, and these are the types.
+    Stop(Option<usize>, Vec<StaticType<'a>>),
+}
+
+/// Stops at an operand that is no boolean.
+fn stop_at<'a>(alloc: Global, at: usize, kind: StaticType<'a>) -> Result<Step<'a>, NoMemory>
+    ensures { IfOk result (StopsAt at kind.entry) }
+{
+    let mut types = Vec::new(alloc);
+    types.push(kind)?;
+    Ok(Step::Stop(Some(at), types))
+}
+
+/// Stops at branches without a common type.
+fn stop_at_branches<'a>(
+    alloc: Global,
+    then: StaticType<'a>,
+    other: StaticType<'a>,
+) -> Result<Step<'a>, NoMemory>
+    ensures { IfOk result (StopsAtItself then.entry other.entry) }
+{
+    let mut types = Vec::with_capacity(alloc, 2)?;
+    types.push(then)?;
+    types.push(other)?;
+    Ok(Step::Stop(None, types))
+}
+
+/// Returns the step from `&&` behind its left.
+fn from_right_of_and<'a>(
+    alloc: Global,
+    env: TypingEnvironment<'a>,
+    known: &mut Vec<Pair<'a>>,
+    learns: Vec<Pair<'a>>,
+    right: &'a Expr,
+) -> Result<Step<'a>, NoMemory>
+    ensures { let E = typing_environment env.entry in let K = pairs known.old.items in IfOk result (λ step.
+        (a : Expr) (s : types.StaticType) → Types E K a s (pairs learns.entry.items) → IsBoolean s
+        → IsStep E K (form.And a right.entry.now) (pairs known.new.items) step) }
+{
+    expressions_have_one_judgement();
+    match judge_with(alloc, env, known, &learns, right)? {
+        Some(typed) => stop_at(alloc, 1, typed.kind),
+        None => {
+            know_too(known, &learns)?;
+            Ok(Step::Down(1, right))
+        }
+    }
+}
+
+/// Returns the step from `&&`, whose left has a type.
+fn from_and<'a>(
+    alloc: Global,
+    env: TypingEnvironment<'a>,
+    known: &mut Vec<Pair<'a>>,
+    left: Typed<'a>,
+    right: &'a Expr,
+) -> Result<Step<'a>, NoMemory>
+    ensures { let E = typing_environment env.entry in let K = pairs known.old.items in IfOk result (λ step.
+        (a : Expr) → Types E K a (static_view left.entry.kind) (pairs left.entry.learns.items)
+        → IsStep E K (form.And a right.entry.now) (pairs known.new.items) step) }
+{
+    expressions_have_one_judgement();
+    match left.kind.as_boolean() {
+        Some(_) => from_right_of_and(alloc, env, known, left.learns, right),
+        None => stop_at(alloc, 0, left.kind),
+    }
+}
+
+/// Returns the step from `||` behind its left.
+fn from_right_of_or<'a>(
+    alloc: Global,
+    env: TypingEnvironment<'a>,
+    known: &Vec<Pair<'a>>,
+    right: &'a Expr,
+) -> Result<Step<'a>, NoMemory>
+    ensures { let E = typing_environment env.entry in let K = pairs known.now.items in IfOk result (λ step.
+        (a : Expr) (s : types.StaticType) (L : Pairs) → Types E K a s L → IsBoolean s
+        → IsStep E K (form.Or a right.entry.now) K step) }
+{
+    expressions_have_one_judgement();
+    match judge(alloc, env, known, right)? {
+        Some(typed) => stop_at(alloc, 1, typed.kind),
+        None => Ok(Step::Down(1, right)),
+    }
+}
+
+/// Returns the step from `||`, whose left has a type.
+fn from_or<'a>(
+    alloc: Global,
+    env: TypingEnvironment<'a>,
+    known: &Vec<Pair<'a>>,
+    left: Typed<'a>,
+    right: &'a Expr,
+) -> Result<Step<'a>, NoMemory>
+    ensures { let E = typing_environment env.entry in let K = pairs known.now.items in IfOk result (λ step.
+        (a : Expr) → Types E K a (static_view left.entry.kind) (pairs left.entry.learns.items)
+        → IsStep E K (form.Or a right.entry.now) K step) }
+{
+    expressions_have_one_judgement();
+    match left.kind.as_boolean() {
+        Some(_) => from_right_of_or(alloc, env, known, right),
+        None => stop_at(alloc, 0, left.kind),
+    }
+}
+
+/// Returns the step from `if` whose `then` has a type.
+fn from_else<'a>(
+    alloc: Global,
+    env: TypingEnvironment<'a>,
+    known: &Vec<Pair<'a>>,
+    then: StaticType<'a>,
+    alternative: &'a Expr,
+) -> Result<Step<'a>, NoMemory>
+    ensures { let E = typing_environment env.entry in let K = pairs known.now.items in IfOk result (λ step.
+        (a b : Expr) (s : types.StaticType) (L M : Pairs) → Types E K a s L → IsBoolean s → ¬ (s ≡ false_type)
+        → Types E (K ++ L) b (static_view then.entry) M → IsStep E K (form.If a b alternative.entry.now) K step) }
+{
+    expressions_have_one_judgement();
+    match judge(alloc, env, known, alternative)? {
+        Some(other) => stop_at_branches(alloc, then, other.kind),
+        None => Ok(Step::Down(2, alternative)),
+    }
+}
+
+/// Returns the step from `if` whose test may be true.
+fn from_branches<'a>(
+    alloc: Global,
+    env: TypingEnvironment<'a>,
+    known: &mut Vec<Pair<'a>>,
+    learns: Vec<Pair<'a>>,
+    consequent: &'a Expr,
+    alternative: &'a Expr,
+) -> Result<Step<'a>, NoMemory>
+    ensures { let E = typing_environment env.entry in let K = pairs known.old.items in IfOk result (λ step.
+        (a : Expr) (s : types.StaticType) → Types E K a s (pairs learns.entry.items) → IsBoolean s
+        → ¬ (s ≡ false_type)
+        → IsStep E K (form.If a consequent.entry.now alternative.entry.now) (pairs known.new.items) step) }
+{
+    expressions_have_one_judgement();
+    match judge_with(alloc, env, known, &learns, consequent)? {
+        Some(then) => from_else(alloc, env, known, then.kind, alternative),
+        None => {
+            know_too(known, &learns)?;
+            Ok(Step::Down(1, consequent))
+        }
+    }
+}
+
+/// Returns the step from `if`, whose test has a type.
+fn from_if<'a>(
+    alloc: Global,
+    env: TypingEnvironment<'a>,
+    known: &mut Vec<Pair<'a>>,
+    test: Typed<'a>,
+    consequent: &'a Expr,
+    alternative: &'a Expr,
+) -> Result<Step<'a>, NoMemory>
+    ensures { let E = typing_environment env.entry in let K = pairs known.old.items in IfOk result (λ step.
+        (a : Expr) → Types E K a (static_view test.entry.kind) (pairs test.entry.learns.items)
+        → IsStep E K (form.If a consequent.entry.now alternative.entry.now) (pairs known.new.items) step) }
+{
+    expressions_have_one_judgement();
+    if test.kind.is_false() {
+        drop(test);
+        return Ok(Step::Down(2, alternative));
+    }
+    match test.kind.as_boolean() {
+        Some(_) => from_branches(alloc, env, known, test.learns, consequent, alternative),
+        None => stop_at(alloc, 0, test.kind),
+    }
+}
+
+/// Puts the type that was found behind the others, and returns whether one was found.
+fn keep_type<'a>(
+    types: &mut Vec<StaticType<'a>>,
+    found: Option<Typed<'a>>,
+) -> Result<bool, NoMemory>
+    ensures { IfOk result (KeepsType found.entry types.old.items types.new.items) }
+{
+    match found {
+        Some(typed) => {
+            types.push(typed.kind)?;
+            Ok(true)
+        }
+        None => Ok(false),
+    }
+}
+
+/// Returns the step from a form that wants the types of all its operands, which blames the one of this index, or
+/// itself.
+fn from_operands<'a>(
+    alloc: Global,
+    env: TypingEnvironment<'a>,
+    known: &Vec<Pair<'a>>,
+    expr: &'a Expr,
+    blamed: Option<usize>,
+) -> Result<Step<'a>, NoMemory>
+    ensures { IfOk result (IsStepAmong (typing_environment env.entry) (pairs known.now.items) expr.entry.now blamed) }
+{
+    let mut types = Vec::new(alloc);
+    'each: loop {
+        let at = types.len();
+        match operand(expr, at) {
+            Some(next) => {
+                let found = judge(alloc, env, known, next)?;
+                let kept = keep_type(&mut types, found)?;
+                if !kept {
+                    return Ok(Step::Down(at, next));
+                }
+            }
+            None => return Ok(Step::Stop(blamed, types)),
+        }
+    }
+}
+
+/// Returns the step from `&&`.
+fn step_and<'a>(
+    alloc: Global,
+    env: TypingEnvironment<'a>,
+    known: &mut Vec<Pair<'a>>,
+    left: &'a Shared<Expr>,
+    right: &'a Shared<Expr>,
+) -> Result<Step<'a>, NoMemory>
+    ensures { IfOk result (IsStep (typing_environment env.entry) (pairs known.old.items)
+        (form.And left.entry.now right.entry.now) (pairs known.new.items)) }
+{
+    expressions_have_one_judgement();
+    let left = left.get();
+    let right = right.get();
+    match judge(alloc, env, known, left)? {
+        Some(typed) => from_and(alloc, env, known, typed, right),
+        None => Ok(Step::Down(0, left)),
+    }
+}
+
+/// Returns the step from `||`.
+fn step_or<'a>(
+    alloc: Global,
+    env: TypingEnvironment<'a>,
+    known: &Vec<Pair<'a>>,
+    left: &'a Shared<Expr>,
+    right: &'a Shared<Expr>,
+) -> Result<Step<'a>, NoMemory>
+    ensures { let K = pairs known.now.items in IfOk result (IsStep (typing_environment env.entry) K
+        (form.Or left.entry.now right.entry.now) K) }
+{
+    expressions_have_one_judgement();
+    let left = left.get();
+    let right = right.get();
+    match judge(alloc, env, known, left)? {
+        Some(typed) => from_or(alloc, env, known, typed, right),
+        None => Ok(Step::Down(0, left)),
+    }
+}
+
+/// Returns the step from `if`.
+fn step_if<'a>(
+    alloc: Global,
+    env: TypingEnvironment<'a>,
+    known: &mut Vec<Pair<'a>>,
+    test: &'a Shared<Expr>,
+    consequent: &'a Shared<Expr>,
+    alternative: &'a Shared<Expr>,
+) -> Result<Step<'a>, NoMemory>
+    ensures { IfOk result (IsStep (typing_environment env.entry) (pairs known.old.items)
+        (form.If test.entry.now consequent.entry.now alternative.entry.now) (pairs known.new.items)) }
+{
+    expressions_have_one_judgement();
+    let test = test.get();
+    let consequent = consequent.get();
+    let alternative = alternative.get();
+    match judge(alloc, env, known, test)? {
+        Some(typed) => from_if(alloc, env, known, typed, consequent, alternative),
+        None => Ok(Step::Down(0, test)),
+    }
+}
+
+/// Returns the step from a form that is at fault where these pairs are known; of a step down, those that are known
+/// there are put in their place.
+pub(crate) fn step_from<'a>(
+    alloc: Global,
+    env: TypingEnvironment<'a>,
+    known: &mut Vec<Pair<'a>>,
+    expr: &'a Expr,
+) -> Result<Step<'a>, NoMemory>
+    ensures { IfOk result (IsStep (typing_environment env.entry) (pairs known.old.items) expr.entry.now
+        (pairs known.new.items)) }
+{
+    expressions_have_one_judgement();
+    match expr {
+        Expr::Literal(_) => from_operands(alloc, env, known, expr, None),
+        Expr::Variable(_) => from_operands(alloc, env, known, expr, None),
+        Expr::If(test, then, other) => step_if(alloc, env, known, test, then, other),
+        Expr::And(left, right) => step_and(alloc, env, known, left, right),
+        Expr::Or(left, right) => step_or(alloc, env, known, left, right),
+        Expr::Unary(_, _) => from_operands(alloc, env, known, expr, Some(0)),
+        Expr::Binary(_, _, _) => from_operands(alloc, env, known, expr, None),
+        Expr::Field(_, _) => from_operands(alloc, env, known, expr, None),
+        Expr::Has(_, _) => from_operands(alloc, env, known, expr, Some(0)),
+        Expr::Set(_) => from_operands(alloc, env, known, expr, None),
+        Expr::Record(_) => from_operands(alloc, env, known, expr, None),
+        Expr::UnaryCall(_, _) => from_operands(alloc, env, known, expr, None),
+        Expr::BinaryCall(_, _, _) => from_operands(alloc, env, known, expr, None),
+    }
+}

@@ -1,0 +1,193 @@
+//! Pieces of a line.
+ghost use Rattle.std.specs.Prelude.{◌≡◌, ◌≤◌, ◌+◌, ◌++◌, length, vec_len, codes, decimal, Some, IfOk};
+ghost use Rattle.std.specs.Prelude.{option_and_then, option_map};
+ghost use Rattle.std.specs.Vec.{vec_capacity};
+ghost use Rattle.json.specs.Print.{quoted};
+ghost use Rattle.serde_json.specs.View.{view};
+ghost use Rattle.serde_json.specs.Find.{as_str, get};
+ghost use Rattle.http_logs.specs.LogLines.{asked_members, head_text, inner_text, member_text, members_text};
+ghost use Rattle.http_logs.specs.LogLines.{name_text, named_text, object_text, string_or_null, text_of, uid_text};
+
+use itoa::Buffer;
+use json::Writer;
+use json_values::{Scratch, read_json_by};
+use json_words::text_at;
+use plain::NoMemory;
+use serde_json::Value;
+use std::alloc::Global;
+
+/// So much room is made at once for the pieces of a line, in bytes: most take less.
+const USUAL_LINE: usize = 256;
+
+/// Appends a piece, for which there is room.
+pub(crate) fn append(line: &mut Vec<u8>, piece: &[u8])
+    requires room { vec_len line.old + length piece.now ≤ vec_capacity line.old }
+    ensures items { line.new.items ≡ line.old.items ++ piece.now }
+    ensures len { vec_len line.new ≡ vec_len line.old + length piece.now }
+    ensures kept { vec_capacity line.old ≤ vec_capacity line.new }
+{
+    line.extend_from_slice(piece).unwrap();
+}
+
+/// Appends a number's digits, at most 20.
+pub(crate) fn append_number(line: &mut Vec<u8>, number: u64)
+    requires room { vec_len line.old + 20 ≤ vec_capacity line.old }
+    ensures items { line.new.items ≡ line.old.items ++ decimal number }
+    ensures len { vec_len line.new ≤ vec_len line.old + 20 }
+    ensures kept { vec_capacity line.old ≤ vec_capacity line.new }
+{
+    let mut digits = Buffer::new();
+    append(line, digits.format(number).as_bytes());
+}
+
+/// Returns a line with a text behind it, as a JSON string.
+fn with_string(line: Vec<u8>, text: &str) -> Result<Vec<u8>, NoMemory>
+    ensures { IfOk result (λ made. made.items ≡ line.items ++ quoted text.now) }
+{
+    let mut out = Writer::new(line);
+    out.string(text)?;
+    Ok(out.into_inner())
+}
+
+/// Returns a line with a text behind it, as a JSON string, or with null.
+fn with_text(line: Vec<u8>, text: Option<&str>) -> Result<Vec<u8>, NoMemory>
+    ensures { IfOk result (λ made. made.items ≡ line.items ++ string_or_null (option_map (λ t. t.now) text.entry)) }
+{
+    match text {
+        Some(text) => with_string(line, text),
+        None => with_piece(line, b"null"),
+    }
+}
+
+/// Returns a line with a piece behind it.
+fn with_piece(line: Vec<u8>, piece: &[u8]) -> Result<Vec<u8>, NoMemory>
+    ensures { IfOk result (λ made. made.items ≡ line.items ++ piece.now) }
+{
+    let mut line = line;
+    line.extend_from_slice(piece)?;
+    Ok(line)
+}
+
+/// Returns bytes as text, where they are UTF-8.
+fn text_of(bytes: &[u8]) -> Option<&str>
+    ensures { option_map (λ t. t.now) result ≡ text_of bytes.now }
+{
+    match str::from_utf8(bytes) {
+        Ok(text) => Some(text),
+        Err(_) => None,
+    }
+}
+
+/// Returns the beginning of the line of a request.
+pub(crate) fn head_of(alloc: Global, method: &[u8], target: &[u8]) -> Result<Vec<u8>, NoMemory>
+    ensures { IfOk result (λ made. made.items ≡ head_text (text_of method.now) (text_of target.now)) }
+{
+    let line = Vec::with_capacity(alloc, USUAL_LINE)?;
+    let line = with_piece(line, b"{\"method\":")?;
+    let line = with_text(line, text_of(method))?;
+    let line = with_piece(line, b",\"target\":")?;
+    with_text(line, text_of(target))
+}
+
+/// Returns a line with a uid of this type and this id behind it.
+fn with_uid(line: Vec<u8>, kind: &str, id: &str) -> Result<Vec<u8>, NoMemory>
+    ensures { IfOk result (λ made. made.items ≡ line.items ++ uid_text (Some kind.now) (Some id.now)) }
+{
+    let line = with_piece(line, b"{\"id\":")?;
+    let line = with_string(line, id)?;
+    let line = with_piece(line, b",\"type\":")?;
+    let line = with_string(line, kind)?;
+    with_piece(line, b"}")
+}
+
+/// Returns a line with the uid of an object behind it, or with null.
+fn with_object(line: Vec<u8>, value: &Value) -> Result<Vec<u8>, NoMemory>
+    ensures { IfOk result (λ made. made.items ≡ line.items ++ object_text (view value.now)) }
+{
+    match text_at(value, "type") {
+        Some(kind) => match text_at(value, "id") {
+            Some(id) => with_uid(line, kind, id),
+            None => with_piece(line, b"null"),
+        },
+        None => with_piece(line, b"null"),
+    }
+}
+
+/// Returns a line with the uid of an object or of its member `__entity` behind it.
+fn with_inner(line: Vec<u8>, value: &Value) -> Result<Vec<u8>, NoMemory>
+    ensures { IfOk result (λ made.
+        made.items ≡ line.items ++ inner_text (view value.now) (get (codes "__entity") (view value.now))) }
+{
+    match value.get("__entity") {
+        Some(inner) => with_object(line, inner),
+        None => with_object(line, value),
+    }
+}
+
+/// Returns a line with the name of an entity behind it, as the request has it.
+fn with_name(line: Vec<u8>, value: &Value) -> Result<Vec<u8>, NoMemory>
+    ensures { IfOk result (λ made. made.items ≡ line.items ++ name_text (view value.now) (as_str (view value.now))) }
+{
+    match value.as_str() {
+        Some(text) => with_string(line, text),
+        None => with_inner(line, value),
+    }
+}
+
+/// Returns a line with the name of an entity behind it, or with null.
+fn with_named(line: Vec<u8>, found: Option<&Value>) -> Result<Vec<u8>, NoMemory>
+    ensures { IfOk result (λ made. made.items ≡ line.items ++ named_text (option_map (λ v. view v.now) found.entry)) }
+{
+    match found {
+        Some(value) => with_name(line, value),
+        None => with_piece(line, b"null"),
+    }
+}
+
+/// Returns what a body has at a key.
+fn member<'v>(value: &'v Option<Value>, key: &str) -> Option<&'v Value>
+    ensures { option_map (λ v. view v.now) result ≡ option_and_then (get key.now) (option_map view value.now) }
+{
+    match value {
+        Some(value) => value.get(key),
+        None => None,
+    }
+}
+
+/// Returns a line with a label and what the JSON of a body names at a key behind it.
+#[tactic(auto, unfolding(crate::specs::LogLines::member_text))]
+fn with_member(
+    line: Vec<u8>,
+    value: &Option<Value>,
+    label: &[u8],
+    key: &str,
+) -> Result<Vec<u8>, NoMemory>
+    ensures { IfOk result (λ made.
+        made.items ≡ line.items ++ member_text label.now key.now (option_map view value.now)) }
+{
+    let line = with_piece(line, label)?;
+    with_named(line, member(value, key))
+}
+
+/// Returns what the JSON of a body asks.
+fn members_of(alloc: Global, value: &Option<Value>) -> Result<Vec<u8>, NoMemory>
+    ensures { IfOk result (λ made. made.items ≡ members_text (option_map view value.now)) }
+{
+    let line = Vec::with_capacity(alloc, USUAL_LINE)?;
+    let line = with_member(line, value, b",\"principal\":", "principal")?;
+    let line = with_member(line, value, b",\"action\":", "action")?;
+    let line = with_member(line, value, b",\"resource\":", "resource")?;
+    Ok(line)
+}
+
+/// Returns what a body asks.
+pub(crate) fn asked_of(
+    alloc: Global,
+    scratch: &mut Scratch,
+    body: &[u8],
+) -> Result<Vec<u8>, NoMemory>
+    ensures { IfOk result (λ made. made.items ≡ asked_members body.now) }
+{
+    let value = read_json_by(scratch, alloc, body)?;
+    members_of(alloc, &value)
+}

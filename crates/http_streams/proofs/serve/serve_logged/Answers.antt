@@ -1,0 +1,31 @@
+use Rattle.std.proofs.Common.{[], refl}
+use Rattle.std.proofs.KnownBytes.{Appends-nil, Consumes-nil}
+use Rattle.http_streams.specs.Logs.{notes}
+use Rattle.http_streams.proofs.LogLemmas.{noted_so_far}
+use Rattle.http_streams.proofs.StreamLemmas.{Rests-from, Serves-none}
+use Rattle.http_framing.proofs.OneRequest.{nothing_unfinished}
+use Rattle.http_streams.proofs.serve.serve_logged.Goals as goal
+
+pub returns-in_default-clause-answered : goal.returns-in_default-clause-answered
+returns-in_default-clause-answered g c = record {
+  bytes = [];
+  out = [];
+  read = Consumes-nil _;
+  written = Appends-nil _;
+  ended = (
+    Rests-from g.S.Answers.answers 0 _ _ _ _ _ (Serves-none g.S.Answers.answers _ []) nothing_unfinished,
+    refl,
+    refl,
+  );
+}
+
+pub returns-in_default-clause-logged : goal.returns-in_default-clause-logged
+returns-in_default-clause-logged g c = record {
+  bytes = [];
+  out = [];
+  read = Consumes-nil _;
+  written = Appends-nil _;
+  noted = noted_so_far g.S.Service.lines g.S.Service.refusal_line g.L.Sink.holds 0 _ _ _ _ _
+      (Serves-none (notes g.S.Service.lines g.L.Sink.holds) _ []);
+  failed = refl;
+}

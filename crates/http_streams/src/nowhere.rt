@@ -1,0 +1,26 @@
+//! A writer that takes all and keeps nothing: what stands for the log where none is kept.
+ghost use Rattle.std.specs.Prelude.{None};
+
+use http_devices::devices::{DeviceFailed, Sink};
+
+/// Where lines go that nobody keeps.
+#[derive(Drop)]
+pub(crate) struct Nowhere;
+
+impl Sink for Nowhere {
+    ghost holds = { λ _. None };
+
+    ghost failed = { λ _. 0 };
+
+    ghost writes = { λ _ _ _ _. Unit {0} };
+
+    ghost fails = { λ _ _. Unit {0} };
+
+    fn write(&mut self, bytes: &[u8]) -> Result<usize, DeviceFailed> {
+        Ok(bytes.len())
+    }
+
+    fn failures(&self) -> u64 {
+        0
+    }
+}

@@ -1,0 +1,10 @@
+mod Steps
+mod Outcomes
+mod Exact
+mod Parts
+mod FormsRead
+mod UpdatesRead
+mod Ranges
+mod SummariesRead
+mod TextsRead
+mod MessagesRead

@@ -1,0 +1,153 @@
+-- Defines what a run does that exchanges between two running sites: six calls, three for each site that is brought up
+-- to date, and two lines.
+-- Source: docs/operating.md, "Exchange".
+-- Rules of this product: the schema is judged before anything is sent; each call has a connection of its own, and sends
+-- the bytes that the call before brought; the count that a merge answers is written as it came; the first call that
+-- brings nothing to go on with ends the run, and the line that tells of it has its number, its request and the cause.
+use Rattle.std.specs.Prelude.{◌≡◌, ◌≢◌, ◌≤◌, ◌⊎◌, ℕ, ◌+◌, ◌++◌, List, [], ◌∷◌, Option, None, Some, codes}
+use Rattle.std.specs.Prelude.{decimal, if◌then◌else◌, nat_eq}
+use Rattle.std.specs.Borrow.{Bor}
+use Rattle.site_loading.specs.schema.Schemas.{StatedSchema, IsSchemaOf}
+use Rattle.program_drills.specs.schema_decisions.Checks.{IsSchemaRefused}
+use Rattle.program_drills.specs.http_service.answer_lines.Refusals.{no_memory}
+use Rattle.program_lines.specs.declared.line.ExchangeOptions.{ExchangeOptions}
+use Rattle.state_exchanges.specs.http_devices.declared.devices.Source.{Ghosts as Source}
+use Rattle.state_exchanges.specs.http_devices.declared.devices.Sink.{Ghosts as Sink}
+use Rattle.state_exchanges.specs.declared.asking.Call.{Call}
+use Rattle.state_exchanges.specs.declared.asking.Call.TheVariants as call
+use Rattle.state_exchanges.specs.declared.fault.NetworkFault.TheVariants as network
+use Rattle.state_exchanges.specs.declared.fault.PullFault.{PullFault}
+use Rattle.state_exchanges.specs.declared.fault.PullFault.TheVariants.{Network, Refused}
+use Rattle.state_exchanges.specs.http_streams.http_framing.declared.TheConstants.{MAX_BODY}
+use Rattle.state_exchanges.specs.Requests.{call_request, call_size}
+use Rattle.state_exchanges.specs.Counts.{IsTakenLine}
+use Rattle.state_exchanges.specs.Exchanges.{IsRequestBegun, IsUnanswered, TellsOfHost, TellsOfSize}
+use Rattle.program.specs.declared.device.Link.{Link}
+use Rattle.program.specs.declared.exchanging.CallFault.{CallFault}
+use Rattle.program.specs.declared.exchanging.CallFault.TheVariants as cause
+use Rattle.program.specs.declared.exchanging.RoundCall.{RoundCall}
+use Rattle.program.specs.Events.{Event, closed, connected}
+use Rattle.program.specs.Reports.{IsFailureReported, IsMemoryReported}
+use Rattle.program.specs.Courses.{Course, Announces, IsRefusedFor, Reads}
+use Rattle.program.specs.Pulling.{IsAsked, NoReadFailed, NoWriteFailed}
+
+-- ---- lines
+
+-- `call_text call` is method and path of `call`
+abbrev pub call_text : Call → List ℕ
+call_text call.Summary = codes "GET /v1/summary"
+call_text call.Delta = codes "POST /v1/delta"
+call_text call.Merge = codes "POST /v1/merge"
+
+-- `status_text status` tells of a reply with `status`; for a request that is too large it says what to do instead
+unfoldable pub status_text : ℕ → List ℕ
+status_text status = if nat_eq status 413 then codes "status 413, larger than a site takes: merge the two as files"
+    else codes "status " ++ decimal status
+
+-- `fault_text fault` tells why a call brought nothing to go on with
+abbrev pub fault_text : CallFault → List ℕ
+fault_text cause.NotReached = codes "no connection"
+fault_text cause.NoCount = codes "no count of updates"
+fault_text (cause.Network network.Read) = codes "reading failed"
+fault_text (cause.Network network.Write) = codes "writing failed"
+fault_text (cause.Network network.BadReply) = codes "no HTTP reply"
+fault_text (cause.Network network.Ended) = codes "closed before the reply ended"
+fault_text (cause.Network network.NoHost) = codes "no host"
+fault_text (cause.Network network.TooLarge) = codes "larger than a site takes: merge the two as files"
+fault_text (cause.Network (network.OtherStatus status)) = status_text status
+
+-- `call_report at why` is the address of the call `at`, its number and its request, and `why`
+unfoldable pub call_report : RoundCall → List ℕ → List ℕ
+call_report at why = at.address.now ++ codes ": call " ++ decimal at.number ++ codes " of 6, " ++ call_text at.call
+    ++ codes ": " ++ why
+
+module _ {L : Type 0} where
+  -- `IsCallReported at fault` holds of a run that ends with the line of this fault of the call `at`, with status 3
+  abbrev pub IsCallReported : RoundCall → CallFault → Course L
+  IsCallReported at fault events end = IsFailureReported (call_report at (fault_text fault)) events end
+      ⊎ IsMemoryReported events end
+
+  -- the same, of what came in place of a reply
+  abbrev pub IsCallFaultTold : RoundCall → PullFault → Course L
+  IsCallFaultTold at (Network fault) = IsCallReported at (cause.Network fault)
+  IsCallFaultTold at (Refused refusal) = IsMemoryReported
+
+  -- `TellsTaken at line goes_on` holds of a run that writes the count `line` on standard output and goes on; or that
+  -- tells that the reply to the call `at` is no count
+  abbrev pub TellsTaken : RoundCall → List ℕ → Course L → Course L
+  TellsTaken at line goes_on events end = (IsTakenLine line × Announces line goes_on events end)
+      ⊎ ((IsTakenLine line → ⊥) × IsCallReported at cause.NoCount events end)
+
+  -- the run is at its end, with status 0
+  abbrev pub IsOver : Course L
+  IsOver events end = (events ≡ []) × (end ≡ 0)
+
+-- ---- calls
+
+module _ {R W : Type 0} (reader : Source R) (writer : Sink W) where
+  -- `IsCalled at body link reply left` holds if the request of the call `at` with `body`, which a site takes, was
+  -- written over `link`, and what was read begins with a reply of status 200 and the body `reply`; no device failed
+  abbrev pub IsCalled : RoundCall → List ℕ → Link R W → List ℕ → Link R W → Type 0
+  IsCalled at body link reply left =
+      IsAsked reader writer (call_request at.call at.address.now body) link reply left
+      × NoReadFailed reader writer link left × NoWriteFailed reader writer link left
+      × (call_size at.call body ≤ MAX_BODY)
+
+  -- `IsNotCalled at body link fault left` holds if `fault` is why there is no such reply; of the request a first part
+  -- was written, or all of it
+  abbrev pub IsNotCalled : RoundCall → List ℕ → Link R W → PullFault → Link R W → Type 0
+  IsNotCalled at body link (Network fault) left =
+      IsUnanswered reader.left reader.reads reader.failed reader.fails writer.holds writer.failed writer.fails
+      (call_request at.call at.address.now body) link.reader left.reader link.writer left.writer fault
+      × TellsOfHost at.address.now fault × TellsOfSize at.address.now (call_size at.call body) fault
+      × (fault ≢ network.Read → NoReadFailed reader writer link left)
+      × (fault ≢ network.Write → NoWriteFailed reader writer link left)
+  IsNotCalled at body link (Refused refusal) left = (refusal ≡ no_memory)
+      × IsRequestBegun reader.left writer.holds (call_request at.call at.address.now body) link.reader left.reader
+      link.writer left.writer
+      × NoReadFailed reader writer link left × NoWriteFailed reader writer link left
+
+  -- `CallsOver at body goes_on link` holds of a run that makes the call `at` with `body` over `link`, lets `link` go,
+  -- and goes on with the reply; or tells why there is none
+  abbrev pub CallsOver : RoundCall → List ℕ → (List ℕ → Course (Link R W)) → Link R W → Course (Link R W)
+  CallsOver at body goes_on link events end =
+      ((reply : List ℕ) × (left : Link R W) × (rest : List (Event (Link R W)))
+      × IsCalled at body link reply left × (events ≡ closed left ∷ rest) × goes_on reply rest end)
+      ⊎ ((fault : PullFault) × (left : Link R W) × (rest : List (Event (Link R W)))
+      × IsNotCalled at body link fault left × (events ≡ closed left ∷ rest) × IsCallFaultTold at fault rest end)
+
+  -- `Calls at body goes_on` holds of a run that does so over a connection that it opens; or tells that none could be
+  abbrev pub CallsIfReached : RoundCall → List ℕ → (List ℕ → Course (Link R W)) → Option (Link R W)
+      → Course (Link R W)
+  CallsIfReached at body goes_on (Some link) = CallsOver at body goes_on link
+  CallsIfReached at body goes_on None = IsCallReported at cause.NotReached
+
+  abbrev pub Calls : RoundCall → List ℕ → (List ℕ → Course (Link R W)) → Course (Link R W)
+  Calls at body goes_on events end = (came : Option (Link R W)) × (rest : List (Event (Link R W)))
+      × (events ≡ connected at.address.now came ∷ rest) × CallsIfReached at body goes_on came rest end
+
+  -- ---- rounds
+
+  -- `Direction first to from goes_on` holds of a run that brings the site at `to` up to date from the one at `from`, by
+  -- the calls `first`, `first` + 1 and `first` + 2, and goes on: it asks `to` for its summary, posts that to `from`,
+  -- posts the delta that comes to `to`, and writes the count that comes
+  abbrev pub Direction : ℕ → Bor (List ℕ) → Bor (List ℕ) → Course (Link R W) → Course (Link R W)
+  Direction first to from goes_on =
+      Calls (record { number = first; call = call.Summary; address = to }) [] (λ summary.
+      Calls (record { number = first + 1; call = call.Delta; address = from }) summary (λ delta.
+      Calls (record { number = first + 2; call = call.Merge; address = to }) delta (λ line.
+      TellsTaken (record { number = first + 2; call = call.Merge; address = to }) line goes_on)))
+
+  -- first the one site is brought up to date, then the other
+  abbrev pub IsRound : Bor (List ℕ) → Bor (List ℕ) → Course (Link R W)
+  IsRound between and = Direction 1 between and (Direction 4 and between IsOver)
+
+  -- the schema is one, and then a round is made; or it is refused, and nothing is sent
+  abbrev pub IsExchanged : ExchangeOptions → List ℕ → Course (Link R W)
+  IsExchanged options schema events end =
+      ((s : StatedSchema) × IsSchemaOf schema s × IsRound options.between options.and events end)
+      ⊎ IsRefusedFor (IsSchemaRefused schema) events end
+
+  -- first the schema's file is read
+  abbrev pub IsExchangeRun : ExchangeOptions → Course (Link R W)
+  IsExchangeRun options = Reads options.schema.now (IsExchanged options)

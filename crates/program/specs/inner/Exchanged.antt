@@ -1,0 +1,46 @@
+-- Defines what is done of an exchange where it goes on.
+use Rattle.std.specs.Prelude.{◌≡◌, ℕ, ◌+◌, ◌++◌, List, [], ◌∷◌, Some, true}
+use Rattle.std.specs.Borrow.{Bor}
+use Rattle.state_exchanges.specs.http_devices.declared.devices.Source.{Ghosts as Source}
+use Rattle.state_exchanges.specs.http_devices.declared.devices.Sink.{Ghosts as Sink}
+use Rattle.state_exchanges.specs.declared.asking.Call.TheVariants as call
+use Rattle.program.specs.declared.device.Link.{Link}
+use Rattle.program.specs.declared.device.Stream.TheVariants.{Answers}
+use Rattle.program.specs.declared.exchanging.RoundCall.{RoundCall}
+use Rattle.program.specs.Events.{Event, closed, connected, wrote}
+use Rattle.program.specs.Reports.{ended}
+use Rattle.program.specs.Courses.{Course}
+use Rattle.state_exchanges.specs.Counts.{IsTakenLine}
+use Rattle.program.specs.Exchanging.{IsCalled}
+
+-- no run goes on so: what ends a run holds of a course that never goes on
+abbrev pub Never : {A L : Type 0} → A → Course L
+Never any events end = ⊥
+
+abbrev pub NoCourse : {L : Type 0} → Course L
+NoCourse events end = ⊥
+
+module _ {R W : Type 0} (reader : Source R) (writer : Sink W) where
+  -- a call brought this reply over a connection that stood, which was let go
+  abbrev pub IsRepliedOver : RoundCall → List ℕ → Link R W → List ℕ → List (Event (Link R W)) → Type 0
+  IsRepliedOver at body link reply events = (left : Link R W) × IsCalled reader writer at body link reply left
+      × (events ≡ closed left ∷ [])
+
+  -- and over one that was opened for it
+  abbrev pub IsReplied : RoundCall → List ℕ → List ℕ → List (Event (Link R W)) → Type 0
+  IsReplied at body reply events = (link left : Link R W) × IsCalled reader writer at body link reply left
+      × (events ≡ connected at.address.now (Some link) ∷ closed left ∷ [])
+
+  -- the three calls of a direction, and the line of its count
+  pub record WasExchanged (first : ℕ) (to from : Bor (List ℕ)) (events : List (Event (Link R W))) : Type 0 where
+    pub summary : List ℕ
+    pub delta : List ℕ
+    pub line : List ℕ
+    pub one : List (Event (Link R W))
+    pub two : List (Event (Link R W))
+    pub three : List (Event (Link R W))
+    pub asked : IsReplied (record { number = first; call = call.Summary; address = to }) [] summary one
+    pub told : IsReplied (record { number = first + 1; call = call.Delta; address = from }) summary delta two
+    pub merged : IsReplied (record { number = first + 2; call = call.Merge; address = to }) delta line three
+    pub taken : IsTakenLine line
+    pub are : events ≡ one ++ (two ++ (three ++ wrote Answers (ended line) true ∷ []))

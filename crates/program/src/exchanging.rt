@@ -1,0 +1,309 @@
+//! One round of exchange between two running sites, both ways.
+ghost use Rattle.std.specs.Prelude.{◌≡◌, ◌<◌, Err, IfErr, IfOk, MatchResult, Ok, OnOk, string_bytes, true};
+ghost use Rattle.std.specs.Process.{exit_status};
+ghost use Rattle.state_exchanges.specs.Counts.{IsTakenLine};
+ghost use Rattle.state_exchanges.specs.declared.fault.PullFault.{PullFault};
+ghost use Rattle.program.specs.declared.device.Stream.TheVariants.{Answers};
+ghost use Rattle.program.specs.Events.{Runs, wrote};
+ghost use Rattle.program.specs.Exchanging.{CallsOver, Calls, Direction, IsCallFaultTold, IsCallReported, IsExchanged};
+ghost use Rattle.program.specs.Exchanging.{IsExchangeRun, IsRound, TellsTaken, call_report, call_text, fault_text};
+ghost use Rattle.program.specs.Exchanging.{status_text};
+ghost use Rattle.program.specs.Reports.{ended};
+ghost use Rattle.program.specs.inner.Exchanged.{IsReplied, IsRepliedOver, Never, NoCourse, WasExchanged};
+
+use crate::device::{Link, NetworkFailed, Stream, StreamFailed};
+use crate::host::Host;
+use crate::reading::read_file;
+use crate::report::{ANSWERED, FAILED, report_failure, report_memory, report_refusal};
+use plain::NoMemory;
+use program_lines::ExchangeOptions;
+use site_loading::schema_in;
+use state_exchanges::{Call, NetworkFault, PullFault, ask, is_taken_line};
+use std::alloc::Global;
+use std::process::ExitCode;
+
+/// One of the six calls of a round.
+#[derive(Clone, Copy)]
+pub(crate) struct RoundCall<'a> {
+    /// Which it is, 1 to 6.
+    pub(crate) number: u8,
+    /// What it asks for.
+    pub(crate) call: Call,
+    /// Where the site listens that it asks.
+    pub(crate) address: &'a str,
+}
+
+/// Why a call of a round brought nothing to go on with.
+#[derive(Clone, Copy)]
+pub(crate) enum CallFault {
+    /// No connection could be opened.
+    NotReached,
+    /// No reply of status 200 came.
+    Network(NetworkFault),
+    /// The reply to a merge is no count of updates.
+    NoCount,
+}
+
+/// The status of a request that is larger than a site takes.
+const TOO_LARGE: u16 = 413;
+
+/// Returns method and path of a call.
+fn call_text(call: Call) -> &'static str
+    ensures { result.now ≡ call_text call }
+{
+    match call {
+        Call::Summary => "GET /v1/summary",
+        Call::Delta => "POST /v1/delta",
+        Call::Merge => "POST /v1/merge",
+    }
+}
+
+/// Returns a text as a string of its own.
+fn owned(alloc: Global, text: &str) -> Result<String, NoMemory>
+    ensures { IfOk result (λ line. string_bytes line ≡ text.now) }
+{
+    format!(in alloc; "{text}")
+}
+
+/// Returns what is told of another status than 200.
+#[tactic(auto, unfolding(crate::specs::Exchanging::status_text))]
+fn status_text(alloc: Global, status: u16) -> Result<String, NoMemory>
+    ensures { IfOk result (λ line. string_bytes line ≡ status_text status) }
+{
+    if status == TOO_LARGE {
+        return owned(
+            alloc,
+            "status 413, larger than a site takes: merge the two as files",
+        );
+    }
+    format!(in alloc; "status {status}")
+}
+
+/// Returns what is told of a fault of a call.
+fn fault_text(alloc: Global, fault: CallFault) -> Result<String, NoMemory>
+    ensures { IfOk result (λ line. string_bytes line ≡ fault_text fault) }
+{
+    match fault {
+        CallFault::NotReached => owned(alloc, "no connection"),
+        CallFault::NoCount => owned(alloc, "no count of updates"),
+        CallFault::Network(NetworkFault::Read) => owned(alloc, "reading failed"),
+        CallFault::Network(NetworkFault::Write) => owned(alloc, "writing failed"),
+        CallFault::Network(NetworkFault::BadReply) => owned(alloc, "no HTTP reply"),
+        CallFault::Network(NetworkFault::Ended) => owned(alloc, "closed before the reply ended"),
+        CallFault::Network(NetworkFault::NoHost) => owned(alloc, "no host"),
+        CallFault::Network(NetworkFault::TooLarge) => {
+            owned(alloc, "larger than a site takes: merge the two as files")
+        }
+        CallFault::Network(NetworkFault::OtherStatus(status)) => status_text(alloc, status),
+    }
+}
+
+/// Returns which call failed, where and why.
+#[tactic(auto, unfolding(crate::specs::Exchanging::call_report))]
+fn call_report(alloc: Global, at: &RoundCall<'_>, why: &str) -> Result<String, NoMemory>
+    ensures { IfOk result (λ line. string_bytes line ≡ call_report at.now why.now) }
+{
+    let address = at.address;
+    let number = at.number;
+    let asked = call_text(at.call);
+    format!(in alloc; "{address}: call {number} of 6, {asked}: {why}")
+}
+
+/// Writes which call failed, where and why.
+fn report_call<H: Host>(
+    alloc: Global,
+    host: &mut H,
+    at: &RoundCall<'_>,
+    fault: CallFault,
+) -> ExitCode
+    ensures { Runs H.does host.old host.new (λ events. IsCallReported at.now fault events (exit_status result)) }
+{
+    let Ok(why) = fault_text(alloc, fault) else {
+        return report_memory(host);
+    };
+    match call_report(alloc, at, why.as_str()) {
+        Ok(line) => report_failure(host, line.as_str()),
+        Err(_) => report_memory(host),
+    }
+}
+
+/// Returns the body that a call brought, or ends the run.
+fn reply_or_end<H: Host>(
+    alloc: Global,
+    host: &mut H,
+    at: &RoundCall<'_>,
+    came: Result<Vec<u8>, PullFault>,
+) -> Result<Vec<u8>, ExitCode>
+    ensures reply { IfOk result (λ reply. came ≡ Ok reply) }
+    ensures same { OnOk result (host.new ≡ host.old) }
+    ensures told { IfErr result (λ end. (fault : PullFault) × (came ≡ Err fault)
+        × Runs H.does host.old host.new (λ events. IsCallFaultTold at.now fault events (exit_status end))) }
+{
+    match came {
+        Ok(reply) => Ok(reply),
+        Err(PullFault::Network(fault)) => {
+            Err(report_call(alloc, host, at, CallFault::Network(fault)))
+        }
+        Err(PullFault::Refused(_)) => Err(report_memory(host)),
+    }
+}
+
+/// Makes a call over a connection that stands, and lets it go.
+fn call_over<H: Host>(
+    alloc: Global,
+    host: &mut H,
+    at: &RoundCall<'_>,
+    body: &[u8],
+    mut link: Link<H::Reader, H::Writer>,
+) -> Result<Vec<u8>, ExitCode>
+    ensures { MatchResult result
+        (λ reply. Runs H.does host.old host.new
+        (IsRepliedOver H.Reader.Source H.Writer.Sink at.now body.now link reply.items))
+        (λ end. Runs H.does host.old host.new (λ events.
+        CallsOver H.Reader.Source H.Writer.Sink at.now body.now Never link events (exit_status end))) }
+{
+    let address = at.address.as_bytes();
+    let came = ask(
+        alloc,
+        at.call,
+        address,
+        body,
+        &mut link.reader,
+        &mut link.writer,
+    );
+    host.close(link);
+    reply_or_end(alloc, host, at, came)
+}
+
+/// Makes a call over a connection of its own, and returns the body of the reply; if there is none, ends the run.
+fn call_at<H: Host>(
+    alloc: Global,
+    host: &mut H,
+    at: &RoundCall<'_>,
+    body: &[u8],
+) -> Result<Vec<u8>, ExitCode>
+    ensures { MatchResult result
+        (λ reply. Runs H.does host.old host.new
+        (IsReplied H.Reader.Source H.Writer.Sink at.now body.now reply.items))
+        (λ end. Runs H.does host.old host.new (λ events.
+        Calls H.Reader.Source H.Writer.Sink at.now body.now Never events (exit_status end))) }
+{
+    match host.connect(at.address) {
+        Ok(link) => call_over(alloc, host, at, body, link),
+        Err(NetworkFailed) => Err(report_call(alloc, host, at, CallFault::NotReached)),
+    }
+}
+
+/// Writes the count that came, or ends the run where it is none.
+fn tell_taken<H: Host>(
+    alloc: Global,
+    host: &mut H,
+    at: &RoundCall<'_>,
+    line: &[u8],
+) -> Result<(), ExitCode>
+    ensures { MatchResult result
+        (λ _. IsTakenLine line.now × H.does host.old (wrote Answers (ended line.now) true) host.new)
+        (λ end. Runs H.does host.old host.new (λ events.
+        TellsTaken at.now line.now NoCourse events (exit_status end))) }
+{
+    if !is_taken_line(line) {
+        return Err(report_call(alloc, host, at, CallFault::NoCount));
+    }
+    match host.write_line(Stream::Answers, "", line) {
+        Ok(()) => Ok(()),
+        Err(StreamFailed) => Err(ExitCode::from(FAILED)),
+    }
+}
+
+/// Brings the site at `to` up to date from the one at `from`, by three calls, the first of which has this number.
+fn exchange<H: Host>(
+    alloc: Global,
+    host: &mut H,
+    first: u8,
+    to: &str,
+    from: &str,
+) -> Result<(), ExitCode>
+    requires { first < 5 }
+    ensures { MatchResult result
+        (λ _. Runs H.does host.old host.new
+        (WasExchanged H.Reader.Source H.Writer.Sink first to.entry from.entry))
+        (λ end. Runs H.does host.old host.new (λ events.
+        Direction H.Reader.Source H.Writer.Sink first to.entry from.entry NoCourse events (exit_status end))) }
+{
+    let summary_call = RoundCall {
+        number: first,
+        call: Call::Summary,
+        address: to,
+    };
+    let summary = match call_at(alloc, host, &summary_call, b"") {
+        Ok(reply) => reply,
+        Err(end) => return Err(end),
+    };
+    let delta_call = RoundCall {
+        number: first + 1,
+        call: Call::Delta,
+        address: from,
+    };
+    let delta = match call_at(alloc, host, &delta_call, &summary) {
+        Ok(reply) => reply,
+        Err(end) => return Err(end),
+    };
+    let merge_call = RoundCall {
+        number: first + 2,
+        call: Call::Merge,
+        address: to,
+    };
+    let line = match call_at(alloc, host, &merge_call, &delta) {
+        Ok(reply) => reply,
+        Err(end) => return Err(end),
+    };
+    tell_taken(alloc, host, &merge_call, &line)
+}
+
+/// Brings each of two sites up to date from the other.
+fn exchange_both<H: Host>(alloc: Global, host: &mut H, between: &str, and: &str) -> ExitCode
+    ensures { Runs H.does host.old host.new (λ events.
+        IsRound H.Reader.Source H.Writer.Sink between.entry and.entry events (exit_status result)) }
+{
+    if let Err(end) = exchange(alloc, host, 1, between, and) {
+        return end;
+    }
+    match exchange(alloc, host, 4, and, between) {
+        Ok(()) => ExitCode::from(ANSWERED),
+        Err(end) => end,
+    }
+}
+
+/// Judges the schema, and then exchanges.
+fn exchange_under<H: Host>(
+    alloc: Global,
+    host: &mut H,
+    options: &ExchangeOptions<'_>,
+    schema: &[u8],
+) -> ExitCode
+    ensures { Runs H.does host.old host.new (λ events.
+        IsExchanged H.Reader.Source H.Writer.Sink options.now schema.now events (exit_status result)) }
+{
+    match schema_in(alloc, schema) {
+        Ok(schema) => {
+            drop(schema);
+            exchange_both(alloc, host, options.between, options.and)
+        }
+        Err(refusal) => report_refusal(alloc, host, refusal),
+    }
+}
+
+/// Reads the schema, and then brings each of two running sites up to date from the other.
+pub(crate) fn run_exchange<H: Host>(
+    alloc: Global,
+    host: &mut H,
+    options: &ExchangeOptions<'_>,
+) -> ExitCode
+    ensures { Runs H.does host.old host.new (λ events.
+        IsExchangeRun H.Reader.Source H.Writer.Sink options.now events (exit_status result)) }
+{
+    match read_file(host, options.schema) {
+        Ok(schema) => exchange_under(alloc, host, options, &schema),
+        Err(end) => end,
+    }
+}

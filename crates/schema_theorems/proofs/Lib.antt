@@ -1,0 +1,15 @@
+mod Steps
+mod Only
+mod Outcomes
+mod Agree
+mod Keys
+mod Parts
+mod Words
+mod OneFault
+mod TypesStated
+mod TypesRefused
+mod TypesKnown
+mod FilesRead
+mod NamesRead
+mod RecordsRead
+mod SchemasRead

@@ -1,0 +1,28 @@
+-- Defines how what is asked of a site is answered, and what that leaves of the site.
+-- Source: docs/formats.md, of the replies of the routes.
+-- Rules of this product: it is at most one step of the site; what is rejected before leaves the site as it was, and may
+-- meet `NoMemory` first.
+use Rattle.std.specs.Prelude.{◌≡◌, ◌⊎◌, ℕ, List, ◌++◌}
+use Rattle.http.specs.declared.status.StatusCode.{StatusCode}
+use Rattle.http_replies.specs.Replies.{fault_reply, status_reply}
+use Rattle.http_replies.specs.site_steps.Runs.{Step}
+use Rattle.http_replies.specs.site_steps.SiteViews.{SiteView, schema_of, store_in, IsSameSite}
+use Rattle.http_replies.specs.site_steps.declared.fault.SiteFault.TheVariants as fault
+use Rattle.http_replies.specs.site_steps.declared.reply.Reply.{Reply}
+use Rattle.site_calls.specs.Asked.{Asked, gives, rejects, unserved}
+use Rattle.site_calls.specs.Reports.{reported}
+
+-- `Replies old asked status body new`: the site `old` may answer what is asked by this status and body, and then be
+-- `new`.
+abbrev pub Replies : SiteView → Asked → StatusCode → List ℕ → SiteView → Type 0
+Replies old (gives i) status body new =
+    (r : Reply) × Step (schema_of old) old.name (store_in old) i r (store_in new) × IsSameSite old new
+    × ((status, body) ≡ reported r)
+Replies old (rejects f) status body new =
+    (((status, body) ≡ fault_reply f) ⊎ ((status, body) ≡ fault_reply fault.NoMemory)) × (new ≡ old)
+Replies old (unserved s) status body new = ((status, body) ≡ status_reply s) × (new ≡ old)
+
+-- The same, where the body is appended to a text.
+abbrev pub Appends : SiteView → Asked → StatusCode → List ℕ → List ℕ → SiteView → Type 0
+Appends old asked status before after new =
+    (body : List ℕ) × (after ≡ before ++ body) × Replies old asked status body new

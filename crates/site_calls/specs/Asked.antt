@@ -1,0 +1,45 @@
+-- Defines what bytes ask of a site.
+-- Source: docs/formats.md, of the bodies of the routes.
+-- Rules of this product: a policy's id is checked before its text, and of a text that is not UTF-8 the length before
+-- that; a body that names no entity does not have an entity's form.
+use Rattle.std.specs.Prelude.{ℕ, Bool, ◌&&◌, List, length, Option, Some, None, if◌then◌else◌, nat_le}
+use Rattle.std.specs.Str.{is_utf8}
+use Rattle.values.specs.declared.entity_uid.EntityUid.{EntityUid}
+use Rattle.http.specs.declared.status.StatusCode.{StatusCode}
+use Rattle.http_replies.specs.policy_grammar.Limits.{most_id_bytes, most_policy_bytes}
+use Rattle.http_replies.specs.policy_grammar.declared.fault.ReadFault.{ReadFault}
+use Rattle.http_replies.specs.policy_grammar.declared.fault.ReadFault.TheVariants.{BadId, BadToken, TooLong}
+use Rattle.http_replies.specs.site_steps.entities.declared.fault.EntityFault.TheVariants.{BadShape}
+use Rattle.http_replies.specs.site_steps.declared.fault.SiteFault.{SiteFault}
+use Rattle.http_replies.specs.site_steps.declared.fault.SiteFault.TheVariants as fault
+use Rattle.http_replies.specs.site_steps.Inputs.{Input}
+use Rattle.http_replies.specs.site_steps.Inputs as input
+
+-- What is asked of a site.
+pub data Asked : Type 0 where
+  -- the site is given an input
+  gives : Input → Asked
+  -- it is given nothing, since an error is found before
+  rejects : SiteFault → Asked
+  -- it is given nothing, since there is no such operation; the status says so
+  unserved : StatusCode → Asked
+
+-- A policy may have this id: 1 to 256 bytes.
+abbrev pub is_policy_id : List ℕ → Bool
+is_policy_id id = nat_le 1 (length id) && nat_le (length id) most_id_bytes
+
+-- `not_text id text` is the first error of a text that is not UTF-8: of its id, of its length, else that no token
+-- begins it.
+abbrev pub not_text : List ℕ → List ℕ → ReadFault
+not_text id text =
+    if is_policy_id id then if nat_le (length text) most_policy_bytes then BadToken 0 else TooLong else BadId
+
+-- A text is put under an id.
+abbrev pub put_asked : List ℕ → List ℕ → Asked
+put_asked text id =
+    if is_utf8 text then gives (input.PutPolicy id text) else rejects (fault.Policy (not_text id text))
+
+-- An entity is deleted, if the JSON names one.
+abbrev pub removal_asked : Option EntityUid → Asked
+removal_asked (Some uid) = gives (input.DeleteEntity uid)
+removal_asked None = rejects (fault.Entity BadShape)

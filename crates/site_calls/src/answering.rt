@@ -1,0 +1,203 @@
+//! Calls of a site, each answered by a status and a body.
+ghost use Rattle.std.specs.Prelude.{◌≡◌, ◌≤◌, ◌+◌, IfOk, MatchOption, vec_len, true, false, option_and_then};
+ghost use Rattle.std.specs.Str.{is_utf8};
+ghost use Rattle.std.specs.Vec.{vec_capacity};
+ghost use Rattle.json_words.specs.Json.{json_of};
+ghost use Rattle.http_replies.specs.entity_uids.Uids.{uid_in};
+ghost use Rattle.http_replies.specs.site_steps.Inputs.{input_of, GetPolicy, DeletePolicy};
+ghost use Rattle.site_calls.specs.Asked.{gives, put_asked, removal_asked, not_text};
+ghost use Rattle.site_calls.specs.Calls.{asked, call_of, upon};
+ghost use Rattle.site_calls.specs.Answers.{Appends};
+
+use crate::call::Call;
+use crate::replying::report_reply;
+use http::StatusCode;
+use http_replies::{
+    EntityFault, Input, LINE_ROOM, MOST_ID_BYTES, MOST_POLICY_BYTES, ReadFault, Site, SiteFault,
+    answer as answer_input, read_uid, report_fault,
+};
+use json_values::{Scratch, read_json_by};
+use plain::NoMemory;
+use std::alloc::Global;
+use values::EntityUid;
+
+/// Gives an input to the site, and appends the body of its reply to a text. Returns the status. What the scratch held
+/// before has no effect.
+pub fn reply_to(
+    alloc: Global,
+    scratch: &mut Scratch,
+    site: &mut Site,
+    input: &Input<'_>,
+    text: &mut Vec<u8>,
+) -> StatusCode
+    requires room { vec_len text.old + LINE_ROOM ≤ vec_capacity text.old }
+    ensures reply { Appends site.old (gives (input_of input.now)) result text.old.items text.new.items site.new }
+    ensures kept { vec_capacity text.old ≤ vec_capacity text.new }
+{
+    let reply = answer_input(alloc, scratch, site, input);
+    report_reply(alloc, text, &reply)
+}
+
+/// Returns bytes as text, if they are UTF-8.
+fn text_of(bytes: &[u8]) -> Option<&str>
+    ensures { MatchOption result (is_utf8 bytes.now ≡ false) (λ t. (is_utf8 bytes.now ≡ true) × (t.now ≡ bytes.now)) }
+{
+    match str::from_utf8(bytes) {
+        Ok(text) => Some(text),
+        Err(_) => None,
+    }
+}
+
+/// Returns the first error of a policy whose text is not UTF-8.
+fn not_text(id: &str, text: &[u8]) -> ReadFault
+    ensures { result ≡ not_text id.now text.now }
+{
+    if id.is_empty() || MOST_ID_BYTES < id.len() {
+        return ReadFault::BadId;
+    }
+    if text.len() <= MOST_POLICY_BYTES {
+        ReadFault::BadToken(0)
+    } else {
+        ReadFault::TooLong
+    }
+}
+
+/// Puts the policy whose text bytes are, and appends the body of the reply. Returns the status.
+pub fn put_text(
+    alloc: Global,
+    scratch: &mut Scratch,
+    site: &mut Site,
+    id: &str,
+    policy: &[u8],
+    text: &mut Vec<u8>,
+) -> StatusCode
+    requires room { vec_len text.old + LINE_ROOM ≤ vec_capacity text.old }
+    ensures reply { Appends site.old (put_asked policy.now id.now) result text.old.items text.new.items site.new }
+    ensures kept { vec_capacity text.old ≤ vec_capacity text.new }
+{
+    match text_of(policy) {
+        Some(policy) => reply_to(alloc, scratch, site, &Input::PutPolicy(id, policy), text),
+        None => report_fault(text, SiteFault::Policy(not_text(id, policy))),
+    }
+}
+
+/// Puts a policy under the id that bytes are.
+fn put_policy(
+    alloc: Global,
+    scratch: &mut Scratch,
+    site: &mut Site,
+    id: &[u8],
+    policy: &[u8],
+    text: &mut Vec<u8>,
+) -> StatusCode
+    requires room { vec_len text.old + LINE_ROOM ≤ vec_capacity text.old }
+    ensures reply { Appends site.old (upon id.now (put_asked policy.now)) result text.old.items text.new.items
+        site.new }
+    ensures kept { vec_capacity text.old ≤ vec_capacity text.new }
+{
+    match text_of(id) {
+        Some(id) => put_text(alloc, scratch, site, id, policy, text),
+        None => report_fault(text, SiteFault::Policy(ReadFault::BadId)),
+    }
+}
+
+/// Looks up the policy whose id these bytes are.
+fn get_policy(
+    alloc: Global,
+    scratch: &mut Scratch,
+    site: &mut Site,
+    id: &[u8],
+    text: &mut Vec<u8>,
+) -> StatusCode
+    requires room { vec_len text.old + LINE_ROOM ≤ vec_capacity text.old }
+    ensures reply { Appends site.old (upon id.now (λ id. gives (GetPolicy id))) result text.old.items text.new.items
+        site.new }
+    ensures kept { vec_capacity text.old ≤ vec_capacity text.new }
+{
+    match text_of(id) {
+        Some(id) => reply_to(alloc, scratch, site, &Input::GetPolicy(id), text),
+        None => report_fault(text, SiteFault::Policy(ReadFault::BadId)),
+    }
+}
+
+/// Deletes the policy whose id these bytes are.
+fn delete_policy(
+    alloc: Global,
+    scratch: &mut Scratch,
+    site: &mut Site,
+    id: &[u8],
+    text: &mut Vec<u8>,
+) -> StatusCode
+    requires room { vec_len text.old + LINE_ROOM ≤ vec_capacity text.old }
+    ensures reply { Appends site.old (upon id.now (λ id. gives (DeletePolicy id))) result text.old.items text.new.items
+        site.new }
+    ensures kept { vec_capacity text.old ≤ vec_capacity text.new }
+{
+    match text_of(id) {
+        Some(id) => reply_to(alloc, scratch, site, &Input::DeletePolicy(id), text),
+        None => report_fault(text, SiteFault::Policy(ReadFault::BadId)),
+    }
+}
+
+/// Returns the uid that JSON is, or None.
+fn named_entity(
+    alloc: Global,
+    scratch: &mut Scratch,
+    bytes: &[u8],
+) -> Result<Option<EntityUid>, NoMemory>
+    ensures { IfOk result (λ uid. uid ≡ option_and_then uid_in (json_of bytes.now)) }
+{
+    match read_json_by(scratch, alloc, bytes)? {
+        Some(json) => read_uid(alloc, &json),
+        None => Ok(None),
+    }
+}
+
+/// Deletes the entity whose uid JSON is, and appends the body of the reply. Returns the status.
+pub fn delete_entity(
+    alloc: Global,
+    scratch: &mut Scratch,
+    site: &mut Site,
+    uid: &[u8],
+    text: &mut Vec<u8>,
+) -> StatusCode
+    requires room { vec_len text.old + LINE_ROOM ≤ vec_capacity text.old }
+    ensures reply { Appends site.old (removal_asked (option_and_then uid_in (json_of uid.now))) result text.old.items
+        text.new.items site.new }
+    ensures kept { vec_capacity text.old ≤ vec_capacity text.new }
+{
+    match named_entity(alloc, scratch, uid) {
+        Ok(Some(uid)) => reply_to(alloc, scratch, site, &Input::DeleteEntity(&uid), text),
+        Ok(None) => report_fault(text, SiteFault::Entity(EntityFault::BadShape)),
+        Err(_) => report_fault(text, SiteFault::NoMemory),
+    }
+}
+
+/// Answers a call: at most one step of the site, whose reply is appended to a text. What the scratch held before has no
+/// effect. Out of memory is a reply too (503).
+pub fn answer_call(
+    alloc: Global,
+    scratch: &mut Scratch,
+    site: &mut Site,
+    call: &Call<'_>,
+    text: &mut Vec<u8>,
+) -> StatusCode
+    requires room { vec_len text.old + LINE_ROOM ≤ vec_capacity text.old }
+    ensures reply { Appends site.old (asked (call_of call.now)) result text.old.items text.new.items site.new }
+    ensures kept { vec_capacity text.old ≤ vec_capacity text.new }
+{
+    match call {
+        Call::Authorize(request) => {
+            reply_to(alloc, scratch, site, &Input::Authorize(request), text)
+        }
+        Call::PutPolicy(id, policy) => put_policy(alloc, scratch, site, id, policy, text),
+        Call::GetPolicy(id) => get_policy(alloc, scratch, site, id, text),
+        Call::DeletePolicy(id) => delete_policy(alloc, scratch, site, id, text),
+        Call::PutEntity(entity) => reply_to(alloc, scratch, site, &Input::PutEntity(entity), text),
+        Call::DeleteEntity(uid) => delete_entity(alloc, scratch, site, uid, text),
+        Call::State => reply_to(alloc, scratch, site, &Input::State, text),
+        Call::Summary => reply_to(alloc, scratch, site, &Input::Summary, text),
+        Call::Delta(summary) => reply_to(alloc, scratch, site, &Input::Delta(summary), text),
+        Call::Merge(message) => reply_to(alloc, scratch, site, &Input::Take(message), text),
+    }
+}

@@ -1,0 +1,5 @@
+mod Heap
+mod OnePointer
+mod Slots
+mod Texts
+mod OpenedSites

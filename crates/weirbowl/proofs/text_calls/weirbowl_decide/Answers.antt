@@ -1,0 +1,10 @@
+use Rattle.std.proofs.Common.{inr}
+use Rattle.schema_decisions.specs.decision_texts.BareReading.{bare_reading}
+use Rattle.schema_decisions.specs.decision_texts.Decisions.{IsDecisionRefused}
+use Rattle.weirbowl.proofs.Texts.{rejects}
+use Rattle.weirbowl.proofs.text_calls.weirbowl_decide.Goals as goal
+
+pub returns-in-Err : goal.returns-in-Err
+returns-in-Err c =
+    inr (rejects (IsDecisionRefused bare_reading c.args.policies.now c.args.entities.now c.args.request.now)
+    c.in-Err.refusal _ _ _ c.in-Err.ensures.refused c.report_error.ensures)

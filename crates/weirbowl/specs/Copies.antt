@@ -1,0 +1,9 @@
+-- Defines what memory holds after bytes were copied to it.
+-- Source: docs/embedding.md.
+-- Rules of this product: bytes are copied whole or not at all.
+use Rattle.std.specs.Prelude.{ℕ, List, ◌++◌, drop, length, if◌then◌else◌, nat_le}
+
+-- `copied bytes memory`: the bytes and what was behind them; or the memory as it was, if it is too short for them.
+abbrev pub copied : List ℕ → List ℕ → List ℕ
+copied bytes memory =
+    if nat_le (length bytes) (length memory) then bytes ++ drop (length bytes) memory else memory

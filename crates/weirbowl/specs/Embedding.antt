@@ -1,0 +1,12 @@
+-- Defines one call of a site that keeps the body of its last reply.
+-- Source: docs/embedding.md.
+-- Rules of this product: the body stays until the next call.
+use Rattle.std.specs.Prelude.{[]}
+use Rattle.http.specs.declared.status.StatusCode.{StatusCode}
+use Rattle.site_calls.specs.Answers.{Appends}
+use Rattle.site_calls.specs.Calls.{Call, asked}
+use Rattle.weirbowl.specs.declared.embedded.EmbeddedSite.{EmbeddedSite}
+
+-- `IsCalled old call status new`: the site is asked what the call asks, and keeps the body of the reply.
+abbrev pub IsCalled : EmbeddedSite → Call → StatusCode → EmbeddedSite → Type 0
+IsCalled old call status new = Appends old.site (asked call) status [] new.body.items new.site

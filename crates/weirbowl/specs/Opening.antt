@@ -1,0 +1,33 @@
+-- Defines a site that was opened, and why none is.
+-- Sources: docs/formats.md, of schemas and of names of sites; docs/codes.md, of the numbers of a schema.
+-- Rules of this product: the name is checked before the schema; a new site has nothing stored; the number 2 is of a
+-- name.
+use Rattle.std.specs.Prelude.{◌≡◌, ℕ, List, []}
+use Rattle.site_calls.specs.site_steps.SiteViews.{schema_of, store_in}
+use Rattle.site_calls.specs.site_steps.schema.Schemas.{IsSchemaOf}
+use Rattle.site_calls.specs.site_steps.stamped_store.SiteNames.{IsSiteName}
+use Rattle.site_calls.specs.site_steps.stamped_store.Store.{store_of}
+use Rattle.schema_decisions.specs.Checks.{IsSchemaRefused}
+use Rattle.schema_decisions.specs.answer_lines.Refusals.{no_memory}
+use Rattle.weirbowl.specs.declared.embedded.EmbeddedSite.{EmbeddedSite}
+use Rattle.weirbowl.specs.declared.opening.OpenError.{OpenError}
+use Rattle.weirbowl.specs.declared.opening.OpenError.TheVariants.{SiteName, Schema}
+
+-- `IsOpened schema name e`: `e` is a site of this name, under the schema that the bytes describe, with nothing stored
+-- and no reply yet.
+pub record IsOpened (schema name : List ℕ) (e : EmbeddedSite) : Type 0 where
+  pub described : IsSchemaOf schema (schema_of e.site)
+  pub named : e.site.name ≡ name
+  pub empty : store_in e.site ≡ store_of []
+  pub fresh : e.body.items ≡ []
+
+-- `IsOpenError schema name f`: no site of this name is opened under these bytes, because of `f`. `NoMemory` may be the
+-- cause at any bytes.
+abbrev pub IsOpenError : List ℕ → List ℕ → OpenError → Type 0
+IsOpenError schema name SiteName = IsSiteName name → ⊥
+IsOpenError schema name (Schema r) = (r ≡ no_memory → ⊥) → IsSiteName name × IsSchemaRefused schema r
+
+-- The number of an error: 2 of a name, 1 for `NoMemory`, 20 to 25 of a schema.
+abbrev pub code_of : OpenError → ℕ
+code_of SiteName = 2
+code_of (Schema r) = r.code

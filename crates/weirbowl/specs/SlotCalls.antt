@@ -1,0 +1,43 @@
+-- Defines what a call on a slot returns and writes, and which site it leaves there.
+-- Source: docs/embedding.md.
+-- Rules of this product: a slot has a site or none; a call without a site does nothing and returns the status 0.
+use Rattle.std.specs.Prelude.{◌≡◌, ◌⊎◌, ◌<◌, ℕ, Bool, List, Option, Some, None, is_some, length}
+use Rattle.http.specs.declared.status.StatusCode.{StatusCode}
+use Rattle.site_calls.specs.Calls.{Call}
+use Rattle.weirbowl.specs.Copies.{copied}
+use Rattle.weirbowl.specs.Embedding.{IsCalled}
+use Rattle.weirbowl.specs.Opening.{IsOpened, IsOpenError, code_of}
+use Rattle.weirbowl.specs.declared.call_result.CallResult.{CallResult}
+use Rattle.weirbowl.specs.declared.embedded.EmbeddedSite.{EmbeddedSite}
+use Rattle.weirbowl.specs.declared.opening.OpenError.{OpenError}
+
+-- The result if no site is open.
+abbrev pub not_open : CallResult
+not_open = record { status = 0; length = 0 }
+
+-- `Calls old call r before after new`: the site of the slot answers the call, the status and the length of the body are
+-- returned, and the body is copied. If no site is open, nothing happens.
+abbrev pub Calls : Option EmbeddedSite → Call → CallResult → List ℕ → List ℕ → Option EmbeddedSite → Type 0
+Calls (Some old) call r before after new =
+    (e : EmbeddedSite) × (status : StatusCode) × (new ≡ Some e) × IsCalled old call status e
+    × (r ≡ record { status = status; length = length e.body.items }) × (after ≡ copied e.body.items before)
+Calls None call r before after new = (r ≡ not_open) × (after ≡ before) × (new ≡ None)
+
+-- `RepeatsBody old r before after new`: the body of the last reply is copied again, and the site stays as it was.
+abbrev pub RepeatsBody : Option EmbeddedSite → CallResult → List ℕ → List ℕ → Option EmbeddedSite → Type 0
+RepeatsBody (Some old) r before after new =
+    (r ≡ record { status = 200; length = length old.body.items }) × (after ≡ copied old.body.items before)
+    × (new ≡ Some old)
+RepeatsBody None r before after new = (r ≡ not_open) × (after ≡ before) × (new ≡ None)
+
+-- `Opens old schema name code new`: a site is opened with nothing stored (0); one is open there already (3); or none is
+-- opened, and the number says why.
+abbrev pub Opens : Option EmbeddedSite → List ℕ → List ℕ → ℕ → Option EmbeddedSite → Type 0
+Opens (Some old) schema name code new = (code ≡ 3) × (new ≡ Some old)
+Opens None schema name code new =
+    ((code ≡ 0) × ((e : EmbeddedSite) × (new ≡ Some e) × IsOpened schema name e))
+    ⊎ ((0 < code) × (new ≡ None) × ((f : OpenError) × IsOpenError schema name f × (code ≡ code_of f)))
+
+-- `Closes old was_open new`: no site is open any more.
+abbrev pub Closes : Option EmbeddedSite → Bool → Option EmbeddedSite → Type 0
+Closes old was_open new = (was_open ≡ is_some old) × (new ≡ None)

@@ -1,0 +1,51 @@
+-- Defines what a call over texts returns and writes: no site is in it.
+-- Source: docs/formats.md, of `decide` and `check`.
+-- Rules of this product: the status is 200 for an answer, and for policies that all pass; 422 for texts that are
+-- rejected, and for policies of which one does not pass; if out of memory, 503 without a body.
+use Rattle.std.specs.Prelude.{◌≡◌, ◌⊎◌, ℕ, Bool, List, length, if◌then◌else◌}
+use Rattle.schema_decisions.specs.answer_lines.declared.refusal.Refusal.{Refusal}
+use Rattle.schema_decisions.specs.answer_lines.Refusals.{error_line}
+use Rattle.schema_decisions.specs.decision_texts.BareReading.{bare_reading}
+use Rattle.schema_decisions.specs.decision_texts.Decisions as bare
+use Rattle.schema_decisions.specs.Checks.{IsChecked, AreChecksRefused}
+use Rattle.schema_decisions.specs.Decisions as typed
+use Rattle.weirbowl.specs.Copies.{copied}
+use Rattle.weirbowl.specs.declared.call_result.CallResult.{CallResult}
+
+-- The result if out of memory.
+abbrev pub no_memory : CallResult
+no_memory = record { status = 503; length = 0 }
+
+-- `Returns status text r before after`: the status and the length of a text are returned, and the text is copied.
+abbrev pub Returns : ℕ → List ℕ → CallResult → List ℕ → List ℕ → Type 0
+Returns status text r before after =
+    (r ≡ record { status = status; length = length text }) × (after ≡ copied text before)
+
+-- `Rejects IsDue r before after`: an error that is due is returned, or that there is no memory; nothing is then
+-- written.
+abbrev pub Rejects : (Refusal → Type 0) → CallResult → List ℕ → List ℕ → Type 0
+Rejects IsDue r before after =
+    ((f : Refusal) × IsDue f × Returns 422 (error_line f) r before after) ⊎ ((r ≡ no_memory) × (after ≡ before))
+
+-- Policies, entities and a request without a schema: the line of the answer.
+abbrev pub Decides : List ℕ → List ℕ → List ℕ → CallResult → List ℕ → List ℕ → Type 0
+Decides policies entities request r before after =
+    ((line : List ℕ) × bare.IsDecided bare_reading policies entities request line × Returns 200 line r before after)
+    ⊎ Rejects (bare.IsDecisionRefused bare_reading policies entities request) r before after
+
+-- The same under a schema.
+abbrev pub DecidesUnder : List ℕ → List ℕ → List ℕ → List ℕ → CallResult → List ℕ → List ℕ → Type 0
+DecidesUnder schema policies entities request r before after =
+    ((line : List ℕ) × typed.IsDecided schema policies entities request line × Returns 200 line r before after)
+    ⊎ Rejects (typed.IsSchemaDecisionRefused schema policies entities request) r before after
+
+-- The status of policies that were checked, by whether one does not pass.
+abbrev pub checked_status : Bool → ℕ
+checked_status some_rejected = if some_rejected then 422 else 200
+
+-- Policies under a schema: a line for each.
+abbrev pub Checks : List ℕ → List ℕ → CallResult → List ℕ → List ℕ → Type 0
+Checks schema policies r before after =
+    ((text : List ℕ) × (some_rejected : Bool) × IsChecked schema policies text some_rejected
+    × Returns (checked_status some_rejected) text r before after)
+    ⊎ Rejects (AreChecksRefused schema policies) r before after

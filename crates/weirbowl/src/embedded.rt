@@ -1,0 +1,48 @@
+//! A site in the process of the program that asks it.
+ghost use Rattle.std.specs.Prelude.{◌≡◌, ◌≤◌};
+ghost use Rattle.std.specs.Vec.{vec_capacity};
+ghost use Rattle.site_calls.specs.http_replies.declared.TheConstants.{LINE_ROOM};
+
+use http::StatusCode;
+use site_calls::{Call, Scratch, Site, answer_call};
+use std::alloc::Global;
+
+/// A site, with the body of its last reply.
+#[derive(Drop)]
+pub struct EmbeddedSite {
+    pub(crate) alloc: Global,
+    // lent to each JSON that is read, since a new one is zeroed whole
+    pub(crate) scratch: Scratch,
+    /// The site.
+    pub site: Site,
+    /// The body of the last reply; empty before the first call.
+    pub body: Vec<u8>,
+    ghost room: { LINE_ROOM ≤ vec_capacity body },
+}
+
+impl EmbeddedSite {
+    ghost use Rattle.site_calls.specs.Calls.{call_of};
+    ghost use Rattle.weirbowl.specs.Embedding.{IsCalled};
+
+    /// Answers a call: at most one step of the site. Returns the status of the reply and keeps its body, in place of
+    /// the last one. Out of memory is a reply too (503).
+    pub fn call(&mut self, call: &Call<'_>) -> StatusCode
+        ensures { IsCalled self.old (call_of call.now) result self.new }
+    {
+        self.body.clear();
+        answer_call(
+            self.alloc,
+            &mut self.scratch,
+            &mut self.site,
+            call,
+            &mut self.body,
+        )
+    }
+
+    /// Returns the body of the last reply.
+    pub fn body(&self) -> &[u8]
+        ensures { result.now ≡ self.now.body.items }
+    {
+        self.body.as_slice()
+    }
+}

@@ -1,0 +1,164 @@
+//! What C calls on the site of a slot.
+ghost use Rattle.site_calls.specs.Calls as call;
+ghost use Rattle.weirbowl.specs.SlotCalls.{Calls, Opens, Closes, RepeatsBody};
+
+use crate::call_result::CallResult;
+use crate::slot::SiteSlot;
+use crate::slot_calls::{call_in, close_in, open_in, repeat_body};
+use site_calls::Call;
+use std::alloc::Global;
+
+/// Opens a site with nothing stored. Returns 0; 3 if one is open there; else the number of the error.
+#[unsafe(no_mangle)]
+pub extern "C" fn weirbowl_open(
+    alloc: Global,
+    slot: &mut SiteSlot,
+    schema: &[u8],
+    name: &[u8],
+) -> u32
+    ensures { Opens slot.old.pointer.site schema.now name.now result slot.new.pointer.site }
+{
+    open_in(alloc, slot, schema, name)
+}
+
+/// Closes the site. Returns whether one was open.
+#[unsafe(no_mangle)]
+pub extern "C" fn weirbowl_close(alloc: Global, slot: &mut SiteSlot) -> bool
+    ensures { Closes slot.old.pointer.site result slot.new.pointer.site }
+{
+    close_in(alloc, slot)
+}
+
+/// Copies the body of the last reply again.
+#[unsafe(no_mangle)]
+pub extern "C" fn weirbowl_last_body(
+    alloc: Global,
+    slot: &mut SiteSlot,
+    out: &mut [u8],
+) -> CallResult
+    ensures { RepeatsBody slot.old.pointer.site result out.old out.new slot.new.pointer.site }
+{
+    repeat_body(alloc, slot, out)
+}
+
+/// Decides a request: its JSON.
+#[unsafe(no_mangle)]
+pub extern "C" fn weirbowl_authorize(
+    alloc: Global,
+    slot: &mut SiteSlot,
+    request: &[u8],
+    out: &mut [u8],
+) -> CallResult
+    ensures { Calls slot.old.pointer.site (call.Authorize request.now) result out.old out.new slot.new.pointer.site }
+{
+    call_in(alloc, slot, &Call::Authorize(request), out)
+}
+
+/// Puts a policy: its id, and its text.
+#[unsafe(no_mangle)]
+pub extern "C" fn weirbowl_put_policy(
+    alloc: Global,
+    slot: &mut SiteSlot,
+    id: &[u8],
+    text: &[u8],
+    out: &mut [u8],
+) -> CallResult
+    ensures { Calls slot.old.pointer.site (call.PutPolicy id.now text.now) result out.old out.new
+        slot.new.pointer.site }
+{
+    call_in(alloc, slot, &Call::PutPolicy(id, text), out)
+}
+
+/// Looks up the policy of an id.
+#[unsafe(no_mangle)]
+pub extern "C" fn weirbowl_get_policy(
+    alloc: Global,
+    slot: &mut SiteSlot,
+    id: &[u8],
+    out: &mut [u8],
+) -> CallResult
+    ensures { Calls slot.old.pointer.site (call.GetPolicy id.now) result out.old out.new slot.new.pointer.site }
+{
+    call_in(alloc, slot, &Call::GetPolicy(id), out)
+}
+
+/// Deletes the policy of an id.
+#[unsafe(no_mangle)]
+pub extern "C" fn weirbowl_delete_policy(
+    alloc: Global,
+    slot: &mut SiteSlot,
+    id: &[u8],
+    out: &mut [u8],
+) -> CallResult
+    ensures { Calls slot.old.pointer.site (call.DeletePolicy id.now) result out.old out.new slot.new.pointer.site }
+{
+    call_in(alloc, slot, &Call::DeletePolicy(id), out)
+}
+
+/// Puts an entity: its JSON.
+#[unsafe(no_mangle)]
+pub extern "C" fn weirbowl_put_entity(
+    alloc: Global,
+    slot: &mut SiteSlot,
+    entity: &[u8],
+    out: &mut [u8],
+) -> CallResult
+    ensures { Calls slot.old.pointer.site (call.PutEntity entity.now) result out.old out.new slot.new.pointer.site }
+{
+    call_in(alloc, slot, &Call::PutEntity(entity), out)
+}
+
+/// Deletes an entity: the JSON of its uid.
+#[unsafe(no_mangle)]
+pub extern "C" fn weirbowl_delete_entity(
+    alloc: Global,
+    slot: &mut SiteSlot,
+    uid: &[u8],
+    out: &mut [u8],
+) -> CallResult
+    ensures { Calls slot.old.pointer.site (call.DeleteEntity uid.now) result out.old out.new slot.new.pointer.site }
+{
+    call_in(alloc, slot, &Call::DeleteEntity(uid), out)
+}
+
+/// Writes the state, as a message to other sites.
+#[unsafe(no_mangle)]
+pub extern "C" fn weirbowl_state(alloc: Global, slot: &mut SiteSlot, out: &mut [u8]) -> CallResult
+    ensures { Calls slot.old.pointer.site call.State result out.old out.new slot.new.pointer.site }
+{
+    call_in(alloc, slot, &Call::State, out)
+}
+
+/// Writes the summary, as a message to other sites.
+#[unsafe(no_mangle)]
+pub extern "C" fn weirbowl_summary(alloc: Global, slot: &mut SiteSlot, out: &mut [u8]) -> CallResult
+    ensures { Calls slot.old.pointer.site call.Summary result out.old out.new slot.new.pointer.site }
+{
+    call_in(alloc, slot, &Call::Summary, out)
+}
+
+/// Writes the entries that another site is missing: that site's summary.
+#[unsafe(no_mangle)]
+pub extern "C" fn weirbowl_delta(
+    alloc: Global,
+    slot: &mut SiteSlot,
+    summary: &[u8],
+    out: &mut [u8],
+) -> CallResult
+    ensures { Calls slot.old.pointer.site (call.Delta summary.now) result out.old out.new slot.new.pointer.site }
+{
+    call_in(alloc, slot, &Call::Delta(summary), out)
+}
+
+/// Applies the updates of a message: a state or a delta of another site.
+#[unsafe(no_mangle)]
+pub extern "C" fn weirbowl_merge(
+    alloc: Global,
+    slot: &mut SiteSlot,
+    message: &[u8],
+    out: &mut [u8],
+) -> CallResult
+    ensures { Calls slot.old.pointer.site (call.Merge message.now) result out.old out.new slot.new.pointer.site }
+{
+    call_in(alloc, slot, &Call::Merge(message), out)
+}

@@ -1,0 +1,103 @@
+//! What C calls over texts, without a site.
+ghost use Rattle.std.specs.Prelude.{◌≡◌, length};
+ghost use Rattle.schema_decisions.specs.answer_lines.Refusals.{no_memory as memory_refused};
+ghost use Rattle.weirbowl.specs.Copies.{copied};
+ghost use Rattle.weirbowl.specs.TextCalls.{Decides, DecidesUnder, Checks, Rejects, Returns, no_memory, checked_status};
+
+use crate::call_result::CallResult;
+use crate::copying::copy_out;
+use schema_decisions::{Refusal, check_texts, decide_texts, decide_under};
+use site_calls::error_line;
+use std::alloc::Global;
+
+/// Returns the result if out of memory.
+fn no_memory() -> CallResult
+    ensures { result ≡ no_memory }
+{
+    CallResult {
+        status: 503,
+        length: 0,
+    }
+}
+
+/// Returns the result of a text, which is copied.
+fn report_text(status: u32, text: &[u8], out: &mut [u8]) -> CallResult
+    ensures { Returns status text.now result out.old out.new }
+{
+    copy_out(text, out);
+    CallResult {
+        status,
+        length: text.len(),
+    }
+}
+
+/// Returns the result of an error, whose line is copied.
+fn report_error(alloc: Global, refusal: Refusal, out: &mut [u8]) -> CallResult
+    ensures { Rejects (λ f. (f ≡ refusal) × (refusal ≡ memory_refused → ⊥)) result out.old out.new }
+{
+    if refusal.code == 1 {
+        return no_memory();
+    }
+    match error_line(alloc, refusal) {
+        Ok(line) => report_text(422, &line, out),
+        Err(_) => no_memory(),
+    }
+}
+
+/// Returns the status of policies that were checked.
+fn checked_status(some_rejected: bool) -> u32
+    ensures { result ≡ checked_status some_rejected }
+{
+    if some_rejected { 422 } else { 200 }
+}
+
+/// Decides over texts of policies and of entities, without a schema.
+#[unsafe(no_mangle)]
+pub extern "C" fn weirbowl_decide(
+    alloc: Global,
+    policies: &[u8],
+    entities: &[u8],
+    request: &[u8],
+    out: &mut [u8],
+) -> CallResult
+    ensures { Decides policies.now entities.now request.now result out.old out.new }
+{
+    match decide_texts(alloc, policies, entities, request) {
+        Ok(line) => report_text(200, &line, out),
+        Err(refusal) => report_error(alloc, refusal, out),
+    }
+}
+
+/// Decides over texts of policies and of entities, under a schema.
+#[unsafe(no_mangle)]
+pub extern "C" fn weirbowl_decide_under(
+    alloc: Global,
+    schema: &[u8],
+    policies: &[u8],
+    entities: &[u8],
+    request: &[u8],
+    out: &mut [u8],
+) -> CallResult
+    ensures { DecidesUnder schema.now policies.now entities.now request.now result out.old out.new }
+{
+    match decide_under(alloc, schema, policies, entities, request) {
+        Ok(line) => report_text(200, &line, out),
+        Err(refusal) => report_error(alloc, refusal, out),
+    }
+}
+
+/// Checks a file of policies under a schema: a line for each policy.
+#[unsafe(no_mangle)]
+pub extern "C" fn weirbowl_check(
+    alloc: Global,
+    schema: &[u8],
+    policies: &[u8],
+    out: &mut [u8],
+) -> CallResult
+    ensures { Checks schema.now policies.now result out.old out.new }
+{
+    match check_texts(alloc, schema, policies) {
+        Ok((lines, some_rejected)) => report_text(checked_status(some_rejected), &lines, out),
+        Err(refusal) => report_error(alloc, refusal, out),
+    }
+}
