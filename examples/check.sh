@@ -63,6 +63,10 @@ cd ../clinic
 decide=(decide --schema schema.json --policies policies.cedar --entities entities.json)
 wants "the clinic's policies" 0 "$(cat policies_verdicts.txt)" 1 check --schema schema.json policies.cedar
 wants "the clinic's draft" 1 "$(cat draft_verdicts.txt)" 1 check --schema schema.json draft.cedar
+wants "the clinic's hasty draft, explained" 1 "$(cat hasty_draft_explained.txt)" 1 explain --schema schema.json hasty_draft.cedar
+cd ../tinytodo
+wants "the draft for lists, explained" 1 "$(cat draft_explained.txt)" 1 explain --schema schema.json draft.cedar
+cd ../clinic
 for asked in ben_reads ben_writes ben_away ann_writes; do
     wants "$asked" 0 "$(cat ${asked}_answer.txt)" 1 "${decide[@]}" --request $asked.json
 done

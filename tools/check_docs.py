@@ -16,11 +16,14 @@
 - Lines of specs/ and src/ have at most 120 characters, except those of LONG.
 - docs/codes.md has a row for each number of an arm of a `fn code`, and for each number of a rejected body (`BodyFault::Refused`); of HTTP statuses only
   for those in place of a code. A reader must judge whether a row explains its number.
+- In these rows name, meaning and example of each code are those of the table that `cedar_site explain` prints from, crates/fault_words/src/table.rt; both
+  have the same codes.
 - If a program's stdout has lines of a case and its outcome, stdin has these lines without the outcomes.
 - Each name of docs/where.md exists (tools/where_it_stands.py).
 Standard library alone.
 """
 import argparse
+import json
 import os
 import re
 import sys
@@ -45,6 +48,7 @@ ARROW = "  ->  "
 LONG = {
     "crates/decision_texts/src/request.rt": 1,
     "crates/entities/src/requests.rt": 1,
+    "crates/fault_words/src/table.rt": 6,
     "crates/type_capabilities/src/compared.rt": 2,
 }
 
@@ -183,6 +187,29 @@ def about_codes():
     yield from (f"docs/codes.md: expected a row for {it}, got none" for it in sorted(coded - told - BESIDE_CODES, key=int))
 
 
+def told_codes():
+    """Name, meaning and example of each code, as the table of the code has them."""
+    text = r'"((?:[^"\\]|\\.)*)"'
+    row = r"CodeWords \{\s*code: (\d+),\s*name: TEXT,\s*meaning: TEXT,\s*example: TEXT,".replace("TEXT", text)
+    for code, *texts in re.findall(row, text_of("crates/fault_words/src/table.rt")):
+        yield int(code), [json.loads(f'"{it}"') for it in texts]
+
+
+def about_code_table():
+    told, table = dict(told_codes()), {}
+    for part in text_of("docs/codes.md").partition("## Statuses of the program")[0].split("| code |")[1:]:
+        has_example = "example" in part.partition("\n")[0]
+        for line in re.findall(r"(?m)^\| \d+ \|.*$", part):
+            code, name, meaning, example, *_ = (it.strip() for it in line.strip("| ").split(" | "))
+            table[int(code)] = [name, meaning, example if has_example else None]
+    for code in sorted(told.keys() | table.keys()):
+        ours, theirs = told.get(code), table.get(code)
+        if ours is None or theirs is None:
+            yield f"code {code} stands in docs/codes.md or in crates/fault_words/src/table.rt, and not in both"
+        elif ours[:2] != theirs[:2] or theirs[2] not in (None, ours[2]):
+            yield f"docs/codes.md says {theirs} of code {code}, and crates/fault_words/src/table.rt {ours}"
+
+
 def about_cases():
     for name in crates():
         wanted, given = f"crates/{name}/stdout", f"crates/{name}/stdin"
@@ -206,7 +233,7 @@ def about_reading():
 
 def main():
     argparse.ArgumentParser(description=__doc__, formatter_class=argparse.RawDescriptionHelpFormatter).parse_args()
-    found = [*about_layers(), *about_crates(), *about_paths(), *about_numbers(), *about_lines(), *about_long_lines(), *about_codes()]
+    found = [*about_layers(), *about_crates(), *about_paths(), *about_numbers(), *about_lines(), *about_long_lines(), *about_codes(), *about_code_table()]
     found += [*about_cases(), *made_docs.stale(), *about_reading(), *where_it_stands.faults()]
     print("\n".join(found) or "documents: all checks passed")
     return 1 if found else 0

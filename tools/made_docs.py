@@ -11,7 +11,9 @@ of the named files are made.
 --check writes nothing: it prints the differences, and its status is 1 if there are any. --missing prints exports without
 a doc comment and files of specs/ without a head comment. --laws prints the laws, which are functions that do nothing.
 --calls prints what crates export: types and traits with their public methods, functions and constants, each with the
-first clause of its doc comment. --where NAME prints the files of specs/ that define a name. Standard library alone.
+first clause of its doc comment. --where NAME prints the files of specs/ that define a name, with their sources: a heading of the
+Cedar reference guide 4.0 in quotes, a file below cedar-lean/Cedar of the formal model cedar-spec with a slash, or a standard; none, if a file has only
+rules of this product. Standard library alone.
 """
 import argparse
 import functools
@@ -32,7 +34,7 @@ ITEM = re.compile(r"^pub (?:const )?(?P<kind>fn|struct|enum|trait|const|type) (?
 METHOD = re.compile(r"^    (?P<pub>pub )?(?:const )?fn (?P<name>\w+)")
 IMPL = re.compile(r"^impl(?:<.*?>)? (?:(?P<trait>[\w:]+)(?:<.*>)? for )?(?P<type>\w+)")
 # the most characters of a first clause that is told whole
-LONG = 44
+LONG = 20
 
 STANDARD = re.compile(r"(?:RFC|FIPS) [\d-]+(?:, sections? [\d., andto]*\d)?")
 # the totals of docs/reading.md
@@ -56,17 +58,12 @@ SHORTER = (
 
 DEFINITIONS = """# Definitions, in the order in which to read them
 
-Made from the sources by `tools/made_docs.py`: to change it, change a head comment there.
+Made by `tools/made_docs.py` from the head comments.
 
 The files of specs/ on which the contract of a whole run, `program::run`, rests (docs/reading.md),
-highest crate first: each with the number of its lines that count, what it defines, and its source.
-Within a crate they are in the order in which a reader meets their names, which
-`tools/definitions.py reading --names` prints. `tools/made_docs.py --where NAME` prints the file and
-the source of any name, also of those on which only theorems rest.
-
-A source *in quotes alone* is a heading of the Cedar reference guide 4.0; *with a slash*, a file
-below cedar-lean/Cedar of the formal model cedar-spec; *in part ours*: partly a rule of this
-product. A file without a source has only rules of this product.
+highest crate first: each with the number of its lines that count, and what it defines. The head
+comment of each file names its public source; `tools/made_docs.py --where NAME` prints the file and
+the source of any name.
 """
 
 
@@ -241,13 +238,17 @@ def reached():
 
 
 def told_of(head):
-    """Returns the first clause of the head comment of a file of specs/, in short, and its source."""
+    """Returns the first clause of the head comment of a file of specs/, in short."""
     told = clause(head)
-    named = source(head, told)
     if len(told) > LONG:
         told = re.split(r", (?!of |or )(?![^(]*\))", told)[0]
-    told = re.sub(r"^Defines (?:the )?(\w?)", lambda it: it[1].upper(), told)
-    return re.sub(r", sections? (?=\d)", " §", f"{told} ({named})" if named not in ("", "ours") else told)
+    return re.sub(r"^Defines (?:the )?(\w?)", lambda it: it[1].upper(), told)
+
+
+def told_with_source(head):
+    """Returns the same, with the source of the file."""
+    named = source(head, clause(head))
+    return re.sub(r", sections? (?=\d)", " §", f"{told_of(head)} ({named})" if named not in ("", "ours") else told_of(head))
 
 
 def where(name):
@@ -256,7 +257,7 @@ def where(name):
     for crate in products():
         for path, module in modules_of(crate, "formers"):
             if name in walk.module(crate, module).items:
-                yield f"{os.path.relpath(path, TOP)}: {told_of(head_of(path))}"
+                yield f"{os.path.relpath(path, TOP)}: {told_with_source(head_of(path))}"
 
 
 def definitions():

@@ -660,6 +660,7 @@ KINDS = {
     "checks": Checks,
     "stored": Stored,
     "runs": Runs,
+    "explanations": Runs,
     "loads": Runs,
     "merge": Merges,
     "pull": Pulls,

@@ -1,5 +1,5 @@
 -- A stream of which nothing was read, since memory was refused.
-use Rattle.std.proofs.Common.{ℕ, Option, List, [], Err, refl, inl}
+use Rattle.std.proofs.Common.{ℕ, Option, List, [], Err, refl}
 use Rattle.std.proofs.KnownBytes.{Appends-nil, Consumes-nil}
 use Rattle.http.specs.declared.status.StatusCode.{StatusCode}
 use Rattle.http_framing.proofs.OneRequest.{nothing_unfinished}
@@ -47,7 +47,7 @@ module _ {R W L : Type 0} (lines : Lining) (refusal : StatusCode → List ℕ) (
       before = [];
       last = [];
       serves = (refl, refl, refl);
-      ended = inl (refl, refl);
+      ended = (refl, refl);
       joined = refl;
     };
     failed = refl;

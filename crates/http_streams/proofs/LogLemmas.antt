@@ -1,6 +1,6 @@
 -- Each line that a log gets follows the one before.
 use Rattle.std.proofs.Common.{◌≡◌, ◌<◌, ℕ, zero, suc, Bool, List, [], ◌∷◌, ◌++◌, Option, length, drop, refl, sym, ap, ◌∙◌, subst, inl, inr}
-use Rattle.std.proofs.Common.{append_assoc, append-nil, arith, true, Result, Err, ◌≢◌}
+use Rattle.std.proofs.Common.{append_assoc, append-nil, arith, true, Result, Ok, Err, ◌≢◌}
 use Rattle.http_devices.specs.Devices.{HasFailed}
 use Rattle.http_streams.specs.declared.serve.StreamFault.{StreamFault}
 use Rattle.http_streams.specs.declared.serve.StreamFault.TheVariants as fault
@@ -11,14 +11,17 @@ use Rattle.http_framing.specs.http_texts.ReplyText.{ending, error_line, length_l
 use Rattle.http_framing.specs.Request.{IsRefused}
 use Rattle.http.specs.declared.status.StatusCode.{StatusCode}
 use Rattle.http_streams.specs.Stream.{Exchanges, Halts, Refuses, Serves, Answering}
-use Rattle.http_streams.specs.Logs.{Lining, IsFront, IsSentInPart, notes, cuts, AreNoted, IsLastNoted, IsRefusalNoted, IsRefusalCut, HasLogFailed, IsLogged}
+use Rattle.http_streams.specs.Logs.{Lining, IsFront, notes, cuts, AreNoted, IsLastNoted, HasLogFailed, IsLogged}
+use Rattle.http_streams.specs.inner.Sending.{IsSentInPart, fault_of}
+use Rattle.http_streams.specs.declared.serve.Broken.{Broken}
+use Rattle.http_streams.specs.declared.serve.Broken.TheVariants.{Log, Write}
 use Rattle.http_streams.proofs.StreamLemmas.{Serves-then, Serves-none, Serves-append}
 
 module _ {L : Type 0} (lines : Lining) (refusal : StatusCode → List ℕ) (logged : L → Option (List ℕ)) where
   -- the last reply stands at the front
-  pub noted_now : (old new : L) (bytes out : List ℕ) → IsLastNoted lines refusal logged old bytes out new
-      → AreNoted lines refusal logged old bytes out new
-  noted_now old new bytes out x = record {
+  pub noted_now : (result : Result (Unit {0}) StreamFault) (old new : L) (bytes out : List ℕ)
+      → IsLastNoted lines refusal logged result old bytes out new → AreNoted lines refusal logged result old bytes out new
+  noted_now result old new bytes out x = record {
     count = 0;
     mid = old;
     rest = bytes;
@@ -30,10 +33,10 @@ module _ {L : Type 0} (lines : Lining) (refusal : StatusCode → List ℕ) (logg
   }
 
   -- some requests, and then more
-  pub noted_after : (n : ℕ) (old mid new : L) (bytes rest out more : List ℕ)
-      → Serves (notes lines logged) n old bytes rest out mid → AreNoted lines refusal logged mid rest more new
-      → AreNoted lines refusal logged old bytes (out ++ more) new
-  noted_after n old mid new bytes rest out more x e =
+  pub noted_after : (result : Result (Unit {0}) StreamFault) (n : ℕ) (old mid new : L) (bytes rest out more : List ℕ)
+      → Serves (notes lines logged) n old bytes rest out mid → AreNoted lines refusal logged result mid rest more new
+      → AreNoted lines refusal logged result old bytes (out ++ more) new
+  noted_after result n old mid new bytes rest out more x e =
       let k = Serves-then (notes lines logged) n e.count old mid e.mid bytes rest e.rest out e.before x e.serves in
       record {
         count = k.0;
@@ -47,39 +50,34 @@ module _ {L : Type 0} (lines : Lining) (refusal : StatusCode → List ℕ) (logg
       }
 
   -- some requests, and nothing behind them
-  pub noted_so_far : (n : ℕ) (old new : L) (bytes rest out : List ℕ) → Serves (notes lines logged) n old bytes rest out new
-      → AreNoted lines refusal logged old bytes out new
-  noted_so_far n old new bytes rest out x = record {
+  pub noted_so_far : (result : Result (Unit {0}) StreamFault) (n : ℕ) (old new : L) (bytes rest out : List ℕ)
+      → Serves (notes lines logged) n old bytes rest out new → IsLastNoted lines refusal logged result new rest [] new
+      → AreNoted lines refusal logged result old bytes out new
+  noted_so_far result n old new bytes rest out x none = record {
     count = n;
     mid = new;
     rest = rest;
     before = out;
     last = [];
     serves = x;
-    ended = inl (refl, refl);
+    ended = none;
     joined = sym (append-nil out);
   }
 
   -- a whole reply behind its line
   pub whole_noted : (old new : L) (bytes rest out : List ℕ) (last : Bool) → Exchanges (notes lines logged) old bytes last out new rest
-      → IsLastNoted lines refusal logged old bytes out new
-  whole_noted old new bytes rest out last x = inr (inl (
-    [],
-    rest,
-    last,
-    subst (λ (o : List ℕ). Exchanges (notes lines logged) old bytes last o new rest) (sym (append-nil out)) x,
-  ))
+      → IsLastNoted lines refusal logged (Ok tt) old bytes out new
+  whole_noted old new bytes rest out last x = inr (inl (rest, last, x))
 
   pub refusal_noted : (old new : L) (bytes : List ℕ) (status : StatusCode) → IsRefused bytes status
       → Appends (logged old) (logged new) (refusal status)
-      → IsLastNoted lines refusal logged old bytes (reply_text true status (error_line status)) new
-  refusal_noted old new bytes status refused x =
-      inr (inr (inl ([], (status, refused, append-nil (reply_text true status (error_line status)), x))))
+      → IsLastNoted lines refusal logged (Ok tt) old bytes (reply_text true status (error_line status)) new
+  refusal_noted old new bytes status refused x = inr (inr (status, refused, refl, x))
 
   -- the same fact at equal bytes
-  pub last_at : (old new : L) {bytes same : List ℕ} (out : List ℕ) → bytes ≡ same → IsLastNoted lines refusal logged old bytes out new
-      → IsLastNoted lines refusal logged old same out new
-  last_at old new out e x = subst (λ (t : List ℕ). IsLastNoted lines refusal logged old t out new) e x
+  pub last_at : (result : Result (Unit {0}) StreamFault) (old new : L) {bytes same : List ℕ} (out : List ℕ) → bytes ≡ same
+      → IsLastNoted lines refusal logged result old bytes out new → IsLastNoted lines refusal logged result old same out new
+  last_at result old new out e x = subst (λ (t : List ℕ). IsLastNoted lines refusal logged result old t out new) e x
 
 -- a reply is not empty
 one_some : (x : ℕ) (xs : List ℕ) → 0 < length (x ∷ xs)
@@ -93,42 +91,46 @@ reply_some last status body =
 module _ {S L W : Type 0} (answers : Answering S) (lines : Lining) (refusal : StatusCode → List ℕ) (logged : L → Option (List ℕ))
     (holds : W → Option (List ℕ)) where
   -- the reply to a request broke off, or its line did
-  pub broken_off : (a b : S) (l k : L) (v w : W) (bytes line reply rest : List ℕ) (last : Bool) → 0 < length reply
+  pub broken_off : (broken : Broken) (a b : S) (l k : L) (v w : W) (bytes line reply rest : List ℕ) (last : Bool) → 0 < length reply
       → Exchanges answers a bytes last reply b rest
       → (Appends (logged l) (logged k) line → Exchanges (notes lines logged) l bytes last reply k rest)
       → (IsFront line (logged l) (logged k) → Exchanges (cuts lines logged) l bytes last reply k rest)
-      → IsSentInPart logged holds line reply l k v w
+      → IsSentInPart broken logged holds line reply l k v w
       → (out : List ℕ) × Appends (holds v) (holds w) out × Halts answers a bytes out b
-      × IsLastNoted lines refusal logged l bytes out k
-  broken_off a b l k v w bytes line reply rest last some whole noted cut (inl x) = (
+      × IsLastNoted lines refusal logged (Err (fault_of broken)) l bytes out k
+  broken_off Log a b l k v w bytes line reply rest last some whole noted cut x = (
     [],
     subst (λ (u : W). Appends (holds v) (holds u) []) (sym x.1) (Appends-nil (holds v)),
     (reply, some, inl (rest, last, whole)),
-    inr (inr (inr (inl (refl, (reply, rest, last, cut x.0))))),
+    (refl, inl (reply, rest, last, cut x.0)),
   )
-  broken_off a b l k v w bytes line reply rest last some whole noted cut (inr x) = (
+  broken_off Write a b l k v w bytes line reply rest last some whole noted cut x = (
     x.1.0,
     x.1.4,
     (x.1.1, x.1.2, inl (rest, last, subst (λ (o : List ℕ). Exchanges answers a bytes last o b rest) x.1.3 whole)),
-    inr (inl (x.1.1, rest, last, subst (λ (o : List ℕ). Exchanges (notes lines logged) l bytes last o k rest) x.1.3 (noted x.0))),
+    (
+      x.1.1,
+      x.1.2,
+      inl (rest, last, subst (λ (o : List ℕ). Exchanges (notes lines logged) l bytes last o k rest) x.1.3 (noted x.0)),
+    ),
   )
 
   -- that of a refusal broke off, or its line did
-  pub refusal_broken : (a : S) (l k : L) (v w : W) (bytes : List ℕ) (status : StatusCode) → IsRefused bytes status
-      → IsSentInPart logged holds (refusal status) (reply_text true status (error_line status)) l k v w
+  pub refusal_broken : (broken : Broken) (a : S) (l k : L) (v w : W) (bytes : List ℕ) (status : StatusCode) → IsRefused bytes status
+      → IsSentInPart broken logged holds (refusal status) (reply_text true status (error_line status)) l k v w
       → (out : List ℕ) × Appends (holds v) (holds w) out × Halts answers a bytes out a
-      × IsLastNoted lines refusal logged l bytes out k
-  refusal_broken a l k v w bytes status refused (inl x) = (
+      × IsLastNoted lines refusal logged (Err (fault_of broken)) l bytes out k
+  refusal_broken Log a l k v w bytes status refused x = (
     [],
     subst (λ (u : W). Appends (holds v) (holds u) []) (sym x.1) (Appends-nil (holds v)),
     (reply_text true status (error_line status), reply_some true status (error_line status), inr (status, refused, refl, refl)),
-    inr (inr (inr (inr (refl, (status, refused, x.0))))),
+    (refl, inr (status, refused, x.0)),
   )
-  refusal_broken a l k v w bytes status refused (inr x) = (
+  refusal_broken Write a l k v w bytes status refused x = (
     x.1.0,
     x.1.4,
     (x.1.1, x.1.2, inr (status, refused, sym x.1.3, refl)),
-    inr (inr (inl (x.1.1, (status, refused, sym x.1.3, x.0)))),
+    (x.1.1, x.1.2, inr (status, refused, sym x.1.3, x.0)),
   )
 
 -- ---- a log that never fails

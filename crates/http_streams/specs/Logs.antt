@@ -21,14 +21,6 @@ abbrev pub IsFront : List ℕ → Option (List ℕ) → Option (List ℕ) → Ty
 IsFront line old new =
     (front : List ℕ) × (back : List ℕ) × (0 < length back) × (line ≡ front ++ back) × Appends old new front
 
--- `IsSentInPart .. line reply ..` holds if the log got the line but for its end, and the writer nothing; or the log got
--- the line, and the writer the reply but for its end.
-abbrev pub IsSentInPart : {L W : Type 0} → (L → Option (List ℕ)) → (W → Option (List ℕ)) → List ℕ → List ℕ → L → L
-    → W → W → Type 0
-IsSentInPart logged holds line reply old new before after =
-    (IsFront line (logged old) (logged new) × (after ≡ before))
-    ⊎ (Appends (logged old) (logged new) line × IsFront reply (holds before) (holds after))
-
 -- what the log of a service gets of a request and of a refusal, and the bytes that a log took
 module _ {L : Type 0} (lines : Lining) (logged : L → Option (List ℕ)) where
   -- `notes old m t b status text new` holds if the log got the line of this request and this reply.
@@ -52,29 +44,44 @@ module _ {L : Type 0} (lines : Lining) (refusal : StatusCode → List ℕ) (logg
   IsRefusalCut old bytes new = (status : StatusCode) × IsRefused bytes status
       × IsFront (refusal status) (logged old) (logged new)
 
-  -- `IsLastNoted old bytes out new` holds of the last reply of a stream, if there is one: `out` is what went out of it.
-  -- There is none; or the line of a request, or of a refusal, was written, and of the reply all went out but `unsent`;
-  -- or that line was cut, and nothing of the reply went out.
-  abbrev pub IsLastNoted : L → List ℕ → List ℕ → L → Type 0
-  IsLastNoted old bytes out new =
-      ((out ≡ []) × (new ≡ old))
-      ⊎ ((unsent rest : List ℕ) × (last : Bool)
-      × Exchanges (notes lines logged) old bytes last (out ++ unsent) new rest)
-      ⊎ ((unsent : List ℕ) × IsRefusalNoted old bytes (out ++ unsent) new)
-      ⊎ ((out ≡ [])
-      × ((reply rest : List ℕ) × (last : Bool) × Exchanges (cuts lines logged) old bytes last reply new rest))
-      ⊎ ((out ≡ []) × IsRefusalCut old bytes new)
+  -- `IsNoted old bytes reply new` holds if `bytes` begin with a request or are refused, `reply` is the reply, and the
+  -- log got its line.
+  abbrev pub IsNoted : L → List ℕ → List ℕ → L → Type 0
+  IsNoted old bytes reply new =
+      ((rest : List ℕ) × (last : Bool) × Exchanges (notes lines logged) old bytes last reply new rest)
+      ⊎ IsRefusalNoted old bytes reply new
 
-  -- `AreNoted old bytes out new` holds if `bytes` begin with requests, `out` is their replies, and the log got the line
-  -- of each in this order; the last one's reply may have gone out in part or not at all.
-  pub record AreNoted (old : L) (bytes out : List ℕ) (new : L) : Type 0 where
+  -- `IsCut old bytes new` holds if `bytes` begin with a request or are refused, and the log got the line of that but
+  -- for its end.
+  abbrev pub IsCut : L → List ℕ → L → Type 0
+  IsCut old bytes new =
+      ((reply rest : List ℕ) × (last : Bool) × Exchanges (cuts lines logged) old bytes last reply new rest)
+      ⊎ IsRefusalCut old bytes new
+
+  -- `IsLastNoted result old bytes out new` holds of how a stream ended behind the replies that went out whole: `out` is
+  -- what went out of one more.
+  -- Ok: there is none, or it ended the stream, its line was written, and it went out whole.
+  -- Write: its line was written, and it went out but for its end.
+  -- Log: its line was written but for its end, and nothing of it went out.
+  -- Read, NoMemory: there is none.
+  abbrev pub IsLastNoted : Result (Unit {0}) StreamFault → L → List ℕ → List ℕ → L → Type 0
+  IsLastNoted (Ok done) old bytes out new = ((out ≡ []) × (new ≡ old)) ⊎ IsNoted old bytes out new
+  IsLastNoted (Err fault.Write) old bytes out new =
+      (unsent : List ℕ) × (0 < length unsent) × IsNoted old bytes (out ++ unsent) new
+  IsLastNoted (Err fault.Log) old bytes out new = (out ≡ []) × IsCut old bytes new
+  IsLastNoted (Err fault.Read) old bytes out new = (out ≡ []) × (new ≡ old)
+  IsLastNoted (Err fault.NoMemory) old bytes out new = (out ≡ []) × (new ≡ old)
+
+  -- `AreNoted result old bytes out new` holds if `bytes` begin with requests, `out` is their replies, the log got the
+  -- line of each in this order, and the last one ended as `result` says.
+  pub record AreNoted (result : Result (Unit {0}) StreamFault) (old : L) (bytes out : List ℕ) (new : L) : Type 0 where
     pub count : ℕ
     pub mid : L
     pub rest : List ℕ
     pub before : List ℕ
     pub last : List ℕ
     pub serves : Serves (notes lines logged) count old bytes rest before mid
-    pub ended : IsLastNoted mid rest last new
+    pub ended : IsLastNoted result mid rest last new
     pub joined : out ≡ before ++ last
 
 module _ {R W L : Type 0} (lines : Lining) (refusal : StatusCode → List ℕ) (logged : L → Option (List ℕ))
@@ -95,5 +102,5 @@ module _ {R W L : Type 0} (lines : Lining) (refusal : StatusCode → List ℕ) (
     pub out : List ℕ
     pub read : Consumes (left first) (left last) bytes
     pub written : Appends (holds before) (holds after) out
-    pub noted : AreNoted lines refusal logged old bytes out new
+    pub noted : AreNoted lines refusal logged result old bytes out new
     pub failed : HasLogFailed old new result

@@ -19,8 +19,7 @@ module _ {S R W : Type 0} (answers : Answering S) (left : R → Option (List ℕ
   -- NoMemory: neither device failed, and all that was read is answered: memory is asked for before bytes are read.
   -- Write: the last write failed; some requests are answered, and of one more reply a first part may have gone out. All
   -- that had come before the last read was answered.
-  -- Log: a line was not written whole, and nothing of its reply went out; else like Write, and no device failed but
-  -- the log.
+  -- Log: like Write, but no device failed except the log; that nothing of the last reply went out is in Logs.
   abbrev pub EndsAs : R → R → W → W → S → S → List ℕ → List ℕ → Result (Unit {0}) StreamFault → Type 0
   EndsAs first last before after old new bytes out (Ok done) =
       ((Rests answers old bytes out new × IsAtEnd (left last) × EndsByOneRead left reads first last bytes bytes)

@@ -1,14 +1,15 @@
 //! Answers the requests of a stream.
 ghost use Rattle.std.specs.Prelude.{◌≡◌, ◌≢◌, ◌≤◌, ◌<◌, ◌+◌, ◌⊎◌, ℕ, List, ◌++◌, [], true, Err, length, drop, Ok};
-ghost use Rattle.std.specs.Prelude.{None, OnOk, OnErr, IfOk, IfSome, vec_len};
+ghost use Rattle.std.specs.Prelude.{None, OnOk, IfErr, IfOk, IfSome, vec_len};
 ghost use Rattle.std.specs.Vec.{vec_capacity};
 ghost use Rattle.std.specs.Io.KnownBytes.{Appends};
 ghost use Rattle.http_devices.specs.Devices.{FailsAtLast};
 ghost use Rattle.http_framing.specs.http_texts.ReplyText.{error_line, reply_text};
 ghost use Rattle.http_framing.specs.Request.{IsUnfinishedBelow, IsWholeAt};
-ghost use Rattle.http_streams.specs.Logs.{AreNoted, IsLastNoted, IsLogged, IsSentInPart, notes};
+ghost use Rattle.http_streams.specs.Logs.{AreNoted, IsLastNoted, IsLogged, notes};
 ghost use Rattle.http_streams.specs.Serving.{IsAnswered};
 ghost use Rattle.http_streams.specs.Stream.{Ends, Exchanges, Halts, Serves, Stops};
+ghost use Rattle.http_streams.specs.inner.Sending.{IsSentInPart, fault_of};
 ghost use Rattle.http_streams.specs.declared.TheConstants.{REPLY_ROOM};
 
 use crate::MAX_READ;
@@ -199,7 +200,8 @@ fn send<W: Sink, L: Sink>(
 ) -> Result<(), Broken>
     ensures ok { OnOk result (Appends (L.holds log.old) (L.holds log.new) line.now
         × Appends (W.holds writer.old) (W.holds writer.new) reply.now) }
-    ensures err { OnErr result (IsSentInPart L.holds W.holds line.now reply.now log.old log.new writer.old writer.new) }
+    ensures err { IfErr result (λ broken. IsSentInPart broken L.holds W.holds line.now reply.now log.old log.new
+        writer.old writer.new) }
     ensures write { result ≡ Err Broken.Write → FailsAtLast W.failed W.fails writer.old writer.new
         × (L.failed log.new ≡ L.failed log.old) }
     ensures log { result ≡ Err Broken.Log → FailsAtLast L.failed L.fails log.old log.new
@@ -238,9 +240,9 @@ fn answer<S: Service, W: Sink, L: Sink>(
         × Exchanges S.answers service.old bytes.now parts.now.closes out service.new (drop parts.now.end bytes.now)
         × Exchanges (notes S.lines L.holds) log.old bytes.now parts.now.closes out log.new
         (drop parts.now.end bytes.now)) }
-    ensures err { OnErr result ((out : List ℕ) × Appends (W.holds writer.old) (W.holds writer.new) out
+    ensures err { IfErr result (λ broken. (out : List ℕ) × Appends (W.holds writer.old) (W.holds writer.new) out
         × Halts S.answers service.old bytes.now out service.new
-        × IsLastNoted S.lines S.refusal_line L.holds log.old bytes.now out log.new) }
+        × IsLastNoted S.lines S.refusal_line L.holds (Err (fault_of broken)) log.old bytes.now out log.new) }
     ensures write { result ≡ Err Broken.Write → FailsAtLast W.failed W.fails writer.old writer.new
         × (L.failed log.new ≡ L.failed log.old) }
     ensures log { result ≡ Err Broken.Log → FailsAtLast L.failed L.fails log.old log.new
@@ -271,7 +273,7 @@ fn refuse<S: Service, W: Sink, L: Sink>(
     ensures line_room { S.line_room ≤ vec_capacity line.new }
     ensures ok { OnOk result (Appends (L.holds log.old) (L.holds log.new) (S.refusal_line status)
         × Appends (W.holds writer.old) (W.holds writer.new) (reply_text true status (error_line status))) }
-    ensures err { OnErr result (IsSentInPart L.holds W.holds (S.refusal_line status)
+    ensures err { IfErr result (λ broken. IsSentInPart broken L.holds W.holds (S.refusal_line status)
         (reply_text true status (error_line status)) log.old log.new writer.old writer.new) }
     ensures write { result ≡ Err Broken.Write → FailsAtLast W.failed W.fails writer.old writer.new
         × (L.failed log.new ≡ L.failed log.old) }
@@ -311,10 +313,10 @@ fn answer_all<S: Service, W: Sink, L: Sink>(
         × (m : ℕ) × Serves (notes S.lines L.holds) m log.old bytes.now (drop left.at bytes.now) out log.new))) }
     ensures closed { result ≡ Ok None → (out : List ℕ) × Appends (W.holds writer.old) (W.holds writer.new) out
         × Ends S.answers service.old bytes.now out service.new
-        × AreNoted S.lines S.refusal_line L.holds log.old bytes.now out log.new }
-    ensures err { OnErr result ((out : List ℕ) × Appends (W.holds writer.old) (W.holds writer.new) out
+        × AreNoted S.lines S.refusal_line L.holds (Ok tt) log.old bytes.now out log.new }
+    ensures err { IfErr result (λ broken. (out : List ℕ) × Appends (W.holds writer.old) (W.holds writer.new) out
         × Stops S.answers service.old bytes.now out service.new
-        × AreNoted S.lines S.refusal_line L.holds log.old bytes.now out log.new) }
+        × AreNoted S.lines S.refusal_line L.holds (Err (fault_of broken)) log.old bytes.now out log.new) }
     ensures write { result ≡ Err Broken.Write → FailsAtLast W.failed W.fails writer.old writer.new
         × (L.failed log.new ≡ L.failed log.old) }
     ensures log { result ≡ Err Broken.Log → FailsAtLast L.failed L.fails log.old log.new

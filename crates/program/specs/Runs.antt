@@ -14,7 +14,7 @@ use Rattle.program_lines.specs.declared.line.DecideOptions.{DecideOptions}
 use Rattle.program_lines.specs.declared.line.DrillOptions.{DrillOptions}
 use Rattle.program_lines.specs.declared.line.Line.{Line}
 use Rattle.program_lines.specs.declared.line.Line.TheVariants.{Check, Decide, Load, Serve, Pull, Exchange, Merge}
-use Rattle.program_lines.specs.declared.line.Line.TheVariants.{Drill}
+use Rattle.program_lines.specs.declared.line.Line.TheVariants.{Drill, Explain}
 use Rattle.program_lines.specs.declared.line.MergeOptions.{MergeOptions}
 use Rattle.program_lines.specs.declared.fault.LineFault.{LineFault}
 use Rattle.program_lines.specs.Apps.{site_app}
@@ -26,6 +26,7 @@ use Rattle.program.specs.declared.device.Link.{Link}
 use Rattle.program.specs.Reports.{AreLinesReported, IsFaultReported}
 use Rattle.program.specs.Courses.{Course, Reads, ReadsIfNamed, IsRefusedFor, IsLineOrRefusal}
 use Rattle.program.specs.Exchanging.{IsExchangeRun}
+use Rattle.program.specs.Explaining.{IsExplainRun}
 use Rattle.program.specs.Loading.{IsLoadRun}
 use Rattle.program.specs.Pulling.{IsPullRun}
 use Rattle.program.specs.Serving.{IsServeRun}
@@ -104,6 +105,7 @@ module _ {R W G : Type 0} (reader : Source R) (writer : Sink W) (log : Sink G) w
   IsLineRun (Exchange options) = IsExchangeRun reader writer options
   IsLineRun (Merge options) = IsMergeRun options
   IsLineRun (Drill options) = IsDrillRun options
+  IsLineRun (Explain options) = IsExplainRun options
 
   -- the words are a command, which is carried out; or they are none, and that is told
   abbrev pub IsRun : List Text → Course (Link R W)

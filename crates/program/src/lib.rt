@@ -6,6 +6,7 @@ mod commands;
 mod device;
 mod drills;
 mod exchanging;
+mod explaining;
 mod host;
 mod loads;
 mod reading;
@@ -19,8 +20,8 @@ pub use device::{FileFault, Link, NetworkFailed, Stream, StreamFailed};
 pub use host::Host;
 pub use program_drills::{check_texts, decide_under, drill_text};
 pub use program_lines::{
-    CheckOptions, DecideOptions, DrillOptions, ExchangeOptions, Line, LineFault, LoadOptions,
-    MergeOptions, PullOptions, ServeOptions, line_of,
+    CheckOptions, DecideOptions, DrillOptions, ExchangeOptions, ExplainOptions, Line, LineFault,
+    LoadOptions, MergeOptions, PullOptions, ServeOptions, line_of,
 };
 pub use report::report_words;
 pub use running::run;

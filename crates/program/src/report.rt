@@ -1,14 +1,17 @@
 //! What a run writes at its end, and the status that it ends with.
-ghost use Rattle.std.specs.Prelude.{◌≡◌, ◌⊎◌, ◌++◌, is_ok};
+ghost use Rattle.std.specs.Prelude.{◌≡◌, ◌⊎◌, ◌++◌, List, ℕ, codes, is_ok};
 ghost use Rattle.std.specs.Process.{exit_status};
 ghost use Rattle.program_drills.specs.http_service.answer_lines.Refusals.{error_line};
+ghost use Rattle.program.specs.declared.device.Stream.TheVariants.{Faults};
 ghost use Rattle.program.specs.Events.{Runs};
+ghost use Rattle.program.specs.Explaining.{IsWithoutEnd, is_some_text};
 ghost use Rattle.program.specs.Reports.{IsReported, IsAnswerReported, IsRefusalReported, IsMemoryReported};
 ghost use Rattle.program.specs.Reports.{IsFileReported};
 ghost use Rattle.program.specs.Reports.{IsFailureReported, IsFaultReported, IsPrinted, AreLinesReported};
 ghost use Rattle.program.specs.Reports.{status_after};
 
 use crate::device::{FileFault, Stream, StreamFailed};
+use crate::explaining::is_some_text;
 use crate::host::Host;
 use program_drills::{Refusal, error_line};
 use program_lines::LineFault;
@@ -66,6 +69,39 @@ pub(crate) fn report_lines<H: Host>(host: &mut H, lines: &[u8], some_refused: bo
         return ExitCode::from(status);
     }
     tell(host, Stream::Answers, "", lines, status)
+}
+
+/// Returns a text without the line feed at its end.
+fn without_end(text: &str) -> &str
+    ensures { IsWithoutEnd text.now result.now }
+{
+    match text.strip_suffix("\n") {
+        Some(line) => line,
+        None => text,
+    }
+}
+
+/// Writes what is rejected of texts, if anything is.
+pub(crate) fn report_explained<H: Host>(host: &mut H, text: &str) -> ExitCode
+    ensures { Runs H.does host.old host.new (λ events. (line : List ℕ) × IsWithoutEnd text.now line
+        × AreLinesReported line (is_some_text text.now) events (exit_status result)) }
+{
+    let line = without_end(text);
+    report_lines(host, line.as_bytes(), is_some_text(text))
+}
+
+/// Writes that no code has this number.
+pub(crate) fn report_no_code<H: Host>(host: &mut H, word: &str) -> ExitCode
+    ensures { Runs H.does host.old host.new (λ events.
+        IsReported Faults (codes "error: no code is " ++ word.now) 2 events (exit_status result)) }
+{
+    tell(
+        host,
+        Stream::Faults,
+        "error: no code is ",
+        word.as_bytes(),
+        LINE_FAULT,
+    )
 }
 
 /// Writes that memory was refused.

@@ -8,6 +8,7 @@ ghost use Rattle.program.specs.Runs.{IsLineRun, IsRun};
 use crate::commands::{run_check, run_decide};
 use crate::drills::run_drill;
 use crate::exchanging::run_exchange;
+use crate::explaining::run_explain;
 use crate::host::Host;
 use crate::loads::run_load;
 use crate::report::report_words;
@@ -32,12 +33,14 @@ fn run_line<H: Host>(alloc: Global, host: &mut H, line: &Line<'_>) -> ExitCode
         Line::Exchange(options) => run_exchange(alloc, host, options),
         Line::Merge(options) => run_merge(alloc, host, options),
         Line::Drill(options) => run_drill(alloc, host, options),
+        Line::Explain(options) => run_explain(alloc, host, options),
     }
 }
 
 /// Does what the words ask for, the first of which is the program's own name: checks policies, decides one request,
 /// puts files into a site and tells its state, serves one, pulls from one, exchanges between two, merges two states,
-/// plays a script, writes help or the version, or what is wrong with the words.
+/// plays a script, explains a code or what is rejected of files, writes help or the version, or what is wrong with the
+/// words.
 ///
 /// The status is 0 for an answer or help, 1 for a refusal, also of one policy among those that are checked, 2 for words
 /// that are no command, and 3 where a file can't be read or written, the network fails, or a stream does.

@@ -3,7 +3,7 @@ use Rattle.std.proofs.Common.{◌≡◌, ◌<◌, ◌≤◌, ◌∙◌, ◌⊎�
 use Rattle.stamped_store.specs.SiteNames.{IsSiteName}
 use Rattle.clap.specs.Words.{Row, Text, first_of, subcommand_rows_of, subcommand_name_of}
 use Rattle.program_lines.specs.declared.line.Line.{Line}
-use Rattle.program_lines.specs.declared.line.Line.TheVariants.{Check, Decide, Load, Serve, Pull, Exchange, Merge, Drill}
+use Rattle.program_lines.specs.declared.line.Line.TheVariants.{Check, Decide, Load, Serve, Pull, Exchange, Merge, Drill, Explain}
 use Rattle.program_lines.specs.Lines.{IsLineOf, IsGiven, IsGivenSite, IsGivenNoSite, IsGivenNumber, MayBeGivenNumber, IsNumberIn, IsNamed, HasSites}
 use Rattle.program_lines.specs.inner.Lacking.{IsNone}
 use Rattle.clap.specs.declared.ArgMatches.{ArgMatches}
@@ -35,15 +35,17 @@ met_is m name rows result e f =
 
 -- of another word there is no command
 pub unknown_word : (word : Text) (rows : List Row) → ¬ (word ≡ codes "check") → ¬ (word ≡ codes "decide")
-    → ¬ (word ≡ codes "load") → ¬ (word ≡ codes "serve") → ¬ (word ≡ codes "pull") → ¬ (word ≡ codes "exchange") → ¬ (word ≡ codes "merge") → ¬ (word ≡ codes "drill") → (line : Line) → IsLineOf word rows line → ⊥
-unknown_word word rows a b l c d x e f (Check options) is = a (sym is.0)
-unknown_word word rows a b l c d x e f (Decide options) is = b (sym is.0)
-unknown_word word rows a b l c d x e f (Load options) is = l (sym is.0)
-unknown_word word rows a b l c d x e f (Serve options) is = c (sym is.0)
-unknown_word word rows a b l c d x e f (Pull options) is = d (sym is.0)
-unknown_word word rows a b l c d x e f (Exchange options) is = x (sym is.0)
-unknown_word word rows a b l c d x e f (Merge options) is = e (sym is.0)
-unknown_word word rows a b l c d x e f (Drill options) is = f (sym is.0)
+    → ¬ (word ≡ codes "load") → ¬ (word ≡ codes "serve") → ¬ (word ≡ codes "pull") → ¬ (word ≡ codes "exchange") → ¬ (word ≡ codes "merge") → ¬ (word ≡ codes "drill")
+    → ¬ (word ≡ codes "explain") → (line : Line) → IsLineOf word rows line → ⊥
+unknown_word word rows a b l c d x e f y (Check options) is = a (sym is.0)
+unknown_word word rows a b l c d x e f y (Decide options) is = b (sym is.0)
+unknown_word word rows a b l c d x e f y (Load options) is = l (sym is.0)
+unknown_word word rows a b l c d x e f y (Serve options) is = c (sym is.0)
+unknown_word word rows a b l c d x e f y (Pull options) is = d (sym is.0)
+unknown_word word rows a b l c d x e f y (Exchange options) is = x (sym is.0)
+unknown_word word rows a b l c d x e f y (Merge options) is = e (sym is.0)
+unknown_word word rows a b l c d x e f y (Drill options) is = f (sym is.0)
+unknown_word word rows a b l c d x e f y (Explain options) is = y (sym is.0)
 
 -- something was given, and is no such thing
 none_given : (rows : List Row) (id text : Text) → first_of id rows ≡ None → IsGiven rows id text → ⊥
@@ -186,6 +188,31 @@ exchange_is_no_merge = unlike 101 109 (codes "exchange") (codes "merge") refl re
 exchange_is_no_drill : codes "exchange" ≡ codes "drill" → ⊥
 exchange_is_no_drill = unlike 101 100 (codes "exchange") (codes "drill") refl refl (inr (omega arith))
 
+check_is_no_explain : codes "check" ≡ codes "explain" → ⊥
+check_is_no_explain = unlike 99 101 (codes "check") (codes "explain") refl refl (inl (omega arith))
+
+decide_is_no_explain : codes "decide" ≡ codes "explain" → ⊥
+decide_is_no_explain = unlike 100 101 (codes "decide") (codes "explain") refl refl (inl (omega arith))
+
+serve_is_no_explain : codes "serve" ≡ codes "explain" → ⊥
+serve_is_no_explain = unlike 115 101 (codes "serve") (codes "explain") refl refl (inr (omega arith))
+
+pull_is_no_explain : codes "pull" ≡ codes "explain" → ⊥
+pull_is_no_explain = unlike 112 101 (codes "pull") (codes "explain") refl refl (inr (omega arith))
+
+merge_is_no_explain : codes "merge" ≡ codes "explain" → ⊥
+merge_is_no_explain = unlike 109 101 (codes "merge") (codes "explain") refl refl (inr (omega arith))
+
+drill_is_no_explain : codes "drill" ≡ codes "explain" → ⊥
+drill_is_no_explain = unlike 100 101 (codes "drill") (codes "explain") refl refl (inl (omega arith))
+
+load_is_no_explain : codes "load" ≡ codes "explain" → ⊥
+load_is_no_explain = unlike 108 101 (codes "load") (codes "explain") refl refl (inr (omega arith))
+
+exchange_is_no_explain : codes "exchange" ≡ codes "explain" → ⊥
+exchange_is_no_explain e =
+    unlike_behind 99 112 (tail_of (codes "exchange")) (tail_of (codes "explain")) refl refl (inl (omega arith)) (ap tail_of e)
+
 -- ---- what a command of each word has
 
 module _ (rows : List Row) where
@@ -199,6 +226,7 @@ module _ (rows : List Row) where
   of_check (Exchange options) is = absurd (exchange_is_no_check is.0)
   of_check (Merge options) is = absurd (merge_is_no_check is.0)
   of_check (Drill options) is = absurd (check_is_no_drill (sym is.0))
+  of_check (Explain options) is = absurd (check_is_no_explain (sym is.0))
 
   of_decide : (line : Line) → IsLineOf (codes "decide") rows line → ((text : Text) × IsGiven rows (codes "policies") text)
       × ((text : Text) × IsGiven rows (codes "entities") text)
@@ -211,6 +239,7 @@ module _ (rows : List Row) where
   of_decide (Exchange options) is = absurd (exchange_is_no_decide is.0)
   of_decide (Merge options) is = absurd (merge_is_no_decide is.0)
   of_decide (Drill options) is = absurd (decide_is_no_drill (sym is.0))
+  of_decide (Explain options) is = absurd (decide_is_no_explain (sym is.0))
 
   of_load : (line : Line) → IsLineOf (codes "load") rows line → ((text : Text) × IsGiven rows (codes "schema") text)
       × ((text : Text) × IsGivenSite rows text)
@@ -222,6 +251,7 @@ module _ (rows : List Row) where
   of_load (Exchange options) is = absurd (exchange_is_no_load is.0)
   of_load (Merge options) is = absurd (merge_is_no_load is.0)
   of_load (Drill options) is = absurd (drill_is_no_load is.0)
+  of_load (Explain options) is = absurd (load_is_no_explain (sym is.0))
 
   of_serve : (line : Line) → IsLineOf (codes "serve") rows line → ((text : Text) × IsGiven rows (codes "schema") text)
       × ((text : Text) × IsGivenSite rows text)
@@ -236,6 +266,7 @@ module _ (rows : List Row) where
   of_serve (Exchange options) is = absurd (exchange_is_no_serve is.0)
   of_serve (Merge options) is = absurd (merge_is_no_serve is.0)
   of_serve (Drill options) is = absurd (serve_is_no_drill (sym is.0))
+  of_serve (Explain options) is = absurd (serve_is_no_explain (sym is.0))
 
   of_pull : (line : Line) → IsLineOf (codes "pull") rows line → ((text : Text) × IsGiven rows (codes "schema") text)
       × ((text : Text) × IsGivenSite rows text)
@@ -249,6 +280,7 @@ module _ (rows : List Row) where
   of_pull (Exchange options) is = absurd (exchange_is_no_pull is.0)
   of_pull (Merge options) is = absurd (merge_is_no_pull is.0)
   of_pull (Drill options) is = absurd (pull_is_no_drill (sym is.0))
+  of_pull (Explain options) is = absurd (pull_is_no_explain (sym is.0))
 
   of_exchange : (line : Line) → IsLineOf (codes "exchange") rows line → ((text : Text) × IsGiven rows (codes "schema") text)
       × ((text : Text) × IsGiven rows (codes "between") text)
@@ -261,6 +293,7 @@ module _ (rows : List Row) where
   of_exchange (Exchange options) is = ((options.schema.now, is.1.0), (options.between.now, is.1.1), (options.and.now, is.1.2))
   of_exchange (Merge options) is = absurd (exchange_is_no_merge (sym is.0))
   of_exchange (Drill options) is = absurd (exchange_is_no_drill (sym is.0))
+  of_exchange (Explain options) is = absurd (exchange_is_no_explain (sym is.0))
 
   of_merge : (line : Line) → IsLineOf (codes "merge") rows line → ((text : Text) × IsGiven rows (codes "schema") text)
       × ((text : Text) × IsGiven rows (codes "first") text)
@@ -273,6 +306,7 @@ module _ (rows : List Row) where
   of_merge (Exchange options) is = absurd (exchange_is_no_merge is.0)
   of_merge (Merge options) is = ((options.schema.now, is.1.0), (options.first.now, is.1.1), (options.second.now, is.1.2))
   of_merge (Drill options) is = absurd (merge_is_no_drill (sym is.0))
+  of_merge (Explain options) is = absurd (merge_is_no_explain (sym is.0))
 
   of_drill : (line : Line) → IsLineOf (codes "drill") rows line → ((text : Text) × IsGiven rows (codes "schema") text)
       × ((number : ℕ) × IsGivenNumber rows (codes "sites") 1 64 number)
@@ -285,6 +319,18 @@ module _ (rows : List Row) where
   of_drill (Exchange options) is = absurd (exchange_is_no_drill is.0)
   of_drill (Merge options) is = absurd (merge_is_no_drill is.0)
   of_drill (Drill options) is = ((options.schema.now, is.1.0), (options.sites, is.1.1), (options.script.now, is.1.2))
+  of_drill (Explain options) is = absurd (drill_is_no_explain (sym is.0))
+
+  of_explain : (line : Line) → IsLineOf (codes "explain") rows line → (text : Text) × IsGiven rows (codes "what") text
+  of_explain (Check options) is = absurd (check_is_no_explain is.0)
+  of_explain (Decide options) is = absurd (decide_is_no_explain is.0)
+  of_explain (Load options) is = absurd (load_is_no_explain is.0)
+  of_explain (Serve options) is = absurd (serve_is_no_explain is.0)
+  of_explain (Pull options) is = absurd (pull_is_no_explain is.0)
+  of_explain (Exchange options) is = absurd (exchange_is_no_explain is.0)
+  of_explain (Merge options) is = absurd (merge_is_no_explain is.0)
+  of_explain (Drill options) is = absurd (drill_is_no_explain is.0)
+  of_explain (Explain options) is = (options.what.now, is.1.0)
 
   -- and so no command of that word lacks it
   pub check_lacks_schema : first_of (codes "schema") rows ≡ None → IsNone (IsLineOf (codes "check") rows)
@@ -362,6 +408,9 @@ module _ (rows : List Row) where
   pub drill_lacks_script : first_of (codes "script") rows ≡ None → IsNone (IsLineOf (codes "drill") rows)
   drill_lacks_script none line is = none_given rows (codes "script") (of_drill line is).2.0 none (of_drill line is).2.1
 
+  pub explain_lacks_what : first_of (codes "what") rows ≡ None → IsNone (IsLineOf (codes "explain") rows)
+  explain_lacks_what none line is = none_given rows (codes "what") (of_explain line is).0 none (of_explain line is).1
+
 -- ---- the site
 module _ (rows : List Row) where
   same_site : {t u : Text} → first_of (codes "site") rows ≡ Some t → first_of (codes "site") rows ≡ Some u → t ≡ u
@@ -418,4 +467,5 @@ named_sites (Serve options) (Some named) is = tt
 named_sites (Pull options) (Some named) is = tt
 named_sites (Exchange options) (Some named) is = tt
 named_sites (Merge options) (Some named) is = tt
+named_sites (Explain options) (Some named) is = tt
 named_sites (Drill options) (Some named) is = in_bounds named.1 (codes "sites") 1 64 options.sites is.1.1

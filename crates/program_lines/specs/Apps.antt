@@ -64,6 +64,11 @@ abbrev pub drill_app : App
 drill_app = with_rule (with_rule (with_rule (new_app (codes "drill")) (demanded (value_option (codes "schema"))))
     (demanded (number_option (codes "sites") 1 64))) (demanded (value_word (codes "script")))
 
+-- explain [--schema FILE] [--entities FILE] [--request FILE] WHAT, a file of policies or a code
+abbrev pub explain_app : App
+explain_app = with_rule (with_rule (with_rule (with_rule (new_app (codes "explain")) (value_option (codes "schema")))
+    (value_option (codes "entities"))) (value_option (codes "request"))) (demanded (value_word (codes "what")))
+
 -- load --schema FILE --site NAME [--policies FILE] [--entities FILE] [--state FILE]
 abbrev pub load_app : App
 load_app = with_rule (with_rule (with_rule (with_rule (with_rule (new_app (codes "load"))
@@ -80,5 +85,6 @@ with_version a = record a { top = record a.top { has_version = true } }
 -- all of them
 abbrev pub site_app : App
 site_app = with_subcommand (with_subcommand (with_subcommand (with_subcommand (with_subcommand (with_subcommand
-    (with_subcommand (with_subcommand (with_version (asks_for_command (new_app (codes "cedar_site")))) check_app.top)
-    decide_app.top) load_app.top) serve_app.top) pull_app.top) exchange_app.top) merge_app.top) drill_app.top
+    (with_subcommand (with_subcommand (with_subcommand (with_version (asks_for_command (new_app (codes "cedar_site"))))
+    check_app.top) decide_app.top) load_app.top) serve_app.top) pull_app.top) exchange_app.top) merge_app.top)
+    drill_app.top) explain_app.top

@@ -4,7 +4,8 @@ use Rattle.std.specs.Str.Parse.{digits_value, without_leading_plus}
 use Rattle.clap.specs.Words.{Row, Text, IsUnsignedIn, first_of, subcommand_of}
 use Rattle.stamped_store.specs.SiteNames.{IsSiteName}
 use Rattle.program_lines.specs.declared.line.Line.{Line}
-use Rattle.program_lines.specs.declared.line.Line.TheVariants.{Check, Decide, Load, Serve, Pull, Exchange, Merge, Drill}
+use Rattle.program_lines.specs.declared.line.Line.TheVariants.{Check, Decide, Load, Serve, Pull, Exchange, Merge}
+use Rattle.program_lines.specs.declared.line.Line.TheVariants.{Drill, Explain}
 use Rattle.program_lines.specs.Apps.{site_app}
 
 -- the word of a command
@@ -17,6 +18,7 @@ word_of (Pull options) = codes "pull"
 word_of (Exchange options) = codes "exchange"
 word_of (Merge options) = codes "merge"
 word_of (Drill options) = codes "drill"
+word_of (Explain options) = codes "explain"
 
 -- what was given for this is the text
 abbrev pub IsGiven : List Row → Text → Text → Type 0
@@ -85,6 +87,11 @@ HasTexts rows (Drill options) =
     IsGiven rows (codes "schema") options.schema.now
     × IsGivenNumber rows (codes "sites") 1 64 options.sites
     × IsGiven rows (codes "script") options.script.now
+HasTexts rows (Explain options) =
+    IsGiven rows (codes "what") options.what.now
+    × (first_of (codes "schema") rows ≡ option_map (λ s. s.now) options.schema)
+    × (first_of (codes "entities") rows ≡ option_map (λ s. s.now) options.entities)
+    × (first_of (codes "request") rows ≡ option_map (λ s. s.now) options.request)
 
 -- a script is played at 1 to 64 sites
 abbrev pub HasSites : Line → Type 0

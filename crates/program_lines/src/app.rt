@@ -3,7 +3,7 @@ ghost use Rattle.std.specs.Prelude.{◌≡◌, false, IfOk, codes};
 ghost use Rattle.clap.specs.Words.{App, Rule, rule_of, new_app, with_rule, with_subcommand};
 ghost use Rattle.program_lines.specs.Apps.{value_option, value_word, number_option, demanded, site_option, site_app};
 ghost use Rattle.program_lines.specs.Apps.{check_app, decide_app, load_app, serve_app, pull_app};
-ghost use Rattle.program_lines.specs.Apps.{exchange_app, merge_app, drill_app};
+ghost use Rattle.program_lines.specs.Apps.{exchange_app, merge_app, drill_app, explain_app};
 ghost use Rattle.program_lines.specs.Apps.{asks_for_command, with_version};
 ghost use Rattle.program_lines.specs.inner.Known.{IsApp};
 
@@ -274,6 +274,24 @@ fn drill_command<'a>(alloc: Global) -> Result<Command<'a>, NoMemory>
     with_word(alloc, command, "script", "SCRIPT", script)
 }
 
+fn explain_command<'a>(alloc: Global) -> Result<Command<'a>, NoMemory>
+    ensures { IfOk result (IsApp explain_app) }
+{
+    let about =
+        "Explains a code, or what is rejected of files: each policy, the first entity, the request";
+    let what = "A code, as 44, or the policies, as text";
+    let entities = value_option(alloc, "entities", "FILE", "The entities, a JSON array");
+    let request = value_option(alloc, "request", "FILE", "The request, a JSON object");
+    let schema = value_option(alloc, "schema", "FILE", "The schema, as JSON");
+    let example = "Examples:\n  cedar_site explain 44\n  \
+         cedar_site explain --schema schema.json policies.cedar";
+    let command = bare(alloc, "explain", about, example);
+    let command = with(command, schema);
+    let command = with(command, entities);
+    let command = with(command, request);
+    with_word(alloc, command, "what", "WHAT", what)
+}
+
 /// What `--version` tells behind the program's name: that of the Cedar language whose policies it reads.
 const VERSION: &str = "4.0";
 
@@ -300,5 +318,6 @@ pub(crate) fn command<'a>(alloc: Global) -> Result<Command<'a>, NoMemory>
     let command = with_command(command, pull_command(alloc));
     let command = with_command(command, exchange_command(alloc));
     let command = with_command(command, merge_command(alloc));
-    with_command(command, drill_command(alloc))
+    let command = with_command(command, drill_command(alloc));
+    with_command(command, explain_command(alloc))
 }

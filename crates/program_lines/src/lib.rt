@@ -8,7 +8,7 @@ mod options;
 
 pub use fault::LineFault;
 pub use line::{
-    CheckOptions, DecideOptions, DrillOptions, ExchangeOptions, Line, LoadOptions, MergeOptions,
-    PullOptions, ServeOptions, line_of,
+    CheckOptions, DecideOptions, DrillOptions, ExchangeOptions, ExplainOptions, Line, LoadOptions,
+    MergeOptions, PullOptions, ServeOptions, line_of,
 };
 pub use stamped_store::SiteName;

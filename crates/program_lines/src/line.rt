@@ -90,6 +90,16 @@ pub struct DrillOptions<'a> {
     pub script: &'a str,
 }
 
+/// The options of `explain`: a code, or the name of a file of policies, and perhaps the names of files with a schema,
+/// with entities and with a request.
+#[derive(Clone, Copy)]
+pub struct ExplainOptions<'a> {
+    pub what: &'a str,
+    pub schema: Option<&'a str>,
+    pub entities: Option<&'a str>,
+    pub request: Option<&'a str>,
+}
+
 /// What the words ask for. Each option that a command demands is there, as a field of its own.
 #[derive(Clone, Copy)]
 pub enum Line<'a> {
@@ -109,6 +119,8 @@ pub enum Line<'a> {
     Merge(MergeOptions<'a>),
     /// Play a script at so many sites.
     Drill(DrillOptions<'a>),
+    /// Explain a code, or what is rejected of files.
+    Explain(ExplainOptions<'a>),
 }
 
 /// Returns the name of the command that was met, and its options.
@@ -300,6 +312,25 @@ fn drill_in<'a>(options: &ArgMatches<'a>) -> Option<Line<'a>>
     }))
 }
 
+/// `explain`, if it has what is to be explained.
+fn explain_in<'a>(options: &ArgMatches<'a>) -> Option<Line<'a>>
+    ensures { MatchOption result (IsNone (IsLineOf (codes "explain") (rows_of (found_of options.now))))
+        (IsLineOf (codes "explain") (rows_of (found_of options.now))) }
+{
+    let Some(what) = option_text(options, "what") else {
+        return None;
+    };
+    let schema = option_text(options, "schema");
+    let entities = option_text(options, "entities");
+    let request = option_text(options, "request");
+    Some(Line::Explain(ExplainOptions {
+        what,
+        schema,
+        entities,
+        request,
+    }))
+}
+
 /// Returns the command of this name, if it has all of its options.
 fn named_line<'a>(name: &str, options: &ArgMatches<'a>) -> Option<Line<'a>>
     ensures { MatchOption result (IsNone (IsLineOf name.now (rows_of (found_of options.now))))
@@ -328,6 +359,9 @@ fn named_line<'a>(name: &str, options: &ArgMatches<'a>) -> Option<Line<'a>>
     }
     if name == "drill" {
         return drill_in(options);
+    }
+    if name == "explain" {
+        return explain_in(options);
     }
     None
 }

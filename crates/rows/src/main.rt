@@ -9,6 +9,10 @@
 //! - `place`: behind a byte's number, the line and the column of that byte, and where its character begins.
 //! - `excerpt`: the lines that show what stands between two bars, in one line, with `\n` and `\t` as in a text.
 //!
+//! Policies (`spans`), behind the digits of a path, or `-`:
+//!
+//! - `span`: what is written for the core node at the path; `named`: the name that this node has itself.
+//!
 //! Streams (`streams`) to a service that answers each request by its body, or by its target, and counts:
 //!
 //! - `serve`: the statuses of the replies, with `!` where the last one ends the stream; how often the service was
@@ -31,6 +35,7 @@ mod excerpts;
 mod fetching;
 mod keeping;
 mod pieces;
+mod spans;
 mod streams;
 mod texts;
 mod ways;
@@ -46,6 +51,7 @@ fn came_to(alloc: Global, word: &str, text: &str) -> Result<String, NoMemory> {
     let bytes = unescaped(alloc, text)?;
     match word {
         "tokens" | "name" | "json" | "place" | "excerpt" => texts::came_to(alloc, word, &bytes),
+        "span" | "named" => spans::came_to(alloc, word, &bytes),
         "serve" | "whole" | "slow" | "reply" => streams::came_to(alloc, word, &bytes),
         "fetch" | "far" => fetching::came_to(alloc, word, &bytes),
         _ => bad_row(alloc),

@@ -1,7 +1,7 @@
 -- The functions that resolve names agree with their relations.
 use Rattle.std.proofs.Common.{◌≡◌, ◌∙◌, ℕ, zero, suc, List, [], ◌∷◌, map, Bool, true, false, cond, Option, Some, None, Result, refl, sym, ap, subst, inl, inr, arith, Ordering, Less, Equal, Greater}
 use Prim.Native.Char.{code}
-use Rattle.std.specs.Prelude.{◌⊎◌, ◌||◌, ◌==◌, Contains, codes}
+use Rattle.std.specs.Prelude.{◌⊎◌, ◌==◌, Contains, codes}
 use Rattle.std.specs.List.{list_any, AllZip}
 use Rattle.std.specs.Ordering.{is_eq}
 use Rattle.std.specs.Cmp.{tied_itself}

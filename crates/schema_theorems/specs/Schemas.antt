@@ -7,7 +7,7 @@ use Rattle.sha2.specs.Sha256.{sha256}
 use Rattle.hex.specs.Hex.{encode_lower}
 use Rattle.serde_json.specs.Data.{Data}
 use Rattle.json_words.specs.Json.{json_of}
-use Rattle.schema_types.specs.Outcome.{SomeStandsForNone}
+use Rattle.schema_types.specs.Mentions.{Leads}
 use Rattle.schema_types.specs.declared.fault.SchemaFault.{SchemaFault}
 use Rattle.schema_types.specs.declared.fault.SchemaFault.TheVariants.{NotJson, BadShape, UnknownName, TypeCycle}
 use Rattle.schema_types.specs.declared.fault.SchemaFault.TheVariants.{ActionCycle, TypeTooLarge}
@@ -41,6 +41,10 @@ pub record StatesSchema (bytes : List ℕ) (v : StatedSchema) : Type 0 where
   pub label : v.label ≡ encode_lower (sha256 bytes)
   pub answers : Answers declared v
 
+-- `SomeCommonLeadsBack s` holds if some common type leads back to itself, from a declaration to a name in it.
+abbrev pub SomeCommonLeadsBack : FoundSchema → Type 0
+SomeCommonLeadsBack s = (q : List ℕ) × Leads s.commons q q
+
 -- `RefusesSchema bytes fault` holds if `bytes` state no schema, and `fault` is the first error, by its cause.
 pub data RefusesSchema (bytes : List ℕ) : SchemaFault → Type 0 where
   -- 20: the bytes are not JSON
@@ -51,12 +55,12 @@ pub data RefusesSchema (bytes : List ℕ) : SchemaFault → Type 0 where
   -- 22: some name means nothing that is declared
   unknown_name : (ns : List NamespaceOf) → HasContent bytes ns → (SomeIsNotRecord ns → ⊥) → FileHasUnknown ns
       → RefusesSchema bytes UnknownName
-  -- 23: some common type refers to itself
-  type_cycle : (s : FoundSchema) → HasDeclarations bytes s → SomeStandsForNone s.commons
+  -- 23: some common type leads back to itself
+  type_cycle : (s : FoundSchema) → HasDeclarations bytes s → SomeCommonLeadsBack s
       → RefusesSchema bytes TypeCycle
   -- 24: some action is its own ancestor
-  action_cycle : (s : FoundSchema) → HasDeclarations bytes s → (SomeStandsForNone s.commons → ⊥)
+  action_cycle : (s : FoundSchema) → HasDeclarations bytes s → (SomeCommonLeadsBack s → ⊥)
       → SomeActionIsOnCycle s → RefusesSchema bytes ActionCycle
   -- 25: some type, expanded, is too large
-  too_large : (s : FoundSchema) → HasDeclarations bytes s → (SomeStandsForNone s.commons → ⊥)
+  too_large : (s : FoundSchema) → HasDeclarations bytes s → (SomeCommonLeadsBack s → ⊥)
       → (SomeActionIsOnCycle s → ⊥) → SomeTypeIsTooLarge s → RefusesSchema bytes TypeTooLarge

@@ -5,6 +5,8 @@ ghost use Rattle.schema_theorems.specs.Laws.{NamesAreResolved, NamesHaveOneOutco
 ghost use Rattle.schema_theorems.specs.Laws.{SchemasAreRead, SchemasHaveOneOutcome};
 
 use schema::bytes_have_one_outcome;
+use schema_names::{files_are_in_order, files_name_their_own};
+use schema_types::{cycles_stand_for_none, what_stands_for_none_leads_back};
 use values::paths_are_told;
 
 /// Proves that parsing a type gives the type that JSON states, or the error if it states none. No-op.
@@ -44,5 +46,9 @@ pub fn schemas_are_read_as_stated()
     ensures one { SchemasHaveOneOutcome }
 {
     paths_are_told();
+    cycles_stand_for_none();
+    what_stands_for_none_leads_back();
+    files_name_their_own();
+    files_are_in_order();
     bytes_have_one_outcome();
 }

@@ -39,7 +39,7 @@ returns-in-Err-clause-err g c =
     let text = sent _ _ _ said.0 c.finish-start.result 160 _ _ c.deref.ensures.value head (short _ _ 160 c.truncate.ensures.items (omega (arith, c.requires.head, c.args.text.now.ok.0))) in
     let some = subst (λ (t : List ℕ). 0 < length t) (sym text) (reply_some c.args.parts.now.closes c.call-status.result said.0) in
     let lines = subst (g.S.Service.lines _ _ _ c.call-status.result said.0) (sym c.as_slice.ensures.value) said.3 in
-    broken_off g.S.Answers.answers g.S.Service.lines g.S.Service.refusal_line g.L.Sink.holds g.W.Sink.holds _ _ _ _ _ _ _ _ _ _ c.args.parts.now.closes some
+    broken_off g.S.Answers.answers g.S.Service.lines g.S.Service.refusal_line g.L.Sink.holds g.W.Sink.holds c.in-Err.broken _ _ _ _ _ _ _ _ _ _ c.args.parts.now.closes some
     (exchanged g.S.Answers.answers c.args.bytes.now c.args.parts.now _ _ c.call-status.result said.0 _ c.requires.whole
     c.of-method.ensures c.of-target.ensures said.2 text)
     (λ took. exchanged (notes g.S.Service.lines g.L.Sink.holds) c.args.bytes.now c.args.parts.now _ _ c.call-status.result said.0 _ c.requires.whole

@@ -5,6 +5,7 @@ use Rattle.http_framing.specs.Request.{IsUnfinished, StaysUnfinished}
 use Rattle.http_streams.specs.Stream.{Rests, Serves}
 use Rattle.std.proofs.KnownBytes.{Appends-nil, Appends-trans, Consumes-nil, Consumes-trans, Consumes-kept}
 use Rattle.http_streams.specs.Logs.{AreNoted, notes}
+use Rattle.http_streams.specs.declared.serve.StreamFault.TheVariants as fault
 use Rattle.http_streams.proofs.LogLemmas.{noted_after, noted_so_far}
 use Rattle.http_streams.proofs.StreamLemmas.{Serves-read, Serves-then, Ends-after, Rests-from, Stops-after}
 use Rattle.http_devices.proofs.LastCall.{FailsAtLast-from, FailsAtLast-now}
@@ -144,7 +145,7 @@ pub returns-in-Err-Write-clause-answered : goal.returns-in-Err-Write-clause-answ
 returns-in-Err-Write-clause-answered g c =
     let so_far = c.loop-turn.invariant.so_far in
     let came = c.in-Ok-true.ensures.ok in
-    let done = c.in-Err-Write.ensures.err in
+    let done = rw c.in-Err-Write.field-0-is at c.in-Err-Write.ensures.err in
     let all = Serves-read g.S.Answers.answers so_far.2 _ _ _ _ _ came.0 _ so_far.5 (c.deref.ensures.value ∙ came.2) in
     record {
       bytes = so_far.0 ++ came.0;
@@ -180,7 +181,7 @@ pub returns-in-Err-Log-clause-answered : goal.returns-in-Err-Log-clause-answered
 returns-in-Err-Log-clause-answered g c =
     let so_far = c.loop-turn.invariant.so_far in
     let came = c.in-Ok-true.ensures.ok in
-    let done = c.in-Err-Log.ensures.err in
+    let done = rw c.in-Err-Log.field-0-is at c.in-Err-Log.ensures.err in
     let all = Serves-read g.S.Answers.answers so_far.2 _ _ _ _ _ came.0 _ so_far.5 (c.deref.ensures.value ∙ came.2) in
     record {
       bytes = so_far.0 ++ came.0;
@@ -224,8 +225,8 @@ returns-in-Ok-false-clause-logged g c =
       out = so_far.1;
       read = Consumes-trans _ _ _ _ _ so_far.3 read;
       written = so_far.4;
-      noted = subst (λ (t : List ℕ). AreNoted g.S.Service.lines g.S.Service.refusal_line g.L.Sink.holds c.args.log.now t so_far.1 c.loop-turn.log) (sym (append-nil so_far.0))
-          (noted_so_far g.S.Service.lines g.S.Service.refusal_line g.L.Sink.holds so_far.7 _ _ _ _ _ so_far.8);
+      noted = subst (λ (t : List ℕ). AreNoted g.S.Service.lines g.S.Service.refusal_line g.L.Sink.holds (Ok tt) c.args.log.now t so_far.1 c.loop-turn.log) (sym (append-nil so_far.0))
+          (noted_so_far g.S.Service.lines g.S.Service.refusal_line g.L.Sink.holds (Ok tt) so_far.7 _ _ _ _ _ so_far.8 (inl (refl, refl)));
       failed = c.loop-turn.invariant.log_count;
     }
 
@@ -237,7 +238,7 @@ returns-in-Err-Read-clause-logged g c =
       out = so_far.1;
       read = Consumes-kept _ _ _ _ so_far.3 c.in-Err-Read.ensures.lost.0;
       written = so_far.4;
-      noted = noted_so_far g.S.Service.lines g.S.Service.refusal_line g.L.Sink.holds so_far.7 _ _ _ _ _ so_far.8;
+      noted = noted_so_far g.S.Service.lines g.S.Service.refusal_line g.L.Sink.holds (Err fault.Read) so_far.7 _ _ _ _ _ so_far.8 (refl, refl);
       failed = c.loop-turn.invariant.log_count;
     }
 
@@ -249,7 +250,7 @@ returns-in-Err-NoMemory-clause-logged g c =
       out = so_far.1;
       read = Consumes-kept _ _ _ _ so_far.3 c.in-Err-NoMemory.ensures.lost.0;
       written = so_far.4;
-      noted = noted_so_far g.S.Service.lines g.S.Service.refusal_line g.L.Sink.holds so_far.7 _ _ _ _ _ so_far.8;
+      noted = noted_so_far g.S.Service.lines g.S.Service.refusal_line g.L.Sink.holds (Err fault.NoMemory) so_far.7 _ _ _ _ _ so_far.8 (refl, refl);
       failed = c.loop-turn.invariant.log_count;
     }
 
@@ -264,7 +265,7 @@ returns-in-Ok-None-clause-logged g c =
       out = so_far.1 ++ done.0;
       read = Consumes-trans _ _ _ _ _ so_far.3 came.1;
       written = Appends-trans _ _ _ _ _ so_far.4 done.1;
-      noted = noted_after g.S.Service.lines g.S.Service.refusal_line g.L.Sink.holds so_far.7 _ _ _ _ _ _ _ all done.3;
+      noted = noted_after g.S.Service.lines g.S.Service.refusal_line g.L.Sink.holds (Ok tt) so_far.7 _ _ _ _ _ _ _ all done.3;
       failed = c.in-Ok-None.ensures.count.1 ∙ c.loop-turn.invariant.log_count;
     }
 
@@ -272,14 +273,14 @@ pub returns-in-Err-Write-clause-logged : goal.returns-in-Err-Write-clause-logged
 returns-in-Err-Write-clause-logged g c =
     let so_far = c.loop-turn.invariant.so_far in
     let came = c.in-Ok-true.ensures.ok in
-    let done = c.in-Err-Write.ensures.err in
+    let done = rw c.in-Err-Write.field-0-is at c.in-Err-Write.ensures.err in
     let all = Serves-read (notes g.S.Service.lines g.L.Sink.holds) so_far.7 _ _ _ _ _ came.0 _ so_far.8 (c.deref.ensures.value ∙ came.2) in
     record {
       bytes = so_far.0 ++ came.0;
       out = so_far.1 ++ done.0;
       read = Consumes-trans _ _ _ _ _ so_far.3 came.1;
       written = Appends-trans _ _ _ _ _ so_far.4 done.1;
-      noted = noted_after g.S.Service.lines g.S.Service.refusal_line g.L.Sink.holds so_far.7 _ _ _ _ _ _ _ all done.3;
+      noted = noted_after g.S.Service.lines g.S.Service.refusal_line g.L.Sink.holds (Err fault.Write) so_far.7 _ _ _ _ _ _ _ all done.3;
       failed = (c.in-Err-Write.ensures.write (ap Err c.in-Err-Write.field-0-is)).1 ∙ c.loop-turn.invariant.log_count;
     }
 
@@ -287,14 +288,14 @@ pub returns-in-Err-Log-clause-logged : goal.returns-in-Err-Log-clause-logged
 returns-in-Err-Log-clause-logged g c =
     let so_far = c.loop-turn.invariant.so_far in
     let came = c.in-Ok-true.ensures.ok in
-    let done = c.in-Err-Log.ensures.err in
+    let done = rw c.in-Err-Log.field-0-is at c.in-Err-Log.ensures.err in
     let all = Serves-read (notes g.S.Service.lines g.L.Sink.holds) so_far.7 _ _ _ _ _ came.0 _ so_far.8 (c.deref.ensures.value ∙ came.2) in
     record {
       bytes = so_far.0 ++ came.0;
       out = so_far.1 ++ done.0;
       read = Consumes-trans _ _ _ _ _ so_far.3 came.1;
       written = Appends-trans _ _ _ _ _ so_far.4 done.1;
-      noted = noted_after g.S.Service.lines g.S.Service.refusal_line g.L.Sink.holds so_far.7 _ _ _ _ _ _ _ all done.3;
+      noted = noted_after g.S.Service.lines g.S.Service.refusal_line g.L.Sink.holds (Err fault.Log) so_far.7 _ _ _ _ _ _ _ all done.3;
       failed = FailsAtLast-from g.L.Sink.failed g.L.Sink.fails c.loop-turn.invariant.log_count (c.in-Err-Log.ensures.log (ap Err c.in-Err-Log.field-0-is)).0;
     }
 

@@ -1,0 +1,11 @@
+-- Bytes that are appended, one after the other.
+use Rattle.std.proofs.Common.{◌≡◌, ◌∙◌, ℕ, List, [], ◌++◌, sym, ap}
+use Rattle.std.proofs.lemmas.List.{append_assoc, append-nil}
+
+-- first these, and then those
+pub in_turn : (old mid new first second : List ℕ) → mid ≡ old ++ first → new ≡ mid ++ second → new ≡ old ++ (first ++ second)
+in_turn old mid new first second e f = f ∙ ap (λ (l : List ℕ). l ++ second) e ∙ append_assoc old first second
+
+-- none
+pub nothing_more : (old : List ℕ) → old ≡ old ++ []
+nothing_more old = sym (append-nil old)

@@ -1,0 +1,24 @@
+-- Defines texts that a terminal shows and does not obey, and the theorem that explanations are such texts.
+-- Rules of this product: an explanation contains no control character except tabs and the line feeds that end its
+-- lines, and none that changes the direction of writing.
+use Rattle.std.specs.Prelude.{◌≡◌, ℕ, ◌==◌, Bool, true, not, ◌||◌, List, encode_utf8_all}
+use Rattle.std.specs.List.{list_all}
+use Rattle.text_places.specs.Excerpt.{is_hidden}
+use Rattle.explanation_texts.specs.declared.finding.SourceFinding.{SourceFinding}
+use Rattle.explanation_texts.specs.declared.finding.WholeFinding.{WholeFinding}
+use Rattle.explanation_texts.specs.Explained.{IsSourceText, IsWholeText}
+
+-- `is_shown c` tests for a character that is shown, or a line feed.
+abbrev pub is_shown : ℕ → Bool
+is_shown c = not (is_hidden c) || (c == 10)
+
+-- `IsReadable bytes` holds if `bytes` are the UTF-8 of such characters.
+abbrev pub IsReadable : List ℕ → Type 0
+IsReadable bytes = (cs : List ℕ) × (list_all is_shown cs ≡ true) × (bytes ≡ encode_utf8_all cs)
+
+-- Each explanation is such a text, whatever the file, its name and its content.
+abbrev pub ExplanationsAreReadable : Type 0
+ExplanationsAreReadable =
+    ((file text : List ℕ) (finding : SourceFinding) (bytes : List ℕ) → IsSourceText file text finding bytes
+    → IsReadable bytes)
+    × ((file : List ℕ) (finding : WholeFinding) (bytes : List ℕ) → IsWholeText file finding bytes → IsReadable bytes)

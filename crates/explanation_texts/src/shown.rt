@@ -1,0 +1,35 @@
+//! Text of a file, as a terminal may show it.
+ghost use Rattle.std.specs.Prelude.{◌≡◌, ◌++◌, OnOk, string_bytes, decimal};
+ghost use Rattle.text_places.specs.Excerpt.{is_hidden, shown_char};
+ghost use Rattle.explanation_texts.specs.Explained.{readable};
+
+use plain::NoMemory;
+
+fn is_hidden_char(c: char) -> bool
+    ensures { result ≡ is_hidden c }
+{
+    matches!(c, '\0'..='\u{8}' | '\n'..='\u{1f}' | '\u{7f}'..='\u{9f}')
+        || matches!(c, '\u{202a}'..='\u{202e}' | '\u{2066}'..='\u{2069}')
+}
+
+fn shown_for(c: char) -> char
+    ensures { result ≡ shown_char c }
+{
+    if is_hidden_char(c) { '\u{fffd}' } else { c }
+}
+
+/// Appends the first characters of a text, at most `most`: U+FFFD for control characters except tabs, and for those
+/// that change the direction of writing.
+pub(crate) fn push_shown(out: &mut String, text: &str, most: usize) -> Result<(), NoMemory>
+    ensures { OnOk result (string_bytes out.new ≡ string_bytes out.old ++ readable text.now most) }
+{
+    out.extend(text.chars().take(most).map(|c| shown_for(c)))
+}
+
+/// Appends a number.
+pub(crate) fn push_number(out: &mut String, number: usize) -> Result<(), NoMemory>
+    ensures { OnOk result (string_bytes out.new ≡ string_bytes out.old ++ decimal number) }
+{
+    write!(out, "{number}")?;
+    Ok(())
+}

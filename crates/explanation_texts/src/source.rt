@@ -1,0 +1,162 @@
+//! An error in a part of a text.
+ghost use Rattle.std.specs.Prelude.{◌≡◌, ◌++◌, OnOk, string_bytes, ℕ, List};
+ghost use Rattle.explanation_texts.specs.Explained.{cause_part, detail_line, says_line, hint_line, place_text};
+ghost use Rattle.explanation_texts.specs.Explained.{rest_text, source_text, AreClean, IsSourceText};
+
+use crate::finding::SourceFinding;
+use crate::shown::{push_number, push_shown};
+use fault_words::words_of;
+use plain::NoMemory;
+use std::alloc::Global;
+use text_places::{Place, place_of, push_excerpt};
+
+// The most characters of a cause that are shown.
+const MOST_CAUSE: usize = 60;
+
+// The most characters of a detail that are shown.
+const MOST_DETAIL: usize = 400;
+
+/// Returns what is wrong, in words, and what to do. The table has words for each code.
+pub(crate) fn says_and_advice(code: u16) -> (&'static str, &'static str)
+    ensures { AreClean result.0.now result.1.now }
+{
+    match words_of(code) {
+        Some(words) => (words.says, words.advice),
+        None => ("rejected", "docs/codes.md has the codes"),
+    }
+}
+
+fn push_cause(out: &mut String, cause: &str) -> Result<(), NoMemory>
+    ensures { OnOk result (string_bytes out.new ≡ string_bytes out.old ++ cause_part cause.now) }
+{
+    if cause.is_empty() {
+        return Ok(());
+    }
+    out.push_str(" `")?;
+    push_shown(out, cause, MOST_CAUSE)?;
+    out.push_str("`")?;
+    Ok(())
+}
+
+/// Appends `error CODE: ` and what is wrong.
+pub(crate) fn push_says(
+    out: &mut String,
+    code: u16,
+    says: &str,
+    cause: &str,
+) -> Result<(), NoMemory>
+    ensures { OnOk result (string_bytes out.new ≡ string_bytes out.old ++ says_line code says.now cause.now) }
+{
+    out.push_str("error ")?;
+    push_number(out, usize::from(code))?;
+    out.push_str(": ")?;
+    out.push_str(says)?;
+    push_cause(out, cause)?;
+    out.push_str("\n")?;
+    Ok(())
+}
+
+/// Appends what to do.
+pub(crate) fn push_hint(out: &mut String, advice: &str) -> Result<(), NoMemory>
+    ensures { OnOk result (string_bytes out.new ≡ string_bytes out.old ++ hint_line advice.now) }
+{
+    out.push_str("  hint: ")?;
+    out.push_str(advice)?;
+    out.push_str("\n")?;
+    Ok(())
+}
+
+/// Appends what else is known, if anything is.
+pub(crate) fn push_detail(out: &mut String, detail: &str) -> Result<(), NoMemory>
+    ensures { OnOk result (string_bytes out.new ≡ string_bytes out.old ++ detail_line detail.now) }
+{
+    if detail.is_empty() {
+        return Ok(());
+    }
+    out.push_str("  ")?;
+    push_shown(out, detail, MOST_DETAIL)?;
+    out.push_str("\n")?;
+    Ok(())
+}
+
+// The place that is shown, and the words on it.
+#[derive(Clone, Copy)]
+struct Shown<'t> {
+    place: Place,
+    span: usize,
+    says: &'t str,
+    advice: &'t str,
+}
+
+fn push_place(
+    alloc: Global,
+    out: &mut String,
+    file: &str,
+    text: &str,
+    shown: &Shown<'_>,
+) -> Result<(), NoMemory>
+    ensures { OnOk result (string_bytes out.new ≡ string_bytes out.old
+        ++ place_text file.now text.now shown.now.place shown.now.span) }
+{
+    push_excerpt(alloc, out, file, text, shown.place, shown.span)?;
+    Ok(())
+}
+
+fn push_rest(out: &mut String, finding: &SourceFinding<'_>, advice: &str) -> Result<(), NoMemory>
+    ensures { OnOk result (string_bytes out.new ≡ string_bytes out.old ++ rest_text finding.now advice.now) }
+{
+    push_detail(out, finding.detail)?;
+    push_detail(out, finding.note)?;
+    push_hint(out, advice)?;
+    Ok(())
+}
+
+fn push_at(
+    alloc: Global,
+    out: &mut String,
+    file: &str,
+    text: &str,
+    finding: &SourceFinding<'_>,
+    shown: &Shown<'_>,
+) -> Result<(), NoMemory>
+    ensures { OnOk result (string_bytes out.new ≡ string_bytes out.old
+        ++ source_text file.now text.now finding.now shown.now.says.now shown.now.advice.now shown.now.place
+        shown.now.span) }
+{
+    push_says(out, finding.code, shown.says, finding.cause)?;
+    push_place(alloc, out, file, text, shown)?;
+    push_rest(out, finding, shown.advice)?;
+    Ok(())
+}
+
+/// Appends the text that explains an error in a text, which is that of the file `file`: what is wrong, the line of its
+/// place with carets under it, and a hint.
+///
+/// O(length of `text` and of `file`).
+///
+/// # Errors
+///
+/// - `NoMemory`: an allocation failed. A part of the text may then be appended.
+pub fn push_source(
+    alloc: Global,
+    out: &mut String,
+    file: &str,
+    text: &str,
+    finding: &SourceFinding<'_>,
+) -> Result<(), NoMemory>
+    ensures { OnOk result ((bytes : List ℕ) × IsSourceText file.now text.now finding.now bytes
+        × (string_bytes out.new ≡ string_bytes out.old ++ bytes)) }
+{
+    let place = place_of(text, finding.start);
+    let end = place_of(text, finding.end);
+    let span = place.span_to(&end);
+    let (says, advice) = says_and_advice(finding.code);
+    let shown = Shown {
+        place,
+        span,
+        says,
+        advice,
+    };
+    push_at(alloc, out, file, text, finding, &shown)?;
+    Ok(())
+}

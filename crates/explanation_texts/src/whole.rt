@@ -1,0 +1,64 @@
+//! An error in a whole text, or in an item of an array.
+ghost use Rattle.std.specs.Prelude.{◌≡◌, ◌++◌, OnOk, string_bytes, ℕ, List};
+ghost use Rattle.explanation_texts.specs.Explained.{index_part, file_line, whole_text, IsWholeText};
+
+use crate::finding::WholeFinding;
+use crate::shown::{push_number, push_shown};
+use crate::source::{push_detail, push_hint, push_says, says_and_advice};
+use plain::NoMemory;
+
+fn push_index(out: &mut String, index: Option<usize>) -> Result<(), NoMemory>
+    ensures { OnOk result (string_bytes out.new ≡ string_bytes out.old ++ index_part index) }
+{
+    match index {
+        Some(index) => {
+            out.push_str(", entity ")?;
+            push_number(out, index)?;
+            out.push_str(" (from 0)")?;
+            Ok(())
+        }
+        None => Ok(()),
+    }
+}
+
+fn push_file(out: &mut String, file: &str, index: Option<usize>) -> Result<(), NoMemory>
+    ensures { OnOk result (string_bytes out.new ≡ string_bytes out.old ++ file_line file.now index) }
+{
+    out.push_str(" --> ")?;
+    push_shown(out, file, file.len())?;
+    push_index(out, index)?;
+    out.push_str("\n")?;
+    Ok(())
+}
+
+fn push_parts(
+    out: &mut String,
+    file: &str,
+    finding: &WholeFinding<'_>,
+    says: &str,
+    advice: &str,
+) -> Result<(), NoMemory>
+    ensures { OnOk result (string_bytes out.new
+        ≡ string_bytes out.old ++ whole_text file.now finding.now says.now advice.now) }
+{
+    push_says(out, finding.code, says, "")?;
+    push_file(out, file, finding.index)?;
+    push_detail(out, finding.detail)?;
+    push_hint(out, advice)?;
+    Ok(())
+}
+
+/// Appends the text that explains an error in the file `file`: what is wrong, the file, with the index in its array,
+/// what is known of the item, and a hint.
+///
+/// # Errors
+///
+/// - `NoMemory`: an allocation failed. A part of the text may then be appended.
+pub fn push_whole(out: &mut String, file: &str, finding: &WholeFinding<'_>) -> Result<(), NoMemory>
+    ensures { OnOk result ((bytes : List ℕ) × IsWholeText file.now finding.now bytes
+        × (string_bytes out.new ≡ string_bytes out.old ++ bytes)) }
+{
+    let (says, advice) = says_and_advice(finding.code);
+    push_parts(out, file, finding, says, advice)?;
+    Ok(())
+}

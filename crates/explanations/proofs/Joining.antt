@@ -1,0 +1,185 @@
+-- Explanations of the parts, joined to that of the whole.
+use Rattle.std.proofs.Common.{◌≡◌, inl, inr, ℕ, Bool, true, false, List, [], ◌∷◌, ◌++◌, Option, None, Some, unwrap_or, option_map, Result, Err, OnOk, IfErr}
+use Rattle.std.proofs.Common.{refl, sym, ap, ◌∙◌, subst}
+use Rattle.std.specs.Prelude.{⊤, MatchOption}
+use Rattle.plain.specs.Refused.{OrNoMemory}
+use Rattle.grammar_desugaring.specs.grammar_tokens.declared.token.Token.{Token}
+use Rattle.policy_grammar.specs.declared.policy.Policy.{Policy}
+use Rattle.policy_grammar.specs.declared.fault.ReadFault.{ReadFault}
+use Rattle.policy_grammar.specs.Faults as reading
+use Rattle.policy_grammar.specs.PolicyText.{IsPolicyFile, IsFileRefused}
+use Rattle.schema_decisions.specs.schema.Schemas.{StatedSchema, IsSchemaOf}
+use Rattle.schema_decisions.specs.answer_lines.declared.refusal.Refusal.{Refusal}
+use Rattle.schema_decisions.specs.answer_lines.Refusals.{no_memory}
+use Rattle.schema_decisions.specs.decision_texts.Decisions.{ArePoliciesOf, ArePoliciesRefused}
+use Rattle.schema_decisions.specs.Checks.{IsSchemaRefused}
+use Rattle.schema_decisions.specs.validator.declared.fault.TypeFault.{TypeFault}
+use Rattle.schema_decisions.specs.validator.Faults.{code_of}
+use Rattle.schema_decisions.specs.validator.Passing.{Passes, IsCheckRefused}
+use Rattle.blame_texts.specs.declared.telling.PolicyFault.{PolicyFault}
+use Rattle.blame_texts.specs.Told.{IsPolicyFault}
+use Rattle.token_spans.specs.declared.spans.Span.{Span}
+use Rattle.token_spans.specs.Spans.{IsSpanOf, IsNameSpanOf}
+use Rattle.explanations.specs.declared.pieces.Piece.{Piece}
+use Rattle.explanations.specs.Files.{File, Files}
+use Rattle.explanations.specs.Parts.{IsPartOf, IsSourceAt, IsWholeAt, AppendsSome}
+use Rattle.explanations.specs.Pieces.{ArePiecesOf}
+use Rattle.explanations.specs.Policies.{is_searched, IsFoundAs, IsFaultText, IsCheckExplained, passes_so, rejected_so, too_large, ArePoliciesExplained}
+use Rattle.explanations.specs.Unread.{byte_in, IsPieceExplained, is_read, is_unread, ArePiecesExplained, AppendsTold}
+use Rattle.explanations.specs.Others.{IsJudgedText, IsJudged, AreEntitiesExplained, IsRequestExplained}
+use Rattle.explanations.specs.Explained as whole
+use Rattle.explanations.specs.Explained.{IsTextOf, AreTokensOf, IsUnreadExplained, IsFileExplained, AreOthersExplained, IsExplainedUnder, IsExplainedAs, IsExplained}
+use Rattle.explanations.proofs.Appending.{in_turn, nothing_more}
+use Rattle.explanations.proofs.Judging.{judged}
+
+-- an answer that is known to be there, or not
+pub some_so : {X : Type 0} (P : Type 0) (Q : X → Type 0) {o : Option X} {x : X} → o ≡ Some x → MatchOption o P Q → Q x
+some_so P Q e h = subst (λ p. MatchOption p P Q) e h
+
+pub none_so : {X : Type 0} (P : Type 0) (Q : X → Type 0) {o : Option X} → o ≡ None → MatchOption o P Q → P
+none_so P Q e h = subst (λ p. MatchOption p P Q) e h
+
+pub nothing_given : (old : List ℕ) → AppendsSome (λ bytes. bytes ≡ []) old old
+nothing_given old = ([], refl, nothing_more old)
+
+pub source_is : (file text old new : List ℕ) (c d i j : ℕ) → c ≡ d → i ≡ j → AppendsSome (IsSourceAt file text c i) old new
+    → AppendsSome (IsSourceAt file text d j) old new
+source_is file text old new c d i j e f a =
+    let moved = subst (λ (k : ℕ). IsSourceAt file text c k a.0) f a.1 in
+    (a.0, subst (λ (k : ℕ). IsSourceAt file text k j a.0) e moved, a.2)
+
+-- ---- a policy
+
+module _ (s : StatedSchema) (file text : List ℕ) (place : Piece) (policy : Policy) (old : List ℕ) where
+  pub policy_passes : Passes s policy → AppendsSome (IsCheckExplained s file text place policy) old old
+  policy_passes h = ([], passes_so h, nothing_more old)
+
+  pub policy_rejected : (new : List ℕ) (f : PolicyFault) → is_searched place ≡ true → IsPolicyFault s policy f
+      → AppendsSome (IsFaultText file text place f) old new → AppendsSome (IsCheckExplained s file text place policy) old new
+  policy_rejected new f e h a = (a.0, rejected_so f a.0 e h a.1, a.2)
+
+  pub policy_large : (new : List ℕ) (f : TypeFault) → is_searched place ≡ false → IsCheckRefused s policy f
+      → AppendsSome (IsSourceAt file text (code_of f) place.start) old new → AppendsSome (IsCheckExplained s file text place policy) old new
+  policy_large new f e h a = (a.0, too_large f a.0 e h a.1, a.2)
+
+-- ---- a piece, and a file that does not parse
+
+module _ (o : Option StatedSchema) (file text : List ℕ) (old : List ℕ) where
+  pub piece_parses : (piece : Piece) (part : List ℕ) (names : List (List ℕ)) (cores : List Policy) (new : List ℕ) → IsPartOf text piece.start piece.end part
+      → IsPolicyFile part names cores → AppendsSome (ArePoliciesExplained o file text (piece ∷ []) cores) old new
+      → AppendsTold (IsPieceExplained o file text piece) old new false
+  piece_parses piece part names cores new h g a = (a.0, is_read part names cores a.0 h g a.1, a.2)
+
+  pub piece_does_not : (piece : Piece) (part : List ℕ) (f g : ReadFault) (code at : ℕ) (new : List ℕ) → IsPartOf text piece.start piece.end part
+      → IsFileRefused part f → g ≡ f → code ≡ reading.code_of g → at ≡ byte_in piece g → AppendsSome (IsSourceAt file text code at) old new
+      → AppendsTold (IsPieceExplained o file text piece) old new true
+  piece_does_not piece part f g code at new h refused e c i a =
+      let b = source_is file text old new code (reading.code_of g) at (byte_in piece g) c i a in
+      (b.0, is_unread part g b.0 h (subst (IsFileRefused part) (sym e) refused) b.1, b.2)
+
+  pub pieces_tell : (pieces : List Piece) (r : Refusal) (new : List ℕ) (told : Bool) → told ≡ true → AppendsTold (ArePiecesExplained o file text pieces) old new told
+      → AppendsSome (IsUnreadExplained o file text pieces r) old new
+  pieces_tell pieces r new told e a = (a.0, inl (subst (λ (b : Bool). ArePiecesExplained o file text pieces b a.0) e a.1), a.2)
+
+  pub file_tells : (pieces : List Piece) (r : Refusal) (mid new : List ℕ) (told : Bool) (at : ℕ) → told ≡ false → at ≡ unwrap_or r.place 0
+      → AppendsTold (ArePiecesExplained o file text pieces) old mid told → AppendsSome (IsSourceAt file text r.code at) mid new
+      → AppendsSome (IsUnreadExplained o file text pieces r) old new
+  file_tells pieces r mid new told at e f a b =
+      let first = subst (λ (t : Bool). ArePiecesExplained o file text pieces t a.0) e a.1 in
+      let last = subst (λ (n : ℕ). IsSourceAt file text r.code n b.0) f b.1 in
+      (a.0 ++ b.0, inr (a.0, b.0, first, last, refl), in_turn old mid new a.0 b.0 a.2 b.2)
+
+-- ---- a file
+
+module _ (o : Option StatedSchema) (file held text : List ℕ) (tokens : List Token) (pieces : List Piece) (is_text : IsTextOf held text)
+    (are_tokens : AreTokensOf text tokens) (are_pieces : ArePiecesOf tokens pieces) (old new : List ℕ) where
+  pub file_parses : (names : List (List ℕ)) (cores : List Policy) → ArePoliciesOf held names cores
+      → AppendsSome (ArePoliciesExplained o file text pieces cores) old new → AppendsSome (IsFileExplained o file held) old new
+  file_parses names cores h a = (
+    a.0,
+    record {
+      text = text;
+      is_text = is_text;
+      tokens = tokens;
+      are_tokens = are_tokens;
+      pieces = pieces;
+      are_pieces = are_pieces;
+      outcome = whole.read names cores a.0 h a.1;
+    },
+    a.2,
+  )
+
+  pub file_does_not : (r q : Refusal) → q ≡ r → ArePoliciesRefused held r → AppendsSome (IsUnreadExplained o file text pieces q) old new
+      → AppendsSome (IsFileExplained o file held) old new
+  file_does_not r q e h a = (
+    a.0,
+    record {
+      text = text;
+      is_text = is_text;
+      tokens = tokens;
+      are_tokens = are_tokens;
+      pieces = pieces;
+      are_pieces = are_pieces;
+      outcome = whole.unread q a.0 (subst (ArePoliciesRefused held) (sym e) h) a.1;
+    },
+    a.2,
+  )
+
+-- ---- what was checked
+
+pub judged_so : (name old new : List ℕ) (r q : Refusal) → q ≡ r → (r ≡ no_memory → ⊥) → AppendsSome (IsWholeAt name q.code q.place) old new
+    → AppendsSome (IsJudgedText name (Err r)) old new
+judged_so name old new r q e h a = (a.0, (h, subst (λ (t : Refusal). IsWholeAt name t.code t.place a.0) e a.1), a.2)
+
+pub judged_text : (name old new : List ℕ) (Read : Type 0) (Refused : Refusal → Type 0) (r : Result ⊤ Refusal) → OnOk r Read
+    → IfErr r (OrNoMemory no_memory Refused) → AppendsSome (IsJudgedText name r) old new → AppendsSome (IsJudged name Read Refused) old new
+judged_text name old new Read Refused r read refused a = (a.0, judged name a.0 Read Refused r read refused a.1, a.2)
+
+-- ---- all texts
+
+module _ (given : Files) (old : List ℕ) where
+  pub others : (o : Option StatedSchema) (schema : Option (List ℕ)) (one two new : List ℕ) → schema ≡ option_map (λ file. file.text) given.schema
+      → AppendsSome (IsFileExplained o given.policies.name given.policies.text) old one → AppendsSome (AreEntitiesExplained o given.entities) one two
+      → AppendsSome (IsRequestExplained schema given.request) two new → AppendsSome (AreOthersExplained o given) old new
+  others o schema one two new e a b d = (
+    a.0 ++ b.0 ++ d.0,
+    record {
+      first = a.0;
+      second = b.0;
+      third = d.0;
+      policies = a.1;
+      entities = b.1;
+      request = subst (λ (t : Option (List ℕ)). IsRequestExplained t given.request d.0) e d.1;
+      is = refl;
+    },
+    in_turn old two new (a.0 ++ b.0) d.0 (in_turn old one two a.0 b.0 a.2 b.2) d.2,
+  )
+
+  pub under_schema : (schema : File) (s : StatedSchema) (new : List ℕ) → IsSchemaOf schema.text s → AppendsSome (AreOthersExplained (Some s) given) old new
+      → AppendsSome (IsExplainedUnder schema given) old new
+  under_schema schema s new h a = (a.0, inl (s, h, a.1), a.2)
+
+  pub schema_rejected : (schema : File) (r q : Refusal) (new : List ℕ) → q ≡ r → IsSchemaRefused schema.text r
+      → AppendsSome (IsWholeAt schema.name q.code q.place) old new → AppendsSome (IsExplainedUnder schema given) old new
+  schema_rejected schema r q new e h a = (a.0, inr (q, subst (IsSchemaRefused schema.text) (sym e) h, a.1), a.2)
+
+pub from_nothing : (given : Files) (old new : List ℕ) → old ≡ [] → AppendsSome (IsExplained given) old new → IsExplained given new
+from_nothing given old new e a =
+    let is : a.0 ≡ new = sym (a.2 ∙ ap (λ (l : List ℕ). l ++ a.0) e) in
+    subst (IsExplained given) is a.1
+
+pub given_as : (given : Files) (o : Option File) (old new : List ℕ) → given.schema ≡ o → AppendsSome (IsExplainedAs o given) old new
+    → AppendsSome (IsExplained given) old new
+given_as given o old new e a = subst (λ (p : Option File). AppendsSome (IsExplainedAs p given) old new) (sym e) a
+
+-- ---- spans
+
+pub found_name : (b : Bool) (part path as_stated : List ℕ) (found : Option Span) → b ≡ true → path ≡ as_stated → IsNameSpanOf part path found
+    → IsFoundAs b part as_stated found
+found_name b part path as_stated found e f h =
+    subst (λ (c : Bool). IsFoundAs c part as_stated found) (sym e) (subst (λ (p : List ℕ). IsNameSpanOf part p found) f h)
+
+pub found_form : (b : Bool) (part path as_stated : List ℕ) (found : Option Span) → b ≡ false → path ≡ as_stated → IsSpanOf part path found
+    → IsFoundAs b part as_stated found
+found_form b part path as_stated found e f h =
+    subst (λ (c : Bool). IsFoundAs c part as_stated found) (sym e) (subst (λ (p : List ℕ). IsSpanOf part p found) f h)

@@ -1,0 +1,5 @@
+use Rattle.explanations.proofs.Readable.{explained}
+use Rattle.explanations.proofs.laws.explained_texts_are_readable.Goals as goal
+
+pub returns : goal.returns
+returns c = explained

@@ -1,0 +1,20 @@
+use Rattle.std.proofs.Common.{◌∙◌}
+use Rattle.explanations.proofs.policies.push_fault.Goals as goal
+
+pub returns : goal.returns
+returns c =
+    let e = c.in_ok-push_source.ensures in (
+      e.0,
+      record {
+        finding = _;
+        code = c.from.ensures ∙ c.code.ensures;
+        found = c.in_ok-found.found;
+        is_found = c.in_ok-found.ensures;
+        start = c.spot_of-spot.ensures.start;
+        end = c.spot_of-spot.ensures.end;
+        cause = c.as_str.ensures.value;
+        detail = c.as_str-2.ensures.value;
+        is_text = e.1;
+      },
+      e.2,
+    )

@@ -1,0 +1,29 @@
+-- Defines the files that are explained: their names and contents.
+-- Rules of this product: policies are always given, each of the others may be.
+use Rattle.std.specs.Prelude.{ℕ, List, Option, option_map}
+use Rattle.explanations.specs.declared.given.Source.{Source}
+use Rattle.explanations.specs.declared.given.Given.{Given}
+
+-- A `File` is a name with a content.
+pub record File : Type 0 where
+  pub name : List ℕ
+  pub text : List ℕ
+
+-- `Files` are the files that are given.
+pub record Files : Type 0 where
+  pub schema : Option File
+  pub policies : File
+  pub entities : Option File
+  pub request : Option File
+
+-- `file_of source` and `files_of given` are the files of the code.
+abbrev pub file_of : Source → File
+file_of source = record { name = source.name.now; text = source.text.now }
+
+abbrev pub files_of : Given → Files
+files_of given = record {
+  schema = option_map file_of given.schema;
+  policies = file_of given.policies;
+  entities = option_map file_of given.entities;
+  request = option_map file_of given.request;
+}

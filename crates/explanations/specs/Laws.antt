@@ -1,0 +1,11 @@
+-- Defines the theorem that a terminal shows explanations and does not obey them.
+-- Rules of this product: an explanation contains no control character except tabs and the line feeds that end its
+-- lines, and none that changes the direction of writing.
+use Rattle.std.specs.Prelude.{ℕ, List}
+use Rattle.explanation_texts.specs.Readable.{IsReadable}
+use Rattle.explanations.specs.Files.{Files}
+use Rattle.explanations.specs.Explained.{IsExplained}
+
+-- Each explanation is such a text, whatever the files contain, and whatever their names are.
+abbrev pub ExplainedTextsAreReadable : Type 0
+ExplainedTextsAreReadable = (given : Files) (bytes : List ℕ) → IsExplained given bytes → IsReadable bytes

@@ -1,0 +1,73 @@
+-- Defines the text that explains why entities or a request are rejected.
+-- Rules of this product: entities are checked as `decide` checks them, whatever else is given, and so is a request: the
+-- first error is explained, with its index in the array.
+use Rattle.std.specs.Prelude.{◌≡◌, ◌⊎◌, ℕ, List, [], ◌++◌, Option, None, Some, Result, Ok, Err, ⊤, codes}
+use Rattle.schema_decisions.specs.schema.Schemas.{StatedSchema}
+use Rattle.schema_decisions.specs.entity_data.declared.entity.Entity.{Entity}
+use Rattle.schema_decisions.specs.answer_lines.declared.refusal.Refusal.{Refusal}
+use Rattle.schema_decisions.specs.answer_lines.Refusals.{no_memory}
+use Rattle.schema_decisions.specs.decision_texts.BareReading.{bare_reading}
+use Rattle.schema_decisions.specs.decision_texts.Decisions as bare
+use Rattle.schema_decisions.specs.decision_texts.EntityArrays.{entities_of}
+use Rattle.schema_decisions.specs.Decisions as typed
+use Rattle.schema_decisions.specs.UnderSchema.{reading_under}
+use Rattle.explanations.specs.Files.{File}
+use Rattle.explanations.specs.Parts.{IsWholeAt}
+
+-- `any_request` is a request that parses without a schema.
+abbrev pub any_request : List ℕ
+any_request = codes "{\"principal\":{\"type\":\"A\",\"id\":\"\"},\"action\":{\"type\":\"A\",\"id\":\"\"},"
+    ++ codes "\"resource\":{\"type\":\"A\",\"id\":\"\"}}"
+
+-- `AreBareTextsRead entities request` holds if without a schema the request is decided over the entities by no
+-- policies, and `AreBareTextsRefused ..` if not, with this error.
+abbrev pub AreBareTextsRead : List ℕ → List ℕ → Type 0
+AreBareTextsRead entities request = (line : List ℕ) × bare.IsDecided bare_reading [] entities request line
+
+abbrev pub AreBareTextsRefused : List ℕ → List ℕ → Refusal → Type 0
+AreBareTextsRefused entities request r = bare.IsDecisionRefused bare_reading [] entities request r
+
+-- `AreEntitiesRead s text` holds if `text` is an array of entities under the schema or, without one, if that request is
+-- decided over it.
+abbrev pub AreEntitiesRead : Option StatedSchema → List ℕ → Type 0
+AreEntitiesRead None text = AreBareTextsRead text any_request
+AreEntitiesRead (Some s) text = (es : List Entity) × (entities_of (reading_under s) text ≡ Ok es)
+
+-- `AreEntitiesRefused s text r` holds if not, with the error `r`.
+abbrev pub AreEntitiesRefused : Option StatedSchema → List ℕ → Refusal → Type 0
+AreEntitiesRefused None text r = AreBareTextsRefused text any_request r
+AreEntitiesRefused (Some s) text r = entities_of (reading_under s) text ≡ Err r
+
+-- `IsRequestRead schema text` holds if `text` is a request, which is decided over no entities by no policies, under a
+-- schema if there is one.
+abbrev pub IsRequestRead : Option (List ℕ) → List ℕ → Type 0
+IsRequestRead None text = AreBareTextsRead (codes "[]") text
+IsRequestRead (Some schema) text = (line : List ℕ) × typed.IsDecided schema [] (codes "[]") text line
+
+-- `IsRequestRefused schema text r` holds if not, with the error `r`.
+abbrev pub IsRequestRefused : Option (List ℕ) → List ℕ → Refusal → Type 0
+IsRequestRefused None text r = AreBareTextsRefused (codes "[]") text r
+IsRequestRefused (Some schema) text r = typed.IsSchemaDecisionRefused schema [] (codes "[]") text r
+
+-- `IsJudgedText name judged bytes` holds if `bytes` explain the error of the file `name`; they are empty if there is
+-- none.
+abbrev pub IsJudgedText : List ℕ → Result ⊤ Refusal → List ℕ → Type 0
+IsJudgedText name (Ok done) bytes = bytes ≡ []
+IsJudgedText name (Err r) bytes = (r ≡ no_memory → ⊥) × IsWholeAt name r.code r.place bytes
+
+-- `IsJudged name Read Refused bytes` holds if `bytes` are empty, of what is read, or explain why it is rejected.
+abbrev pub IsJudged : List ℕ → Type 0 → (Refusal → Type 0) → List ℕ → Type 0
+IsJudged name Read Refused bytes =
+    (Read × (bytes ≡ [])) ⊎ ((r : Refusal) × Refused r × IsWholeAt name r.code r.place bytes)
+
+-- `AreEntitiesExplained s file bytes` holds if `bytes` explain why the entities of a file are rejected, and
+-- `IsRequestExplained schema file bytes` if they explain why the request of a file is.
+abbrev pub AreEntitiesExplained : Option StatedSchema → Option File → List ℕ → Type 0
+AreEntitiesExplained s None bytes = bytes ≡ []
+AreEntitiesExplained s (Some file) bytes =
+    IsJudged file.name (AreEntitiesRead s file.text) (AreEntitiesRefused s file.text) bytes
+
+abbrev pub IsRequestExplained : Option (List ℕ) → Option File → List ℕ → Type 0
+IsRequestExplained schema None bytes = bytes ≡ []
+IsRequestExplained schema (Some file) bytes =
+    IsJudged file.name (IsRequestRead schema file.text) (IsRequestRefused schema file.text) bytes

@@ -1,0 +1,33 @@
+-- Defines parts of a text, and the texts of errors by their code and place.
+-- Rules of this product: an error is shown at the byte at which it begins. These definitions leave open how many
+-- characters are marked, and what is named as the cause.
+use Rattle.std.specs.Prelude.{◌≡◌, ◌⊎◌, ℕ, List, [], ◌++◌, Option, take, drop}
+use Rattle.std.specs.Str.{IsCharBoundary}
+use Rattle.explanation_texts.specs.declared.finding.SourceFinding.{SourceFinding}
+use Rattle.explanation_texts.specs.declared.finding.WholeFinding.{WholeFinding}
+use Rattle.explanation_texts.specs.Explained.{IsSourceText, IsWholeText}
+
+-- `IsPartOf text from to part` holds if `part` is the text between the two bytes, or empty if one of them is within a
+-- character.
+abbrev pub IsPartOf : List ℕ → ℕ → ℕ → List ℕ → Type 0
+IsPartOf text from to part = (part ≡ drop from (take to text))
+    ⊎ ((part ≡ []) × ((IsCharBoundary text to → ⊥) ⊎ (IsCharBoundary (take to text) from → ⊥)))
+
+-- `IsSourceAt file text code start bytes` holds if `bytes` explain an error of this code at this byte of `text`.
+pub record IsSourceAt (file text : List ℕ) (code start : ℕ) (bytes : List ℕ) : Type 0 where
+  pub finding : SourceFinding
+  pub code_is : finding.code ≡ code
+  pub start_is : finding.start ≡ start
+  pub is_text : IsSourceText file text finding bytes
+
+-- `IsWholeAt file code index bytes` holds if `bytes` explain an error of this code, at this index in the array of a
+-- file.
+pub record IsWholeAt (file : List ℕ) (code : ℕ) (index : Option ℕ) (bytes : List ℕ) : Type 0 where
+  pub finding : WholeFinding
+  pub code_is : finding.code ≡ code
+  pub index_is : finding.index ≡ index
+  pub is_text : IsWholeText file finding bytes
+
+-- `AppendsSome Is old new` holds if `new` is `old` followed by bytes for which `Is` holds.
+abbrev pub AppendsSome : (List ℕ → Type 0) → List ℕ → List ℕ → Type 0
+AppendsSome Is old new = (bytes : List ℕ) × Is bytes × (new ≡ old ++ bytes)

@@ -1,0 +1,42 @@
+-- Defines the positions of policies in their file.
+-- Source: Cedar reference guide 4.0, "Grammar specification for Cedar policy syntax": a policy ends with `;`, and no
+-- other token of it is one. Rules of this product: a policy begins where its first token does, so comments before it do
+-- not belong to it.
+use Rattle.std.specs.Prelude.{ℕ, Bool, true, false, if◌then◌else◌, List, [], ◌∷◌, ◌++◌}
+use Rattle.std.specs.Prelude.{Option, Some, None, unwrap_or, slice_get}
+use Rattle.grammar_desugaring.specs.grammar_tokens.declared.token.TokenKind.{TokenKind}
+use Rattle.grammar_desugaring.specs.grammar_tokens.declared.token.TokenKind.TheVariants as k
+use Rattle.grammar_desugaring.specs.grammar_tokens.declared.token.Token.{Token}
+use Rattle.explanations.specs.declared.pieces.Piece.{Piece}
+
+-- `is_end kind` tests for `;`, which ends a policy.
+abbrev pub is_end : TokenKind → Bool
+is_end k.Semicolon = true
+is_end _ = false
+
+-- `piece from to` is the piece between the two bytes.
+abbrev pub piece : ℕ → ℕ → Piece
+piece from to = record { start = from; end = to }
+
+-- `open_after open t` is the byte at which a piece is open after the token `t`, and `pieces_after ps open t` are the
+-- pieces up to there, where one was open at `open`, if it is a byte, after the pieces `ps`.
+abbrev pub open_after : Option ℕ → Token → Option ℕ
+open_after open_at t = if is_end t.kind then None else Some (unwrap_or open_at t.start)
+
+abbrev pub pieces_after : List Piece → Option ℕ → Token → List Piece
+pieces_after ps open_at t = if is_end t.kind then ps ++ piece (unwrap_or open_at t.start) t.end ∷ [] else ps
+
+-- `ArePieces ts ps open_at` holds if the tokens `ts` are the pieces `ps` and, if `open_at` is a byte, the beginning
+-- of one more, which starts there.
+pub data ArePieces : List Token → List Piece → Option ℕ → Type 0 where
+  none : ArePieces [] [] None
+  more : (ts : List Token) (ps : List Piece) (open_at : Option ℕ) (t : Token) → ArePieces ts ps open_at
+      → ArePieces (ts ++ t ∷ []) (pieces_after ps open_at t) (open_after open_at t)
+
+-- `ArePiecesOf ts ps` holds if `ps` are the pieces of the tokens `ts`.
+abbrev pub ArePiecesOf : List Token → List Piece → Type 0
+ArePiecesOf ts ps = (open_at : Option ℕ) × ArePieces ts ps open_at
+
+-- `piece_at ps i` is the piece at the index `i`; the empty one at 0 if there is none.
+abbrev pub piece_at : List Piece → ℕ → Piece
+piece_at ps i = unwrap_or (slice_get ps i) (piece 0 0)

@@ -1,0 +1,91 @@
+-- Defines the text that explains which policies of a file do not pass validation.
+-- Rules of this product: each policy that `check` reports as rejected is explained, in the order of the file, once,
+-- with the code that `check` reports; no other is. One of at most 10,000 bytes is explained with its cause and the
+-- types in its first faulty environment, at the name or the expression at fault; a longer one at its position.
+-- Without a schema no policy is rejected so.
+use Rattle.std.specs.Prelude.{◌≡◌, ℕ, ◌+◌, ◌-◌, min, nat_le, Bool, true, false, List, [], ◌∷◌, ◌++◌, length}
+use Rattle.std.specs.Prelude.{Option, Some, None}
+use Rattle.std.specs.Prelude.{string_bytes}
+use Rattle.policy_grammar.specs.declared.policy.Policy.{Policy}
+use Rattle.schema_decisions.specs.schema.Schemas.{StatedSchema}
+use Rattle.schema_decisions.specs.validator.declared.fault.TypeFault.{TypeFault}
+use Rattle.schema_decisions.specs.validator.declared.fault.TypeFault.TheVariants as fault
+use Rattle.schema_decisions.specs.validator.Faults.{code_of}
+use Rattle.schema_decisions.specs.validator.Passing.{Passes, IsCheckRefused}
+use Rattle.explanation_texts.specs.declared.finding.SourceFinding.{SourceFinding}
+use Rattle.explanation_texts.specs.Explained.{IsSourceText}
+use Rattle.blame_texts.specs.declared.telling.PolicyFault.{PolicyFault}
+use Rattle.blame_texts.specs.Told.{IsPolicyFault}
+use Rattle.explanations.specs.declared.pieces.Piece.{Piece}
+use Rattle.explanations.specs.Pieces.{piece_at}
+use Rattle.token_spans.specs.declared.spans.Span.{Span}
+use Rattle.token_spans.specs.Spans.{IsSpanOf, IsNameSpanOf}
+use Rattle.explanations.specs.Parts.{IsPartOf, IsSourceAt}
+
+-- `is_searched place` tests whether the policy at `place` is searched for the expression at fault.
+abbrev pub is_searched : Piece → Bool
+is_searched place = nat_le (place.end - place.start) 10000
+
+-- `is_name f` tests for the errors of undeclared names (40, 41).
+abbrev pub is_name : TypeFault → Bool
+is_name fault.UnknownType = true
+is_name fault.UnknownAction = true
+is_name f = false
+
+-- `IsFoundAs is_name part path found` holds if `found` is the span of the name at `path` of the policy `part`, if
+-- `is_name`; otherwise that of the expression there.
+abbrev pub IsFoundAs : Bool → List ℕ → List ℕ → Option Span → Type 0
+IsFoundAs true part path found = IsNameSpanOf part path found
+IsFoundAs false part path found = IsSpanOf part path found
+
+-- `IsSpanFound text place f found` holds if `found` is the span of what the error `f` blames of the policy at `place`.
+abbrev pub IsSpanFound : List ℕ → Piece → PolicyFault → Option Span → Type 0
+IsSpanFound text place f found =
+    (part : List ℕ) × IsPartOf text place.start place.end part × IsFoundAs (is_name f.fault) part f.path.items found
+
+-- `start_at place found` and `end_at place found` are the bytes of the whole text at which it begins and ends; those of
+-- the policy if nothing was found. (The least of them and 2^64 - 1; no text is so long.)
+abbrev pub start_at : Piece → Option Span → ℕ
+start_at place None = place.start
+start_at place (Some s) = min (place.start + s.start) 18446744073709551615
+
+abbrev pub end_at : Piece → Option Span → ℕ
+end_at place None = place.end
+end_at place (Some s) = min (place.start + s.end) 18446744073709551615
+
+-- `IsFaultText file text place f bytes` holds if `bytes` explain the error `f` of the policy at `place`, at the name or
+-- the expression that it blames.
+pub record IsFaultText (file text : List ℕ) (place : Piece) (f : PolicyFault) (bytes : List ℕ) : Type 0 where
+  pub finding : SourceFinding
+  pub code : finding.code ≡ code_of f.fault
+  pub found : Option Span
+  pub is_found : IsSpanFound text place f found
+  pub start : finding.start ≡ start_at place found
+  pub end : finding.end ≡ end_at place found
+  pub cause : finding.cause.now ≡ string_bytes f.cause
+  pub detail : finding.detail.now ≡ string_bytes f.detail
+  pub is_text : IsSourceText file text finding bytes
+
+-- `IsCheckExplained s file text place policy bytes` holds if `bytes` explain why `policy`, at `place`, is rejected
+-- under `s`; they are empty if it passes.
+pub data IsCheckExplained (s : StatedSchema) (file text : List ℕ) (place : Piece) (policy : Policy) : List ℕ → Type 0
+  where
+    passes_so : Passes s policy → IsCheckExplained s file text place policy []
+    rejected_so : (f : PolicyFault) (bytes : List ℕ) → is_searched place ≡ true → IsPolicyFault s policy f
+        → IsFaultText file text place f bytes → IsCheckExplained s file text place policy bytes
+    too_large : (fault : TypeFault) (bytes : List ℕ) → is_searched place ≡ false → IsCheckRefused s policy fault
+        → IsSourceAt file text (code_of fault) place.start bytes → IsCheckExplained s file text place policy bytes
+
+-- `IsPolicyExplained s file text place policy bytes` is the same, if there is a schema; else `bytes` are empty.
+abbrev pub IsPolicyExplained : Option StatedSchema → List ℕ → List ℕ → Piece → Policy → List ℕ → Type 0
+IsPolicyExplained None file text place policy bytes = bytes ≡ []
+IsPolicyExplained (Some s) file text place policy bytes = IsCheckExplained s file text place policy bytes
+
+-- `ArePoliciesExplained s file text pieces policies bytes` holds if `bytes` explain each of `policies`, in order;
+-- each is at the piece of its index.
+pub data ArePoliciesExplained (s : Option StatedSchema) (file text : List ℕ) (pieces : List Piece)
+    : List Policy → List ℕ → Type 0 where
+  none : ArePoliciesExplained s file text pieces [] []
+  more : (ps : List Policy) (p : Policy) (before bytes : List ℕ) → ArePoliciesExplained s file text pieces ps before
+      → IsPolicyExplained s file text (piece_at pieces (length ps)) p bytes
+      → ArePoliciesExplained s file text pieces (ps ++ p ∷ []) (before ++ bytes)

@@ -1,0 +1,181 @@
+//! Explanations of texts.
+ghost use Rattle.std.specs.Prelude.{◌≡◌, OnOk, IfOk, option_map, string_bytes};
+ghost use Rattle.schema_decisions.specs.schema.Views.{schema_view};
+ghost use Rattle.explanations.specs.Files.{file_of, files_of};
+ghost use Rattle.explanations.specs.Parts.{AppendsSome};
+ghost use Rattle.explanations.specs.Explained.{IsTextOf, AreTokensOf, IsFileExplained, AreOthersExplained, IsExplained};
+ghost use Rattle.explanations.specs.Explained.{IsUnreadExplained, IsExplainedUnder};
+
+use crate::given::{Given, Source};
+use crate::others::{explain_entities, explain_request};
+use crate::parts::{no_want_of_memory, push_refusal};
+use crate::pieces::{Piece, pieces_of};
+use crate::policies::explain_policies;
+use crate::unread::{Lexed, explain_pieces, push_read_fault};
+use grammar_desugaring::{LexFault, Token, tokens};
+use plain::NoMemory;
+use schema_decisions::{Refusal, Schema, policies_in, schema_in};
+use std::alloc::Global;
+
+/// Returns bytes as text; the empty one if they are not UTF-8.
+fn text_of(bytes: &[u8]) -> &str
+    ensures { IsTextOf bytes.now result.now }
+{
+    match str::from_utf8(bytes) {
+        Ok(text) => text,
+        Err(_) => "",
+    }
+}
+
+/// Returns the tokens of a text; none if at some byte no token begins.
+fn tokens_of(alloc: Global, text: &str) -> Result<Vec<Token>, NoMemory>
+    ensures { IfOk result (λ tokens. AreTokensOf text.now tokens.items) }
+{
+    match tokens(alloc, text) {
+        Ok(tokens) => Ok(tokens),
+        Err(fault) => match fault {
+            LexFault::NoMemory => Err(NoMemory),
+            LexFault::BadToken(_) => Ok(Vec::new(alloc)),
+        },
+    }
+}
+
+/// Appends why a file of policies does not parse: the error of each of its pieces, or that of the file if each piece
+/// is a policy.
+fn explain_unread(
+    alloc: Global,
+    out: &mut String,
+    schema: Option<&Schema>,
+    lexed: Lexed<'_>,
+    pieces: &[Piece],
+    refusal: Refusal,
+) -> Result<(), NoMemory>
+    ensures { OnOk result (AppendsSome (IsUnreadExplained (option_map (λ s. schema_view s.now) schema.entry)
+        lexed.entry.file.now lexed.entry.text.now pieces.now refusal) (string_bytes out.old) (string_bytes out.new)) }
+{
+    let some = explain_pieces(alloc, out, schema, lexed, pieces)?;
+    if some {
+        return Ok(());
+    }
+    let at = refusal.place.unwrap_or(0);
+    push_read_fault(alloc, out, lexed, refusal.code, at)?;
+    Ok(())
+}
+
+/// Appends what is rejected of a file of policies.
+fn explain_file(
+    alloc: Global,
+    out: &mut String,
+    schema: Option<&Schema>,
+    source: Source<'_, '_>,
+) -> Result<(), NoMemory>
+    ensures { OnOk result (AppendsSome (IsFileExplained (option_map (λ s. schema_view s.now) schema.entry)
+        source.entry.name.now source.entry.text.now) (string_bytes out.old) (string_bytes out.new)) }
+{
+    let text = text_of(source.text);
+    let tokens = tokens_of(alloc, text)?;
+    let all = tokens.as_slice();
+    let pieces = pieces_of(alloc, all)?;
+    let spots = pieces.as_slice();
+    match policies_in(alloc, source.text) {
+        Ok(policies) => {
+            let named = policies.as_slice();
+            explain_policies(alloc, out, schema, source.name, text, spots, named)?;
+            Ok(())
+        }
+        Err(refusal) => {
+            let refusal = no_want_of_memory(refusal)?;
+            let lexed = Lexed {
+                file: source.name,
+                text,
+                tokens: all,
+            };
+            explain_unread(alloc, out, schema, lexed, spots, refusal)?;
+            Ok(())
+        }
+    }
+}
+
+/// Returns the text of a schema.
+fn text_of_source<'t>(source: Option<Source<'_, 't>>) -> Option<&'t [u8]>
+    ensures { option_map (λ s. s.now) result ≡ option_map (λ s. s.text) (option_map file_of source.entry) }
+{
+    match source {
+        Some(source) => Some(source.text),
+        None => None,
+    }
+}
+
+/// Appends what is rejected of the policies, the entities and the request.
+fn explain_others(
+    alloc: Global,
+    out: &mut String,
+    schema: Option<&Schema>,
+    given: &Given<'_, '_>,
+) -> Result<(), NoMemory>
+    ensures { OnOk result (AppendsSome (AreOthersExplained (option_map (λ s. schema_view s.now) schema.entry)
+        (files_of given.now)) (string_bytes out.old) (string_bytes out.new)) }
+{
+    explain_file(alloc, out, schema, given.policies)?;
+    explain_entities(alloc, out, schema, given.entities)?;
+    explain_request(alloc, out, text_of_source(given.schema), given.request)?;
+    Ok(())
+}
+
+/// Appends the same under the schema of a text, or why that is rejected.
+fn explain_under(
+    alloc: Global,
+    out: &mut String,
+    schema: Source<'_, '_>,
+    given: &Given<'_, '_>,
+) -> Result<(), NoMemory>
+    ensures { OnOk result (AppendsSome (IsExplainedUnder (file_of schema.entry) (files_of given.now))
+        (string_bytes out.old) (string_bytes out.new)) }
+{
+    match schema_in(alloc, schema.text) {
+        Ok(stated) => {
+            explain_others(alloc, out, Some(&stated), given)?;
+            Ok(())
+        }
+        Err(refusal) => {
+            let refusal = no_want_of_memory(refusal)?;
+            push_refusal(out, schema.name, refusal, "")?;
+            Ok(())
+        }
+    }
+}
+
+fn explain_given(alloc: Global, out: &mut String, given: &Given<'_, '_>) -> Result<(), NoMemory>
+    ensures { OnOk result (AppendsSome (IsExplained (files_of given.now))
+        (string_bytes out.old) (string_bytes out.new)) }
+{
+    match given.schema {
+        Some(schema) => {
+            explain_under(alloc, out, schema, given)?;
+            Ok(())
+        }
+        None => {
+            explain_others(alloc, out, None, given)?;
+            Ok(())
+        }
+    }
+}
+
+/// Returns the text that explains what is rejected of these texts: the schema alone, if it is rejected; else each
+/// rejected policy, in the order of the file, then the first error of the entities, then that of the request. It is
+/// empty if and only if nothing is rejected.
+///
+/// A policy that does not pass validation has the code that `check` reports. If the file does not parse, each part of
+/// it that ends with a `;` is parsed by itself, and has its own first error, or is checked as a policy of a file; if
+/// each of these parses, the error of the file is last. A text without tokens has no such parts.
+///
+/// # Errors
+///
+/// - `NoMemory`: an allocation failed.
+pub fn explain_texts(alloc: Global, given: &Given<'_, '_>) -> Result<String, NoMemory>
+    ensures { IfOk result (λ text. IsExplained (files_of given.now) (string_bytes text)) }
+{
+    let mut out = String::new(alloc);
+    explain_given(alloc, &mut out, given)?;
+    Ok(out)
+}

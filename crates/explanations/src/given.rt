@@ -1,0 +1,23 @@
+//! What is explained.
+
+/// A text, and the name of its file.
+#[derive(Clone, Copy)]
+pub struct Source<'n, 't> {
+    /// The name of the file, as it is shown.
+    pub name: &'n str,
+    /// The content of the file.
+    pub text: &'t [u8],
+}
+
+/// The texts that are checked.
+#[derive(Clone, Copy)]
+pub struct Given<'n, 't> {
+    /// A schema, if there is one.
+    pub schema: Option<Source<'n, 't>>,
+    /// Policies.
+    pub policies: Source<'n, 't>,
+    /// Entities, if there are any.
+    pub entities: Option<Source<'n, 't>>,
+    /// A request, if there is one.
+    pub request: Option<Source<'n, 't>>,
+}

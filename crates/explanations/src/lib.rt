@@ -1,0 +1,17 @@
+//! Explanations of what is rejected of a schema, of policies, of entities and of a request, for their authors: each
+//! rejected policy, the first rejected entity, and the request.
+#![tactic(auto)]
+
+mod explaining;
+mod given;
+mod laws;
+mod others;
+mod parts;
+mod pieces;
+mod policies;
+mod unread;
+
+pub use explaining::explain_texts;
+pub use explanation_texts::{CodeWords, code_text, words_of};
+pub use given::{Given, Source};
+pub use laws::explained_texts_are_readable;

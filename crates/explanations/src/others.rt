@@ -1,0 +1,127 @@
+//! Rejected entities and requests.
+ghost use Rattle.std.specs.Prelude.{◌≡◌, OnOk, IfErr, option_map, string_bytes};
+ghost use Rattle.plain.specs.Refused.{OrNoMemory};
+ghost use Rattle.schema_decisions.specs.schema.Views.{schema_view};
+ghost use Rattle.schema_decisions.specs.answer_lines.Refusals.{no_memory};
+ghost use Rattle.explanations.specs.Files.{file_of};
+ghost use Rattle.explanations.specs.Parts.{AppendsSome};
+ghost use Rattle.explanations.specs.Others.{any_request, AreBareTextsRead, AreBareTextsRefused};
+ghost use Rattle.explanations.specs.Others.{AreEntitiesRead, AreEntitiesRefused, IsRequestRead};
+ghost use Rattle.explanations.specs.Others.{IsRequestRefused, IsJudgedText, AreEntitiesExplained, IsRequestExplained};
+
+use crate::given::Source;
+use crate::parts::{no_want_of_memory, push_refusal};
+use plain::NoMemory;
+use schema_decisions::{Refusal, Schema, UnderSchema, decide_texts, decide_under, judge_entities};
+use std::alloc::Global;
+
+/// Returns a request that parses without a schema.
+fn any_request() -> &'static [u8]
+    ensures { result.now ≡ any_request }
+{
+    b"{\"principal\":{\"type\":\"A\",\"id\":\"\"},\"action\":{\"type\":\"A\",\"id\":\"\"},\
+      \"resource\":{\"type\":\"A\",\"id\":\"\"}}"
+}
+
+/// Checks that texts are an array of entities and a request, without a schema.
+fn judge_bare(alloc: Global, entities: &[u8], request: &[u8]) -> Result<(), Refusal>
+    ensures read { OnOk result (AreBareTextsRead entities.now request.now) }
+    ensures refused { IfErr result (OrNoMemory no_memory (AreBareTextsRefused entities.now request.now)) }
+{
+    match decide_texts(alloc, b"", entities, request) {
+        Ok(_line) => Ok(()),
+        Err(refusal) => Err(refusal),
+    }
+}
+
+/// Checks that a text is a request under the schema of another.
+fn judge_typed(alloc: Global, schema: &[u8], request: &[u8]) -> Result<(), Refusal>
+    ensures read { OnOk result (IsRequestRead (Some schema.now) request.now) }
+    ensures refused { IfErr result (OrNoMemory no_memory (IsRequestRefused (Some schema.now) request.now)) }
+{
+    match decide_under(alloc, schema, b"", b"[]", request) {
+        Ok(_line) => Ok(()),
+        Err(refusal) => Err(refusal),
+    }
+}
+
+/// Checks that a text is an array of entities.
+fn judge_array(alloc: Global, schema: Option<&Schema>, text: &[u8]) -> Result<(), Refusal>
+    ensures read { OnOk result
+        (AreEntitiesRead (option_map (λ s. schema_view s.now) schema.entry) text.now) }
+    ensures refused { IfErr result (OrNoMemory no_memory
+        (AreEntitiesRefused (option_map (λ s. schema_view s.now) schema.entry) text.now)) }
+{
+    match schema {
+        Some(schema) => judge_entities(alloc, &UnderSchema { schema }, text),
+        None => judge_bare(alloc, text, any_request()),
+    }
+}
+
+/// Checks that a text is a request.
+fn judge_request(alloc: Global, schema: Option<&[u8]>, text: &[u8]) -> Result<(), Refusal>
+    ensures read { OnOk result (IsRequestRead (option_map (λ s. s.now) schema.entry) text.now) }
+    ensures refused { IfErr result (OrNoMemory no_memory
+        (IsRequestRefused (option_map (λ s. s.now) schema.entry) text.now)) }
+{
+    match schema {
+        Some(schema) => judge_typed(alloc, schema, text),
+        None => judge_bare(alloc, b"[]", text),
+    }
+}
+
+/// Appends why a text is rejected, if it is.
+fn explain_judged(out: &mut String, name: &str, judged: Result<(), Refusal>) -> Result<(), NoMemory>
+    ensures { OnOk result (AppendsSome (IsJudgedText name.now judged) (string_bytes out.old) (string_bytes out.new)) }
+{
+    match judged {
+        Ok(()) => Ok(()),
+        Err(refusal) => {
+            let refusal = no_want_of_memory(refusal)?;
+            push_refusal(out, name, refusal, "")?;
+            Ok(())
+        }
+    }
+}
+
+/// Appends why entities are rejected, if there are any and they are.
+pub(crate) fn explain_entities(
+    alloc: Global,
+    out: &mut String,
+    schema: Option<&Schema>,
+    entities: Option<Source<'_, '_>>,
+) -> Result<(), NoMemory>
+    ensures { OnOk result (AppendsSome
+        (AreEntitiesExplained (option_map (λ s. schema_view s.now) schema.entry) (option_map file_of entities.entry))
+        (string_bytes out.old) (string_bytes out.new)) }
+{
+    match entities {
+        Some(source) => {
+            let judged = judge_array(alloc, schema, source.text);
+            explain_judged(out, source.name, judged)?;
+            Ok(())
+        }
+        None => Ok(()),
+    }
+}
+
+/// Appends why a request is rejected, if there is one and it is.
+pub(crate) fn explain_request(
+    alloc: Global,
+    out: &mut String,
+    schema: Option<&[u8]>,
+    request: Option<Source<'_, '_>>,
+) -> Result<(), NoMemory>
+    ensures { OnOk result (AppendsSome
+        (IsRequestExplained (option_map (λ s. s.now) schema.entry) (option_map file_of request.entry))
+        (string_bytes out.old) (string_bytes out.new)) }
+{
+    match request {
+        Some(source) => {
+            let judged = judge_request(alloc, schema, source.text);
+            explain_judged(out, source.name, judged)?;
+            Ok(())
+        }
+        None => Ok(()),
+    }
+}

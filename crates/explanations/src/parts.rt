@@ -1,0 +1,67 @@
+//! Parts of a text, and the texts of findings.
+ghost use Rattle.std.specs.Prelude.{◌≡◌, OnOk, IfOk, string_bytes};
+ghost use Rattle.schema_decisions.specs.answer_lines.Refusals.{no_memory};
+ghost use Rattle.explanations.specs.Parts.{IsPartOf, IsSourceAt, IsWholeAt, AppendsSome};
+
+use explanation_texts::{SourceFinding, WholeFinding, push_source, push_whole};
+use plain::NoMemory;
+use schema_decisions::Refusal;
+use std::alloc::Global;
+
+/// Returns the text between two bytes; nothing if one of them is within a character.
+pub(crate) fn part_of(text: &str, from: usize, to: usize) -> &str
+    ensures { IsPartOf text.now from to result.now }
+{
+    match text.split_at_checked(to) {
+        Some((before, _)) => match before.split_at_checked(from) {
+            Some((_, part)) => part,
+            None => "",
+        },
+        None => "",
+    }
+}
+
+/// Appends the text of a finding at a byte.
+pub(crate) fn push_at(
+    alloc: Global,
+    out: &mut String,
+    file: &str,
+    text: &str,
+    finding: &SourceFinding<'_>,
+) -> Result<(), NoMemory>
+    ensures { OnOk result (AppendsSome (IsSourceAt file.now text.now finding.now.code finding.now.start)
+        (string_bytes out.old) (string_bytes out.new)) }
+{
+    push_source(alloc, out, file, text, finding)?;
+    Ok(())
+}
+
+/// Appends the text of an error in the file `file`, at the index in its array, if it has one.
+pub(crate) fn push_refusal(
+    out: &mut String,
+    file: &str,
+    refusal: Refusal,
+    detail: &str,
+) -> Result<(), NoMemory>
+    ensures { OnOk result (AppendsSome (IsWholeAt file.now refusal.code refusal.place)
+        (string_bytes out.old) (string_bytes out.new)) }
+{
+    let finding = WholeFinding {
+        code: u16::from(refusal.code),
+        index: refusal.place,
+        detail,
+    };
+    push_whole(out, file, &finding)?;
+    Ok(())
+}
+
+/// Returns an error other than `NoMemory`, or `NoMemory`.
+pub(crate) fn no_want_of_memory(refusal: Refusal) -> Result<Refusal, NoMemory>
+    ensures same { IfOk result (λ r. r ≡ refusal) }
+    ensures other { IfOk result (λ r. refusal ≡ no_memory → ⊥) }
+{
+    if refusal.code == 1 {
+        return Err(NoMemory);
+    }
+    Ok(refusal)
+}

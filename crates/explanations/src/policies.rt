@@ -1,0 +1,253 @@
+//! Policies that do not pass validation.
+ghost use Rattle.std.specs.Prelude.{◌≡◌, true, false, OnOk, IfOk, MatchOption, map, string_bytes, option_map};
+ghost use Rattle.schema_decisions.specs.validator.Passing.{Passes, IsCheckRefused};
+ghost use Rattle.schema_decisions.specs.schema.Views.{schema_view};
+ghost use Rattle.explanations.specs.Parts.{AppendsSome};
+ghost use Rattle.explanations.specs.Policies.{is_searched, is_name, start_at, end_at, IsSpanFound, IsFaultText};
+ghost use Rattle.explanations.specs.Policies.{IsCheckExplained, IsPolicyExplained};
+ghost use Rattle.explanations.specs.Policies.{ArePoliciesExplained};
+
+use crate::parts::{part_of, push_at};
+use crate::pieces::{Piece, piece_at};
+use blame_texts::{PolicyFault, TypeFault, check, explain_fault};
+use explanation_texts::{SourceFinding, push_source};
+use plain::NoMemory;
+use schema_decisions::{Policy, Schema};
+use std::alloc::Global;
+use token_spans::{Span, name_span, span_of};
+
+// The most bytes of a policy that is searched for the expression at fault. The search checks the part that is at fault
+// again on each level, of which there are at most 1,000: so it checks at most 10,000,000 forms in an environment, ten
+// times those of the largest policy.
+const MOST_SEARCHED: usize = 10000;
+
+/// Returns whether a policy is searched for the expression at fault.
+fn is_searched(piece: Piece) -> bool
+    ensures { result ≡ is_searched piece }
+{
+    piece.end.saturating_sub(piece.start) <= MOST_SEARCHED
+}
+
+/// Returns whether an error is that of an undeclared name.
+fn is_name(fault: TypeFault) -> bool
+    ensures { result ≡ is_name fault }
+{
+    match fault {
+        TypeFault::UnknownType => true,
+        TypeFault::UnknownAction => true,
+        TypeFault::NoMemory => false,
+        TypeFault::Unexpected => false,
+        TypeFault::NoCommonType => false,
+        TypeFault::AttributeMayBeMissing => false,
+        TypeFault::EmptySet => false,
+        TypeFault::BadExtensionLiteral => false,
+    }
+}
+
+/// Returns the span of the name or of the expression that is at fault, in the text of the policy.
+fn found_span(
+    alloc: Global,
+    text: &str,
+    piece: Piece,
+    fault: &PolicyFault,
+) -> Result<Option<Span>, NoMemory>
+    ensures { IfOk result (IsSpanFound text.now piece fault.now) }
+{
+    let part = part_of(text, piece.start, piece.end);
+    let path = fault.path.as_slice();
+    if is_name(fault.fault) {
+        let named = name_span(alloc, part, path)?;
+        return Ok(named);
+    }
+    let found = span_of(alloc, part, path)?;
+    Ok(found)
+}
+
+/// A part of a text that is shown.
+#[derive(Clone, Copy)]
+struct Spot {
+    start: usize,
+    end: usize,
+    /// What the part is, if it is not that of the error itself; empty if it is.
+    note: &'static str,
+}
+
+/// Returns the part that is shown of a policy; the whole policy if nothing was found.
+fn spot_of(piece: Piece, found: Option<Span>) -> Spot
+    ensures start { result.start ≡ start_at piece found }
+    ensures end { result.end ≡ end_at piece found }
+{
+    match found {
+        Some(span) => Spot {
+            start: piece.start.saturating_add(span.start),
+            end: piece.start.saturating_add(span.end),
+            note: "",
+        },
+        None => Spot {
+            start: piece.start,
+            end: piece.end,
+            note: "the whole policy is shown, not the expression at fault",
+        },
+    }
+}
+
+/// Appends why a policy does not pass, as its error was found.
+fn push_fault(
+    alloc: Global,
+    out: &mut String,
+    file: &str,
+    text: &str,
+    piece: Piece,
+    fault: &PolicyFault,
+) -> Result<(), NoMemory>
+    ensures { OnOk result (AppendsSome (IsFaultText file.now text.now piece fault.now)
+        (string_bytes out.old) (string_bytes out.new)) }
+{
+    let found = found_span(alloc, text, piece, fault)?;
+    let spot = spot_of(piece, found);
+    let finding = SourceFinding {
+        code: u16::from(fault.fault.code()),
+        start: spot.start,
+        end: spot.end,
+        cause: fault.cause.as_str(),
+        detail: fault.detail.as_str(),
+        note: spot.note,
+    };
+    push_source(alloc, out, file, text, &finding)?;
+    Ok(())
+}
+
+/// Appends why a policy does not pass, if it does not, with its cause.
+fn explain_searched(
+    alloc: Global,
+    out: &mut String,
+    schema: &Schema,
+    file: &str,
+    text: &str,
+    piece: Piece,
+    policy: &Policy,
+) -> Result<(), NoMemory>
+    ensures { is_searched piece ≡ true → OnOk result (AppendsSome
+        (IsCheckExplained (schema_view schema.now) file.now text.now piece policy.now)
+        (string_bytes out.old) (string_bytes out.new)) }
+{
+    match explain_fault(alloc, schema, policy)? {
+        Some(fault) => {
+            push_fault(alloc, out, file, text, piece, &fault)?;
+            Ok(())
+        }
+        None => Ok(()),
+    }
+}
+
+/// Returns the error of a policy, or `None` if it passes validation.
+fn rejection_of(
+    alloc: Global,
+    schema: &Schema,
+    policy: &Policy,
+) -> Result<Option<TypeFault>, NoMemory>
+    ensures { let s = schema_view schema.now in IfOk result (λ o. MatchOption o
+        (Passes s policy.now) (IsCheckRefused s policy.now)) }
+{
+    match check(alloc, schema, policy) {
+        Ok(_verdict) => Ok(None),
+        Err(fault) => match fault {
+            TypeFault::NoMemory => Err(NoMemory),
+            _ => Ok(Some(fault)),
+        },
+    }
+}
+
+/// Appends why a policy that is not searched does not pass, if it does not.
+fn explain_large(
+    alloc: Global,
+    out: &mut String,
+    schema: &Schema,
+    file: &str,
+    text: &str,
+    piece: Piece,
+    policy: &Policy,
+) -> Result<(), NoMemory>
+    ensures { is_searched piece ≡ false → OnOk result (AppendsSome
+        (IsCheckExplained (schema_view schema.now) file.now text.now piece policy.now)
+        (string_bytes out.old) (string_bytes out.new)) }
+{
+    match rejection_of(alloc, schema, policy)? {
+        None => Ok(()),
+        Some(fault) => {
+            let finding = SourceFinding {
+                code: u16::from(fault.code()),
+                start: piece.start,
+                end: piece.end,
+                cause: "",
+                detail: "",
+                note: "the policy is too large to show the expression at fault",
+            };
+            push_at(alloc, out, file, text, &finding)?;
+            Ok(())
+        }
+    }
+}
+
+/// Appends why a policy does not pass, if it does not.
+fn explain_check(
+    alloc: Global,
+    out: &mut String,
+    schema: &Schema,
+    file: &str,
+    text: &str,
+    piece: Piece,
+    policy: &Policy,
+) -> Result<(), NoMemory>
+    ensures { OnOk result (AppendsSome
+        (IsCheckExplained (schema_view schema.now) file.now text.now piece policy.now)
+        (string_bytes out.old) (string_bytes out.new)) }
+{
+    if is_searched(piece) {
+        explain_searched(alloc, out, schema, file, text, piece, policy)
+    } else {
+        explain_large(alloc, out, schema, file, text, piece, policy)
+    }
+}
+
+/// Appends the same, under a schema if there is one.
+fn explain_policy(
+    alloc: Global,
+    out: &mut String,
+    schema: Option<&Schema>,
+    file: &str,
+    text: &str,
+    piece: Piece,
+    policy: &Policy,
+) -> Result<(), NoMemory>
+    ensures { OnOk result (AppendsSome (IsPolicyExplained (option_map (λ s. schema_view s.now) schema.entry)
+        file.now text.now piece policy.now) (string_bytes out.old) (string_bytes out.new)) }
+{
+    match schema {
+        Some(schema) => {
+            explain_check(alloc, out, schema, file, text, piece, policy)?;
+            Ok(())
+        }
+        None => Ok(()),
+    }
+}
+
+/// Appends the same for each policy of a file, in order.
+pub(crate) fn explain_policies(
+    alloc: Global,
+    out: &mut String,
+    schema: Option<&Schema>,
+    file: &str,
+    text: &str,
+    pieces: &[Piece],
+    policies: &[(String, Policy)],
+) -> Result<(), NoMemory>
+    ensures { OnOk result (AppendsSome (ArePoliciesExplained (option_map (λ s. schema_view s.now) schema.entry)
+        file.now text.now pieces.now (map (λ p. p.1) policies.now)) (string_bytes out.old) (string_bytes out.new)) }
+{
+    for (place, named) in policies.iter().enumerate() {
+        let piece = piece_at(pieces, place);
+        explain_policy(alloc, out, schema, file, text, piece, &named.1)?;
+    }
+    Ok(())
+}

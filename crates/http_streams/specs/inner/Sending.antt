@@ -1,0 +1,24 @@
+-- Defines what has gone out where a device failed before a reply was out.
+-- Source: docs/formats.md, the log.
+-- Rules of this product: the line goes out before the reply.
+use Rattle.std.specs.Prelude.{◌≡◌, ℕ, Option, List}
+use Rattle.std.specs.Io.KnownBytes.{Appends}
+use Rattle.http_streams.specs.Logs.{IsFront}
+use Rattle.http_streams.specs.declared.serve.Broken.{Broken}
+use Rattle.http_streams.specs.declared.serve.Broken.TheVariants.{Log, Write}
+use Rattle.http_streams.specs.declared.serve.StreamFault.{StreamFault}
+use Rattle.http_streams.specs.declared.serve.StreamFault.TheVariants as fault
+
+-- `fault_of broken` is how the stream ends then.
+abbrev pub fault_of : Broken → StreamFault
+fault_of Log = fault.Log
+fault_of Write = fault.Write
+
+-- `IsSentInPart broken .. line reply ..` holds if the log failed, got the line but for its end, and the writer nothing;
+-- or the writer failed, the log got the line, and the writer the reply but for its end.
+abbrev pub IsSentInPart : {L W : Type 0} → Broken → (L → Option (List ℕ)) → (W → Option (List ℕ)) → List ℕ → List ℕ
+    → L → L → W → W → Type 0
+IsSentInPart Log logged holds line reply old new before after =
+    IsFront line (logged old) (logged new) × (after ≡ before)
+IsSentInPart Write logged holds line reply old new before after =
+    Appends (logged old) (logged new) line × IsFront reply (holds before) (holds after)

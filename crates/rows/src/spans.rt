@@ -1,0 +1,54 @@
+//! Spans in policies: what is written for a core node, or for its name, at a path.
+use crate::written::shown;
+use plain::NoMemory;
+use std::alloc::Global;
+use token_spans::{Span, name_span, span_of};
+
+/// Returns the path that digits stand for.
+fn path_of(alloc: Global, digits: &str) -> Result<Vec<usize>, NoMemory> {
+    let mut path = Vec::new(alloc);
+    for digit in digits.as_bytes() {
+        if digit.is_ascii_digit() {
+            path.push((*digit & 15) as usize)?;
+        }
+    }
+    Ok(path)
+}
+
+fn span_by(
+    alloc: Global,
+    word: &str,
+    text: &str,
+    path: &[usize],
+) -> Result<Option<Span>, NoMemory> {
+    if word == "named" {
+        return name_span(alloc, text, path);
+    }
+    span_of(alloc, text, path)
+}
+
+fn told(alloc: Global, text: &str, span: Option<Span>) -> Result<String, NoMemory> {
+    match span {
+        Some(at) => match text.as_bytes().get(at.start..at.end) {
+            Some(bytes) => shown(alloc, bytes),
+            None => String::from_str(alloc, "outside"),
+        },
+        None => String::from_str(alloc, "none"),
+    }
+}
+
+/// Returns what a policy has at a path; the path's digits stand before the policy, `-` for none.
+fn spanned(alloc: Global, word: &str, row: &str) -> Result<String, NoMemory> {
+    let (digits, text) = row.split_once(' ').unwrap_or((row, ""));
+    let path = path_of(alloc, digits)?;
+    let span = span_by(alloc, word, text, path.as_slice())?;
+    told(alloc, text, span)
+}
+
+/// Returns what a row comes to.
+pub(crate) fn came_to(alloc: Global, word: &str, bytes: &[u8]) -> Result<String, NoMemory> {
+    match std::str::from_utf8(bytes) {
+        Ok(text) => spanned(alloc, word, text),
+        Err(_) => String::from_str(alloc, "no UTF-8"),
+    }
+}

@@ -1,0 +1,2 @@
+pub mod NameWritten
+pub mod Written

@@ -1,0 +1,68 @@
+-- Defines spans of tokens, and which span a core node, a name or a token of a text has.
+-- Source: this product's docs, "Codes".
+-- Rules of this product: a span is a first byte and the byte behind the last one.
+use Rattle.std.specs.Prelude.{◌≡◌, ◌⊎◌, ℕ, ◌-◌, ◌==◌, List, length, slice_get}
+use Rattle.std.specs.Prelude.{Option, Some, None, find, option_and_then}
+use Rattle.grammar_policies.specs.grammar_tokens.declared.token.Token.{Token}
+use Rattle.grammar_policies.specs.grammar_tokens.Lexing.{IsLexed, IsBadAt}
+use Rattle.grammar_policies.specs.grammar_tokens.Lang.{at_any}
+use Rattle.grammar_policies.specs.declared.tree.PolicyTree.{PolicyTree}
+use Rattle.grammar_policies.specs.Grammar as grammar
+use Rattle.grammar_policies.specs.grammar_expressions.Expressions.{nesting_limit}
+use Rattle.policy_grammar.specs.declared.fault.ReadFault.{ReadFault}
+use Rattle.policy_grammar.specs.Texts.{Derives, IsUnread, most_policy_bytes}
+use Rattle.token_spans.specs.declared.spans.Span.{Span}
+use Rattle.written_forms.specs.Places.{written_at}
+use Rattle.written_forms.specs.Names.{named_at}
+
+-- `between first last` is the span from the one token's start to the other one's end.
+abbrev pub between : Option Token → Option Token → Option Span
+between (Some first) (Some last) = Some (record { start = first.start; end = last.end })
+between (Some first) None = None
+between None last = None
+
+-- `covering ts` is the span from the first token's start to the last one's end.
+abbrev pub covering : List Token → Option Span
+covering ts = between (slice_get ts 0) (slice_get ts (length ts - 1))
+
+-- `starting_at at ts` is the span of the first token that starts at a byte.
+abbrev pub starting_at : ℕ → List Token → Option Span
+starting_at at ts = let token = find (λ t. t.start == at) ts in between token token
+
+-- `IsTokenAt text at found` holds if `found` is the span of the text's token that starts at the byte `at`; None if no
+-- token does, or the text is not made of tokens.
+abbrev pub IsTokenAt : List ℕ → ℕ → Option Span → Type 0
+IsTokenAt text at found =
+    ((ts : List Token) × IsLexed text ts × (found ≡ starting_at at ts))
+    ⊎ ((bad : ℕ) × IsBadAt text bad × (found ≡ None))
+
+-- `Written` are ways to choose some of the tokens of a policy, by its tree.
+abbrev pub Written : Type 0
+Written = List Token → PolicyTree → Option (List Token)
+
+-- `IsSpanInPolicy way text found` holds if `text` is a policy, and `found` is the span of the tokens that are chosen,
+-- None if none are.
+pub record IsSpanInPolicy (way : Written) (text : List ℕ) (found : Option Span) : Type 0 where
+  pub tree : PolicyTree
+  pub derives : Derives (grammar.policy nesting_limit) most_policy_bytes text tree
+  pub tokens : List Token
+  pub lexed : IsLexed text tokens
+  pub covers : found ≡ option_and_then covering (way tokens tree)
+
+-- `IsNoPolicy text` holds if `text` is not a policy.
+abbrev pub IsNoPolicy : List ℕ → Type 0
+IsNoPolicy text =
+    (why : ReadFault) × IsUnread (grammar.policy nesting_limit) (at_any grammar.policy) most_policy_bytes text why
+
+-- `IsSpanBy way text found` holds if it is so, or if `text` is not a policy and nothing is found.
+abbrev pub IsSpanBy : Written → List ℕ → Option Span → Type 0
+IsSpanBy way text found = IsSpanInPolicy way text found ⊎ (IsNoPolicy text × (found ≡ None))
+
+-- `IsSpanOf text path found` holds if `found` is the span of the least written form round the core node at `path` of
+-- the policy's whole expression.
+abbrev pub IsSpanOf : List ℕ → List ℕ → Option Span → Type 0
+IsSpanOf text path = IsSpanBy (λ ts tree. written_at ts tree path) text
+
+-- `IsNameSpanOf text path found` holds if `found` is the span of the name that this node has itself.
+abbrev pub IsNameSpanOf : List ℕ → List ℕ → Option Span → Type 0
+IsNameSpanOf text path = IsSpanBy (λ ts tree. named_at ts tree path) text

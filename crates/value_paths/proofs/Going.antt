@@ -1,0 +1,80 @@
+-- The search in the rest of a list, behind what was searched before.
+use Rattle.std.proofs.Common.{◌≡◌, ◌∙◌, ℕ, ◌+◌, ◌<◌, ◌≤◌, drop, get_or, length, Option, Some, None, Result, Ok, Err, IfOk, String, Global, string_bytes, List, [], ◌∷◌, refl, sym, ap}
+use Rattle.std.proofs.lemmas.List.{drop_more, drop_all}
+use Rattle.serde_json.specs.View.{view, items_view, members_view}
+use Rattle.serde_json.specs.declared.value.Value.{Value}
+use Rattle.schema_types.specs.Cedar.{Cedar, CedarFields}
+use Rattle.entity_values.specs.Parts.{declared_at}
+use Rattle.entity_values.specs.Typing.{with_or}
+use Rattle.value_paths.specs.declared.steps.Step.{Step}
+use Rattle.value_paths.specs.declared.steps.Step.TheVariants.{Key, Index}
+use Rattle.value_paths.specs.inner.FoundPaths.{or_else, under, value_path, item_path, member_path}
+
+pub cut : (vs : List Value) (i : ℕ) (v : Value) → i < length vs → v ≡ get_or vs i v → drop i vs ≡ v ∷ drop (i + 1) vs
+cut vs i v lt at = drop_more vs i v lt ∙ ap (λ (w : Value). w ∷ drop (i + 1) vs) (sym at)
+
+-- ---- items
+
+item_first : (t : Cedar) (i : ℕ) (v : Value) (vs : List Value) (o : Option (List Step)) → o ≡ value_path t (view v)
+    → item_path t i (items_view (v ∷ vs)) ≡ or_else (under (Index i) o) (item_path t (i + 1) (items_view vs))
+unfolding value_path
+item_first t i v vs o e = ap (λ (p : Option (List Step)). or_else (under (Index i) p) (item_path t (i + 1) (items_view vs))) (sym e)
+
+pub item_goes : (t : Cedar) (vs : List Value) (i : ℕ) (v : Value) (total : Option (List Step)) → i < length vs → v ≡ get_or vs i v → None ≡ value_path t (view v)
+    → total ≡ item_path t i (items_view (drop i vs)) → total ≡ item_path t (i + 1) (items_view (drop (i + 1) vs))
+item_goes t vs i v total lt at none so_far =
+    so_far ∙ ap (λ (l : List Value). item_path t i (items_view l)) (cut vs i v lt at) ∙ item_first t i v (drop (i + 1) vs) None none
+
+pub item_stops : (t : Cedar) (vs : List Value) (i : ℕ) (v : Value) (p : List Step) (total : Option (List Step)) → i < length vs → v ≡ get_or vs i v → Some p ≡ value_path t (view v)
+    → total ≡ item_path t i (items_view (drop i vs)) → Some (Index i ∷ p) ≡ total
+item_stops t vs i v p total lt at here so_far =
+    sym (so_far ∙ ap (λ (l : List Value). item_path t i (items_view l)) (cut vs i v lt at) ∙ item_first t i v (drop (i + 1) vs) (Some p) here)
+
+pub items_done : (t : Cedar) (vs : List Value) (n : ℕ) (total : Option (List Step)) → length vs ≤ n → total ≡ item_path t n (items_view (drop n vs)) → None ≡ total
+unfolding value_path
+items_done t vs n total le so_far = sym (so_far ∙ ap (λ (l : List Value). item_path t n (items_view l)) (drop_all n vs le))
+
+-- ---- members
+
+member_first : (fs : CedarFields) (k : String Global) (v : Value) (es : List (String Global × Value)) (o : Option Cedar) → o ≡ declared_at (string_bytes k) fs
+    → member_path fs (members_view ((k, v) ∷ es)) ≡ or_else (under (Key (string_bytes k)) (with_or o (λ t. value_path t (view v)) (Some []))) (member_path fs (members_view es))
+unfolding value_path
+member_first fs k v es o e =
+    ap (λ (p : Option Cedar). or_else (under (Key (string_bytes k)) (with_or p (λ t. value_path t (view v)) (Some []))) (member_path fs (members_view es))) (sym e)
+
+member_known : (fs : CedarFields) (k : String Global) (v : Value) (es : List (String Global × Value)) (t : Cedar) (o : Option (List Step)) → Some t ≡ declared_at (string_bytes k) fs → o ≡ value_path t (view v)
+    → member_path fs (members_view ((k, v) ∷ es)) ≡ or_else (under (Key (string_bytes k)) o) (member_path fs (members_view es))
+member_known fs k v es t o here e =
+    member_first fs k v es (Some t) here ∙ ap (λ (p : Option (List Step)). or_else (under (Key (string_bytes k)) p) (member_path fs (members_view es))) (sym e)
+
+pub member_unknown : (fs : CedarFields) (k : String Global) (v : Value) (es : List (String Global × Value)) (total : Option (List Step)) → None ≡ declared_at (string_bytes k) fs
+    → total ≡ member_path fs (members_view ((k, v) ∷ es)) → Some (Key (string_bytes k) ∷ []) ≡ total
+member_unknown fs k v es total none so_far = sym (so_far ∙ member_first fs k v es None none)
+
+pub member_goes : (fs : CedarFields) (k : String Global) (v : Value) (es : List (String Global × Value)) (t : Cedar) (total : Option (List Step)) → Some t ≡ declared_at (string_bytes k) fs
+    → None ≡ value_path t (view v) → total ≡ member_path fs (members_view ((k, v) ∷ es)) → total ≡ member_path fs (members_view es)
+member_goes fs k v es t total here none so_far = so_far ∙ member_known fs k v es t None here none
+
+pub member_stops : (fs : CedarFields) (k : String Global) (v : Value) (es : List (String Global × Value)) (t : Cedar) (p : List Step) (total : Option (List Step)) → Some t ≡ declared_at (string_bytes k) fs
+    → Some p ≡ value_path t (view v) → total ≡ member_path fs (members_view ((k, v) ∷ es)) → Some (Key (string_bytes k) ∷ p) ≡ total
+member_stops fs k v es t p total here found so_far = sym (so_far ∙ member_known fs k v es t (Some p) here found)
+
+pub members_done : (fs : CedarFields) (total : Option (List Step)) → total ≡ member_path fs (members_view []) → None ≡ total
+unfolding value_path
+members_done fs total so_far = sym so_far
+
+-- ---- any search through items, by its index
+
+pub search_goes : (F : ℕ → List Value → Option (List Step)) (vs : List Value) (i : ℕ) (v : Value) (total : Option (List Step)) → i < length vs → v ≡ get_or vs i v
+    → F i (v ∷ drop (i + 1) vs) ≡ F (i + 1) (drop (i + 1) vs) → total ≡ F i (drop i vs) → total ≡ F (i + 1) (drop (i + 1) vs)
+search_goes F vs i v total lt at next so_far = so_far ∙ ap (F i) (cut vs i v lt at) ∙ next
+
+pub search_stops : (F : ℕ → List Value → Option (List Step)) (vs : List Value) (i : ℕ) (v : Value) (o total : Option (List Step)) → i < length vs → v ≡ get_or vs i v
+    → F i (v ∷ drop (i + 1) vs) ≡ o → total ≡ F i (drop i vs) → o ≡ total
+search_stops F vs i v o total lt at found so_far = sym (so_far ∙ ap (F i) (cut vs i v lt at) ∙ found)
+
+-- ---- what follows of a value
+
+pub if_ok : {A E : Type 0} (r : Result A E) (P Q : A → Type 0) → ((x : A) → P x → Q x) → IfOk r P → IfOk r Q
+if_ok (Ok x) P Q f h = f x h
+if_ok (Err e) P Q f h = h

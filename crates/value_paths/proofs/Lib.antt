@@ -1,0 +1,9 @@
+mod Agreeing
+mod EntityForms
+mod Going
+mod Loops
+mod Parts
+mod RequestLaws
+mod Requests
+mod Singles
+mod Telling

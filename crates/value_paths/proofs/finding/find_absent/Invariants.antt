@@ -1,0 +1,8 @@
+use Rattle.std.proofs.Common.{◌≡◌, drop}
+use Rattle.serde_json.specs.View.{view}
+use Rattle.schema_types.specs.CedarViews.{cedar_fields_view}
+use Rattle.value_paths.specs.inner.FoundPaths.{absent_path}
+use Rattle.value_paths.proofs.finding.find_absent.Given as goal
+
+abbrev pub invariant-loop-field : goal.invariant-loop-field
+invariant-loop-field l = absent_path (cedar_fields_view l.fields) (view l.value) ≡ absent_path (cedar_fields_view (drop l.field-index l.fields)) (view l.value)

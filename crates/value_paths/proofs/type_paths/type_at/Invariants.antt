@@ -1,0 +1,7 @@
+use Rattle.std.proofs.Common.{◌≡◌, drop}
+use Rattle.schema_types.specs.CedarViews.{cedar_view}
+use Rattle.value_paths.specs.TypePaths.{type_at}
+use Rattle.value_paths.proofs.type_paths.type_at.Given as goal
+
+abbrev pub invariant-loop-step : goal.invariant-loop-step
+invariant-loop-step l = type_at (cedar_view l.whole) l.path ≡ type_at (cedar_view l.ty) (drop l.step-index l.path)

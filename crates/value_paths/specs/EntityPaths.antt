@@ -1,0 +1,109 @@
+-- Defines the path to the part of an entity's JSON that is at fault under a schema.
+-- Source: Cedar reference guide 4.0, "Entities and context: JSON format".
+-- Rules of this product: a uid is one part. An error of the form leads to the first part that has not the form; 31
+-- and 32 to `uid`, 38 to `tags`; 33, 34 and 35 into `attrs`; 36 and 37 to the first parent that the entity may not
+-- have.
+use Rattle.std.specs.Prelude.{◌≡◌, ℕ, ◌+◌, List, [], ◌∷◌, Bool, true}
+use Rattle.std.specs.Prelude.{false, is_some, Option, Some, None, Ok, Err, codes}
+use Rattle.std.specs.Prelude.{if◌then◌else◌}
+use Rattle.serde_json.specs.Data.{Data, Items, no_items, item}
+use Rattle.serde_json.specs.Find.{get, as_array, as_object}
+use Rattle.values.specs.declared.entity_uid.EntityUid.{EntityUid}
+use Rattle.schema_types.specs.Cedar.{Cedar}
+use Rattle.entity_values.specs.entity_uids.Uids.{uid_in}
+use Rattle.entity_values.specs.Typing.{with_or}
+use Rattle.entities.specs.schema.Schemas.{StatedSchema}
+use Rattle.entities.specs.declared.fault.EntityFault.{EntityFault}
+use Rattle.entities.specs.declared.fault.EntityFault.TheVariants.{BadShape, UnknownType, ActionEntity, TagsLeftOut}
+use Rattle.entities.specs.declared.fault.EntityFault.TheVariants.{BadParent, SelfParent}
+use Rattle.entities.specs.declared.stated.StatedEntity.{StatedEntity}
+use Rattle.entities.specs.Stated.{is_absent_or_object, or_empty, stated_in}
+use Rattle.entities.specs.Entities.{parent_fits}
+use Rattle.value_paths.specs.declared.steps.Step.{Step}
+use Rattle.value_paths.specs.declared.steps.Step.TheVariants.{Key, Index}
+use Rattle.value_paths.specs.Paths.{RecordFaultAt}
+
+-- `to_key key` is the path to the member at `key`; `to_parent i` that to the parent at index `i`.
+abbrev pub to_key : List ℕ → List Step
+to_key key = Key key ∷ []
+
+abbrev pub to_parent : ℕ → List Step
+to_parent i = Key (codes "parents") ∷ Index i ∷ []
+
+-- ---- the form
+
+-- A `Demand` is a test, with the path to the part that it is of.
+abbrev pub Demand : Type 0
+Demand = Bool × List Step
+
+-- `first_unmet demands` is the path of the first demand that is not met, if there is one.
+abbrev pub first_unmet : List Demand → Option (List Step)
+first_unmet [] = None
+first_unmet (demand ∷ more) = if demand.0 then first_unmet more else Some demand.1
+
+-- `is_uid o` tests for a uid, which must be present; `is_absent_or_array o` for an array, or an absent value.
+abbrev pub is_uid : Option Data → Bool
+is_uid None = false
+is_uid (Some d) = is_some (uid_in d)
+
+abbrev pub is_absent_or_array : Option Data → Bool
+is_absent_or_array None = true
+is_absent_or_array (Some d) = is_some (as_array d)
+
+-- `items_at o` are the items of an array; an absent or another value has none.
+abbrev pub items_at : Option Data → Items
+items_at None = no_items
+items_at (Some d) = with_or (as_array d) (λ ds. ds) no_items
+
+-- `parent_demands i ds`: each of the parents `ds`, counted from `i`, is a uid.
+abbrev pub parent_demands : ℕ → Items → List Demand
+parent_demands i no_items = []
+parent_demands i (item d ds) = (is_some (uid_in d), to_parent i) ∷ parent_demands (i + 1) ds
+
+-- `parents_demands o`: the parents, if present, are an array of uids.
+abbrev pub parents_demands : Option Data → List Demand
+parents_demands o = (is_absent_or_array o, to_key (codes "parents")) ∷ parent_demands 0 (items_at o)
+
+-- `form_demands d` are the demands on the form of an entity, in order.
+abbrev pub form_demands : Data → List Demand
+form_demands d =
+    (is_some (as_object d), [])
+    ∷ (is_uid (get (codes "uid") d), to_key (codes "uid"))
+    ∷ (is_absent_or_object (get (codes "attrs") d), to_key (codes "attrs"))
+    ∷ (is_absent_or_object (get (codes "tags") d), to_key (codes "tags"))
+    ∷ parents_demands (get (codes "parents") d)
+
+-- ---- attributes and parents
+
+-- `IsInAttributes s d path` holds if `path` leads to the fault of the attributes, read by the shape of the entity's
+-- type.
+pub data IsInAttributes (s : StatedSchema) (d : Data) : List Step → Type 0 where
+  in_attributes : (e : StatedEntity) (shape : Cedar) (path : List Step) → stated_in d ≡ Ok e
+      → s.shape e.uid.type_name ≡ Some shape → RecordFaultAt shape (or_empty (get (codes "attrs") d)) path
+      → IsInAttributes s d (Key (codes "attrs") ∷ path)
+
+-- `FirstUnfit s uid i parents j` holds if the parent at index `j` is the first of `parents`, counted from `i`, that
+-- `uid` may not have.
+pub data FirstUnfit (s : StatedSchema) (uid : EntityUid) : ℕ → List EntityUid → ℕ → Type 0 where
+  this_parent : (i : ℕ) (parent : EntityUid) (more : List EntityUid) (f : EntityFault)
+      → parent_fits s uid parent ≡ Err f → FirstUnfit s uid i (parent ∷ more) i
+  later_parent : (i : ℕ) (parent : EntityUid) (more : List EntityUid) (j : ℕ) → parent_fits s uid parent ≡ Ok tt
+      → FirstUnfit s uid (i + 1) more j → FirstUnfit s uid i (parent ∷ more) j
+
+-- `IsAtParent s d path` holds if `path` leads to that parent of the entity.
+pub data IsAtParent (s : StatedSchema) (d : Data) : List Step → Type 0 where
+  at_parent : (e : StatedEntity) (i : ℕ) → stated_in d ≡ Ok e → FirstUnfit s e.uid 0 e.parents i
+      → IsAtParent s d (to_parent i)
+
+-- ---- the path
+
+-- `IsPathOf s d f path` holds if `path` leads to the part of `d` that the error `f` is about.
+abbrev pub IsPathOf : StatedSchema → Data → EntityFault → List Step → Type 0
+IsPathOf s d BadShape path = first_unmet (form_demands d) ≡ Some path
+IsPathOf s d UnknownType path = path ≡ to_key (codes "uid")
+IsPathOf s d ActionEntity path = path ≡ to_key (codes "uid")
+IsPathOf s d TagsLeftOut path = path ≡ to_key (codes "tags")
+IsPathOf s d BadParent path = IsAtParent s d path
+IsPathOf s d SelfParent path = IsAtParent s d path
+-- any other error is one of the attributes
+IsPathOf s d _ path = IsInAttributes s d path

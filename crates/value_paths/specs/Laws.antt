@@ -1,0 +1,44 @@
+-- Defines the theorems: what is rejected has exactly one path, and what is read has none.
+use Rattle.std.specs.Prelude.{◌≡◌, List, Result, Ok, Err}
+use Rattle.serde_json.specs.Data.{Data}
+use Rattle.schema_types.specs.Cedar.{Cedar}
+use Rattle.entities.specs.schema.Schemas.{StatedSchema}
+use Rattle.entities.specs.Entities.{entity_stated_in}
+use Rattle.entities.specs.Requests.{RequestRefused}
+use Rattle.entities.specs.declared.fault.EntityFault.{EntityFault}
+use Rattle.entity_values.specs.Typing.{typed_value, record_in}
+use Rattle.value_paths.specs.declared.steps.Step.{Step}
+use Rattle.value_paths.specs.Paths.{FaultAt, RecordFaultAt}
+use Rattle.value_paths.specs.EntityPaths.{IsPathOf}
+use Rattle.value_paths.specs.RequestPaths.{IsRequestPathOf}
+
+-- `HasPath r LeadsTo` holds if `LeadsTo` holds of exactly one path where `r` is an error, and of none where `r` is a
+-- value.
+abbrev pub HasPath : {A F : Type 0} → Result A F → (List Step → Type 0) → Type 0
+HasPath (Ok x) LeadsTo = (path : List Step) → LeadsTo path → ⊥
+HasPath (Err f) LeadsTo =
+    (path : List Step) × LeadsTo path × ((other : List Step) → LeadsTo other → other ≡ path)
+
+-- `ValuesHavePaths`: a value that is rejected by a type has exactly one path to its fault, one that is read has none.
+abbrev pub ValuesHavePaths : Type 0
+ValuesHavePaths = (t : Cedar) (d : Data) → HasPath (typed_value t d) (FaultAt t d)
+
+-- `RecordsHavePaths`: the same of attributes and contexts.
+abbrev pub RecordsHavePaths : Type 0
+RecordsHavePaths = (t : Cedar) (d : Data) → HasPath (record_in t d) (RecordFaultAt t d)
+
+-- `HasPathOf r LeadsTo` holds if `LeadsTo` holds, with the error that `r` is, of exactly one path.
+abbrev pub HasPathOf : {A F : Type 0} → Result A F → (F → List Step → Type 0) → Type 0
+HasPathOf (Ok x) LeadsTo = Unit {0}
+HasPathOf (Err f) LeadsTo =
+    (path : List Step) × LeadsTo f path × ((other : List Step) → LeadsTo f other → other ≡ path)
+
+-- `EntitiesHavePaths`: an entity that is rejected has, with its error, exactly one path.
+abbrev pub EntitiesHavePaths : Type 0
+EntitiesHavePaths = (s : StatedSchema) (d : Data) → HasPathOf (entity_stated_in s d) (IsPathOf s d)
+
+-- `RequestsHavePaths`: a request that is rejected has, with its error, exactly one path.
+abbrev pub RequestsHavePaths : Type 0
+RequestsHavePaths = (s : StatedSchema) (d : Data) (f : EntityFault) → RequestRefused s d f
+    → (path : List Step) × IsRequestPathOf s d f path
+    × ((other : List Step) → IsRequestPathOf s d f other → other ≡ path)

@@ -1,0 +1,8 @@
+pub mod Outcomes
+pub mod Paths
+pub mod EntityPaths
+pub mod RequestPaths
+pub mod Pointers
+pub mod TypePaths
+pub mod Laws
+pub mod inner

@@ -1,0 +1,24 @@
+-- Defines what the second pass returns.
+-- Rules of this product: the error that reading gives, with the path to the part at fault; nothing where reading gives
+-- a value.
+use Rattle.std.specs.Prelude.{◌≡◌, Option, MatchOption, Ok, Err}
+use Rattle.serde_json.specs.Data.{Data}
+use Rattle.values.specs.declared.request.Request.{Request}
+use Rattle.entities.specs.entity_data.declared.entity.Entity.{Entity}
+use Rattle.entities.specs.schema.Schemas.{StatedSchema}
+use Rattle.entities.specs.Entities.{entity_stated_in}
+use Rattle.entities.specs.Requests.{StatesRequest, RequestRefused}
+use Rattle.value_paths.specs.declared.placed.PlacedFault.{PlacedFault}
+use Rattle.value_paths.specs.EntityPaths.{IsPathOf}
+use Rattle.value_paths.specs.RequestPaths.{IsRequestPathOf}
+
+-- `IsEntityFault s d o` holds if `o` is the error of `d` as an entity under the schema `s`, with the path to the part
+-- at fault, or `None`, and `d` states an entity.
+abbrev pub IsEntityFault : StatedSchema → Data → Option PlacedFault → Type 0
+IsEntityFault s d o = MatchOption o ((e : Entity) × (entity_stated_in s d ≡ Ok e))
+    (λ x. (entity_stated_in s d ≡ Err x.fault) × IsPathOf s d x.fault x.path)
+
+-- `IsRequestFault s d o` holds if `o` is the same of `d` as a request.
+abbrev pub IsRequestFault : StatedSchema → Data → Option PlacedFault → Type 0
+IsRequestFault s d o = MatchOption o ((q : Request) × StatesRequest s d q)
+    (λ x. RequestRefused s d x.fault × IsRequestPathOf s d x.fault x.path)

@@ -1,0 +1,53 @@
+-- Defines the path to the part of a request's JSON that is at fault under a schema.
+-- Source: Cedar reference guide 4.0, "Authorization request".
+-- Rules of this product: the name of an entity is one part. An error of the form leads to the first part that has not
+-- the form; 39 to `action`; 33, 34 and 35 into `context`.
+use Rattle.std.specs.Prelude.{◌≡◌, ℕ, List, [], ◌∷◌, true, false, is_some, Option, Some, codes}
+use Rattle.serde_json.specs.Data.{Data}
+use Rattle.serde_json.specs.Find.{get, as_object}
+use Rattle.values.specs.declared.entity_uid.EntityUid.{EntityUid}
+use Rattle.schema_types.specs.Cedar.{Cedar}
+use Rattle.entities.specs.schema.Schemas.{StatedSchema}
+use Rattle.entities.specs.declared.fault.EntityFault.{EntityFault}
+use Rattle.entities.specs.declared.fault.EntityFault.TheVariants.{BadShape, NotApplicable}
+use Rattle.entities.specs.declared.requests.Asked.{Asked}
+use Rattle.entities.specs.Stated.{is_absent_or_object, or_empty}
+use Rattle.entities.specs.Contexts.{context_where, is_place}
+use Rattle.entities.specs.Requests.{NamesAt, Asks}
+use Rattle.value_paths.specs.declared.steps.Step.{Step}
+use Rattle.value_paths.specs.declared.steps.Step.TheVariants.{Key}
+use Rattle.value_paths.specs.Paths.{RecordFaultAt}
+use Rattle.value_paths.specs.EntityPaths.{to_key}
+
+-- `IsNamedAt key d` holds if the value at `key` names an entity.
+abbrev pub IsNamedAt : List ℕ → Data → Type 0
+IsNamedAt key d = (uid : EntityUid) × NamesAt key d uid
+
+-- `FormFaultAt d path` holds if `path` leads to the first part of `d` that has not the form of a request's.
+pub data FormFaultAt (d : Data) : List Step → Type 0 where
+  no_object : is_some (as_object d) ≡ false → FormFaultAt d []
+  no_principal : is_some (as_object d) ≡ true → (IsNamedAt (codes "principal") d → ⊥)
+      → FormFaultAt d (to_key (codes "principal"))
+  no_action : IsNamedAt (codes "principal") d → (IsNamedAt (codes "action") d → ⊥)
+      → FormFaultAt d (to_key (codes "action"))
+  no_resource : IsNamedAt (codes "principal") d → IsNamedAt (codes "action") d
+      → (IsNamedAt (codes "resource") d → ⊥) → FormFaultAt d (to_key (codes "resource"))
+  no_context : IsNamedAt (codes "principal") d → IsNamedAt (codes "action") d → IsNamedAt (codes "resource") d
+      → is_absent_or_object (get (codes "context") d) ≡ false → FormFaultAt d (to_key (codes "context"))
+
+-- `context_type s asked` is the type of the context of a request for these three.
+abbrev pub context_type : StatedSchema → Asked → Option Cedar
+context_type s asked =
+    context_where (is_place asked.action asked.principal.type_name asked.resource.type_name) s.environments
+
+-- `IsInContext s d path` holds if `path` leads to the fault of the context, read by that type.
+pub data IsInContext (s : StatedSchema) (d : Data) : List Step → Type 0 where
+  in_context : (asked : Asked) (t : Cedar) (path : List Step) → Asks d asked → context_type s asked ≡ Some t
+      → RecordFaultAt t (or_empty (get (codes "context") d)) path → IsInContext s d (Key (codes "context") ∷ path)
+
+-- `IsRequestPathOf s d f path` holds if `path` leads to the part of `d` that the error `f` is about.
+abbrev pub IsRequestPathOf : StatedSchema → Data → EntityFault → List Step → Type 0
+IsRequestPathOf s d BadShape path = FormFaultAt d path
+IsRequestPathOf s d NotApplicable path = path ≡ to_key (codes "action")
+-- any other error is one of the context
+IsRequestPathOf s d _ path = IsInContext s d path

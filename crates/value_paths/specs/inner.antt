@@ -1,0 +1,4 @@
+pub mod FoundPaths
+pub mod FoundParts
+pub mod FoundNames
+pub mod Placing

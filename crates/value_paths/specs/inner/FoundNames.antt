@@ -1,0 +1,59 @@
+-- Defines what the search in a request finds.
+use Rattle.std.specs.Prelude.{◌≡◌, List, [], ◌∷◌, Bool, true, false, is_some, Option, Some, None, MatchOption, codes}
+use Rattle.serde_json.specs.Data.{Data}
+use Rattle.serde_json.specs.Find.{get, as_object}
+use Rattle.values.specs.declared.entity_uid.EntityUid.{EntityUid}
+use Rattle.entity_values.specs.entity_uids.Uids.{NamesEntity}
+use Rattle.entity_values.specs.Typing.{with_or}
+use Rattle.entities.specs.schema.Schemas.{StatedSchema}
+use Rattle.entities.specs.declared.fault.EntityFault.{EntityFault}
+use Rattle.entities.specs.declared.requests.Asked.{Asked}
+use Rattle.entities.specs.Stated.{is_absent_or_object, or_empty}
+use Rattle.entities.specs.Requests.{Asks, RequestRefused}
+use Rattle.value_paths.specs.declared.steps.Step.{Step}
+use Rattle.value_paths.specs.declared.steps.Step.TheVariants.{Key}
+use Rattle.value_paths.specs.EntityPaths.{Demand, to_key}
+use Rattle.value_paths.specs.RequestPaths.{FormFaultAt, context_type, IsRequestPathOf}
+use Rattle.value_paths.specs.inner.FoundPaths.{under, record_path}
+
+-- `Names o uid` holds if the value `o` is present and names `uid`.
+abbrev pub Names : Option Data → EntityUid → Type 0
+Names o uid = MatchOption o ⊥ (λ d. NamesEntity d uid)
+
+-- `IsNamed o yes` holds if `yes` tells whether `o` names an entity.
+abbrev pub IsNamed : Option Data → Bool → Type 0
+IsNamed o true = (uid : EntityUid) × Names o uid
+IsNamed o false = ((uid : EntityUid) × Names o uid) → ⊥
+
+-- `request_demands d principal action resource` are the demands on the form of a request, in order, where the three
+-- tests tell which names are given.
+abbrev pub request_demands : Data → Bool → Bool → Bool → List Demand
+request_demands d principal action resource =
+    (is_some (as_object d), [])
+    ∷ (principal, to_key (codes "principal"))
+    ∷ (action, to_key (codes "action"))
+    ∷ (resource, to_key (codes "resource"))
+    ∷ (is_absent_or_object (get (codes "context") d), to_key (codes "context")) ∷ []
+
+-- `IsFormSearched d o` holds if `o` is the path to the part without the form, or `None`, and `d` has the form.
+abbrev pub IsFormSearched : Data → Option (List Step) → Type 0
+IsFormSearched d o = MatchOption o ((asked : Asked) × Asks d asked) (FormFaultAt d)
+
+-- `context_path s asked d` is the path to the fault of the context.
+abbrev pub context_path : StatedSchema → Asked → Data → Option (List Step)
+context_path s asked d = under (Key (codes "context"))
+    (with_or (context_type s asked) (λ t. record_path t (or_empty (get (codes "context") d))) None)
+
+-- `named_path s principal action resource d` is that path, if the three are named.
+abbrev pub named_path : StatedSchema → Option EntityUid → Option EntityUid → Option EntityUid → Data
+    → Option (List Step)
+named_path s principal action resource d = with_or principal (λ p. with_or action (λ a. with_or resource
+    (λ r. context_path s (record { principal = p; action = a; resource = r }) d) None) None) None
+
+-- `IsContextSearched s d o` holds if `o` is that path, whatever three are asked for.
+abbrev pub IsContextSearched : StatedSchema → Data → Option (List Step) → Type 0
+IsContextSearched s d o = (asked : Asked) → Asks d asked → o ≡ context_path s asked d
+
+-- `IsPartSearched s d f o` holds if `o` is the path that the error `f` is about, if it is one of `d`.
+abbrev pub IsPartSearched : StatedSchema → Data → EntityFault → Option (List Step) → Type 0
+IsPartSearched s d f o = RequestRefused s d f → (path : List Step) × (o ≡ Some path) × IsRequestPathOf s d f path

@@ -1,0 +1,56 @@
+-- Defines the search for the part of an entity that is at fault, as a function on data.
+use Rattle.std.specs.Prelude.{ℕ, ◌+◌, List, Bool, not, ◌&&◌, Option, Some, None, option_and_then, codes, if◌then◌else◌}
+use Rattle.serde_json.specs.Data.{Data, Items, no_items, item}
+use Rattle.serde_json.specs.Find.{get}
+use Rattle.values.specs.declared.entity_uid.EntityUid.{EntityUid}
+use Rattle.schema_types.specs.Cedar.{Cedar}
+use Rattle.entity_values.specs.entity_uids.Uids.{uid_in}
+use Rattle.entity_values.specs.Typing.{with_or}
+use Rattle.entities.specs.entity_data.ancestor_search.Decided.{is_same}
+use Rattle.entities.specs.schema.Schemas.{StatedSchema}
+use Rattle.entities.specs.declared.fault.EntityFault.{EntityFault}
+use Rattle.entities.specs.declared.fault.EntityFault.TheVariants.{BadShape, UnknownType, ActionEntity, TagsLeftOut}
+use Rattle.entities.specs.declared.fault.EntityFault.TheVariants.{BadParent, SelfParent}
+use Rattle.entities.specs.Stated.{or_empty}
+use Rattle.value_paths.specs.declared.steps.Step.{Step}
+use Rattle.value_paths.specs.declared.steps.Step.TheVariants.{Key}
+use Rattle.value_paths.specs.EntityPaths.{to_key, to_parent, first_unmet, form_demands, items_at}
+use Rattle.value_paths.specs.inner.FoundPaths.{under, record_path}
+
+-- `uid_at o` is the uid that a value names.
+abbrev pub uid_at : Option Data → Option EntityUid
+uid_at o = option_and_then uid_in o
+
+-- `fits s uid parent` tests whether `uid` may have this parent.
+abbrev pub fits : StatedSchema → EntityUid → EntityUid → Bool
+fits s uid parent = not (is_same parent uid) && s.may_have_parent uid.type_name parent.type_name
+
+-- `unfit_path s uid i ds` is the path to the first of the parents `ds`, counted from `i`, that `uid` may not have.
+unfoldable pub unfit_path : StatedSchema → EntityUid → ℕ → Items → Option (List Step)
+unfit_path s uid i no_items = None
+unfit_path s uid i (item d ds) =
+    with_or (uid_in d) (λ parent. if fits s uid parent then unfit_path s uid (i + 1) ds else Some (to_parent i)) None
+
+-- `shape_at s o` is the shape of the type of the entity that a uid names.
+abbrev pub shape_at : StatedSchema → Option Data → Option Cedar
+shape_at s o = option_and_then (λ uid. s.shape uid.type_name) (uid_at o)
+
+-- `attributes_path s d` is the path to the fault of the attributes.
+unfoldable pub attributes_path : StatedSchema → Data → Option (List Step)
+attributes_path s d = under (Key (codes "attrs"))
+    (with_or (shape_at s (get (codes "uid") d)) (λ shape. record_path shape (or_empty (get (codes "attrs") d))) None)
+
+-- `parents_path s d` is that to the first parent that the entity may not have.
+unfoldable pub parents_path : StatedSchema → Data → Option (List Step)
+parents_path s d = with_or (uid_at (get (codes "uid") d))
+    (λ uid. unfit_path s uid 0 (items_at (get (codes "parents") d))) None
+
+-- `path_of s d f` is the path to the part that the error `f` is about.
+abbrev pub path_of : StatedSchema → Data → EntityFault → Option (List Step)
+path_of s d BadShape = first_unmet (form_demands d)
+path_of s d UnknownType = Some (to_key (codes "uid"))
+path_of s d ActionEntity = Some (to_key (codes "uid"))
+path_of s d TagsLeftOut = Some (to_key (codes "tags"))
+path_of s d BadParent = parents_path s d
+path_of s d SelfParent = parents_path s d
+path_of s d _ = attributes_path s d

@@ -1,0 +1,58 @@
+-- Defines the search for the part at fault, as a function on data.
+use Rattle.std.specs.Prelude.{ℕ, ◌+◌, List, [], ◌∷◌, not, ◌||◌}
+use Rattle.std.specs.Prelude.{is_some, Option, Some, None, Result, Ok, Err, if◌then◌else◌}
+use Rattle.serde_json.specs.Data.{Data, Items, no_items, item, Members, no_members, member}
+use Rattle.serde_json.specs.Data as json
+use Rattle.serde_json.specs.Find.{get, as_object}
+use Rattle.schema_types.specs.Cedar.{Cedar, CedarFields, no_fields, field}
+use Rattle.entity_values.specs.declared.fault.ValueFault.{ValueFault}
+use Rattle.entity_values.specs.Parts.{element_of, fields_in, declared_at}
+use Rattle.entity_values.specs.Typing.{typed_value, with_or}
+use Rattle.value_paths.specs.declared.steps.Step.{Step}
+use Rattle.value_paths.specs.declared.steps.Step.TheVariants.{Key, Index}
+
+-- `or_else o p` is `o`, or `p` if there is none.
+abbrev pub or_else : {A : Type 0} → Option A → Option A → Option A
+or_else (Some a) p = Some a
+or_else None p = p
+
+-- `under step o` is the path `o` with `step` in front.
+abbrev pub under : Step → Option (List Step) → Option (List Step)
+under step (Some path) = Some (step ∷ path)
+under step None = None
+
+-- `whole_path r` is the path of a value that is rejected as a whole, if reading it gives an error.
+abbrev pub whole_path : {A : Type 0} → Result A ValueFault → Option (List Step)
+whole_path (Ok v) = None
+whole_path (Err f) = Some []
+
+-- `absent_path fs d` is the path to the first required key that is absent.
+abbrev pub absent_path : CedarFields → Data → Option (List Step)
+absent_path no_fields d = None
+absent_path (field k t r fs) d = if not r || is_some (get k d) then absent_path fs d else Some (Key k ∷ [])
+
+unfoldable mutual
+  pub value_path : Cedar → Data → Option (List Step)
+  value_path t json.null = whole_path (typed_value t json.null)
+  value_path t (json.boolean b) = whole_path (typed_value t (json.boolean b))
+  value_path t (json.number n) = whole_path (typed_value t (json.number n))
+  value_path t (json.string s) = whole_path (typed_value t (json.string s))
+  value_path t (json.array ds) = with_or (element_of t) (λ e. item_path e 0 ds) (Some [])
+  value_path t (json.object ms) = with_or (fields_in t)
+      (λ fs. or_else (member_path fs ms) (absent_path fs (json.object ms)))
+      (whole_path (typed_value t (json.object ms)))
+
+  pub item_path : Cedar → ℕ → Items → Option (List Step)
+  item_path t i no_items = None
+  item_path t i (item d ds) = or_else (under (Index i) (value_path t d)) (item_path t (i + 1) ds)
+
+  pub member_path : CedarFields → Members → Option (List Step)
+  member_path fs no_members = None
+  member_path fs (member k d ms) =
+      or_else (under (Key k) (with_or (declared_at k fs) (λ t. value_path t d) (Some []))) (member_path fs ms)
+
+-- `record_path t d` is the same of attributes or a context.
+unfoldable pub record_path : Cedar → Data → Option (List Step)
+record_path t d = with_or (fields_in t)
+    (λ fs. with_or (as_object d) (λ ms. or_else (member_path fs ms) (absent_path fs d)) (Some []))
+    (Some [])

@@ -1,0 +1,18 @@
+-- Defines the error that reading gave, and with its path, as it is returned.
+use Rattle.std.specs.Prelude.{◌≡◌, ⊤, List, Option, Some, None, Result, Ok, Err}
+use Rattle.entities.specs.declared.fault.EntityFault.{EntityFault}
+use Rattle.entities.specs.declared.fault.EntityFault.TheVariants.{NoMemory}
+use Rattle.value_paths.specs.declared.placed.PlacedFault.{PlacedFault}
+use Rattle.value_paths.specs.declared.steps.Step.{Step}
+
+-- `IsPlaced f found o` holds if `o` is the error `f` with the path `found`, or `None` if there is no path.
+abbrev pub IsPlaced : EntityFault → Option (List Step) → Option PlacedFault → Type 0
+IsPlaced f None None = ⊤
+IsPlaced f None (Some x) = ⊥
+IsPlaced f (Some path) None = ⊥
+IsPlaced f (Some path) (Some x) = (x.fault ≡ f) × (x.path ≡ path)
+
+-- `IsFaultOf read o` holds if `o` is the error of `read`, which is not `NoMemory`, or `None`, and `read` is a value.
+abbrev pub IsFaultOf : {A : Type 0} → Result A EntityFault → Option EntityFault → Type 0
+IsFaultOf {A = A} read None = (x : A) × (read ≡ Ok x)
+IsFaultOf read (Some f) = (read ≡ Err f) × (f ≡ NoMemory → ⊥)

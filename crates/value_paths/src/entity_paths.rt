@@ -1,0 +1,131 @@
+//! The part of an entity's JSON that is at fault.
+ghost use Rattle.std.specs.Prelude.{◌≡◌, IfOk, Err, option_map};
+ghost use Rattle.serde_json.specs.View.{view};
+ghost use Rattle.schema_types.specs.CedarViews.{cedar_view};
+ghost use Rattle.entities.specs.schema.Views.{schema_view};
+ghost use Rattle.entities.specs.Entities.{entity_stated_in};
+ghost use Rattle.entities.specs.Stated.{or_empty};
+ghost use Rattle.value_paths.specs.Outcomes.{IsEntityFault};
+ghost use Rattle.value_paths.specs.inner.FoundPaths.{record_path, under};
+ghost use Rattle.value_paths.specs.inner.FoundParts.{attributes_path, path_of, shape_at};
+
+use crate::finding::find_in_record;
+use crate::forms::find_in_form;
+use crate::parents::{find_bad_parent, uid_at};
+use crate::placed::{PlacedFault, fault_of, placed};
+use crate::steps::{Trail, at_key, under_key};
+use entities::{EntityFault, Schema, read_entity};
+use plain::NoMemory;
+use schema_types::CedarType;
+use serde_json::{Map, Value};
+use std::alloc::Global;
+
+/// Returns the shape of the type of the entity that a value names.
+fn shape_at<'s>(
+    alloc: Global,
+    schema: &'s Schema,
+    found: Option<&Value>,
+) -> Result<Option<&'s CedarType>, NoMemory>
+    ensures { IfOk result (λ o. option_map (λ t. cedar_view t.now) o
+        ≡ shape_at (schema_view schema.now) (option_map (λ v. view v.now) found.entry)) }
+{
+    match uid_at(alloc, found)? {
+        Some(uid) => match schema.entity_type(&uid.type_name) {
+            Some(entity_type) => Ok(Some(&entity_type.shape)),
+            None => Ok(None),
+        },
+        None => Ok(None),
+    }
+}
+
+/// Returns the path to the fault of a record, which is empty if it is absent.
+pub(crate) fn find_in_fields(
+    alloc: Global,
+    found: Option<&Value>,
+    ty: &CedarType,
+) -> Result<Option<Trail>, NoMemory>
+    ensures { IfOk result
+        (λ o. o ≡ record_path (cedar_view ty.now) (or_empty (option_map (λ v. view v.now) found.entry))) }
+{
+    match found {
+        Some(value) => find_in_record(alloc, value, ty),
+        None => {
+            let empty = Value::Object(Map::new(alloc));
+            find_in_record(alloc, &empty, ty)
+        }
+    }
+}
+
+/// Returns the path to the fault of the attributes, if there is one.
+#[tactic(auto, unfolding(crate::specs::inner::FoundParts::attributes_path))]
+fn find_in_attributes(
+    alloc: Global,
+    schema: &Schema,
+    value: &Value,
+) -> Result<Option<Trail>, NoMemory>
+    ensures { IfOk result (λ o. o ≡ attributes_path (schema_view schema.now) (view value.now)) }
+{
+    let Some(shape) = shape_at(alloc, schema, value.get("uid"))? else {
+        return Ok(None);
+    };
+    match find_in_fields(alloc, value.get("attrs"), shape)? {
+        Some(trail) => under_key(alloc, "attrs", trail),
+        None => Ok(None),
+    }
+}
+
+/// Returns the path to the part that an error is about.
+fn find_part(
+    alloc: Global,
+    schema: &Schema,
+    value: &Value,
+    fault: EntityFault,
+) -> Result<Option<Trail>, NoMemory>
+    ensures { IfOk result (λ o. o ≡ path_of (schema_view schema.now) (view value.now) fault) }
+{
+    match fault {
+        EntityFault::BadShape => find_in_form(alloc, value),
+        EntityFault::UnknownType => at_key(alloc, "uid"),
+        EntityFault::ActionEntity => at_key(alloc, "uid"),
+        EntityFault::TagsLeftOut => at_key(alloc, "tags"),
+        EntityFault::BadParent => find_bad_parent(alloc, schema, value),
+        EntityFault::SelfParent => find_bad_parent(alloc, schema, value),
+        _ => find_in_attributes(alloc, schema, value),
+    }
+}
+
+/// Returns an error of a value as an entity, with its path.
+fn placed_fault(
+    alloc: Global,
+    schema: &Schema,
+    value: &Value,
+    fault: EntityFault,
+) -> Result<Option<PlacedFault>, NoMemory>
+    ensures { IfOk result (λ o. entity_stated_in (schema_view schema.now) (view value.now) ≡ Err fault
+        → IsEntityFault (schema_view schema.now) (view value.now) o) }
+{
+    let found = find_part(alloc, schema, value, fault)?;
+    Ok(placed(fault, found))
+}
+
+/// Returns the error of a value as an entity under a schema, and the path to the part at fault; `None` if the value
+/// states an entity. The only error is `NoMemory`.
+///
+/// The path of `BadShape` leads to the first part that has not the form of an entity's; that of `UnknownType` and
+/// `ActionEntity` to the uid; that of `BadParent` and `SelfParent` to the first parent that the entity may not have.
+/// Within attributes it leads to the innermost part at fault: an item, a member, or a required key that is absent.
+///
+/// Reads `value` again. Beyond that O(n f) for n members of objects and types of at most f fields.
+pub fn entity_fault(
+    alloc: Global,
+    schema: &Schema,
+    value: &Value,
+) -> Result<Option<PlacedFault>, NoMemory>
+    ensures { IfOk result (IsEntityFault (schema_view schema.now) (view value.now)) }
+{
+    let read = read_entity(alloc, schema, value);
+    match fault_of(read)? {
+        Some(fault) => placed_fault(alloc, schema, value, fault),
+        None => Ok(None),
+    }
+}

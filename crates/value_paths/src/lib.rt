@@ -1,0 +1,26 @@
+//! Which part of the JSON of an entity or a request is at fault: the path to it, and its JSON pointer.
+//!
+//! A second pass, for explanations. It is made only after the JSON was rejected, and repeats the first error.
+#![tactic(auto)]
+
+mod entity_paths;
+mod finding;
+mod forms;
+mod laws;
+mod parents;
+mod placed;
+mod pointers;
+mod request_paths;
+mod steps;
+mod type_paths;
+mod wholes;
+
+pub use entity_paths::entity_fault;
+pub use laws::{
+    rejected_entities_have_one_path, rejected_requests_have_one_path, rejected_values_have_one_path,
+};
+pub use placed::PlacedFault;
+pub use pointers::pointer;
+pub use request_paths::request_fault;
+pub use steps::Step;
+pub use type_paths::type_at;

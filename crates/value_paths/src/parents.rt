@@ -1,0 +1,91 @@
+//! The parents that an entity may not have.
+ghost use Rattle.std.specs.Prelude.{◌≡◌, ◌&&◌, not, IfOk, Some, None, option_map, codes};
+ghost use Rattle.serde_json.specs.View.{view, items_view};
+ghost use Rattle.serde_json.specs.Find.{get};
+ghost use Rattle.entity_values.specs.Typing.{with_or};
+ghost use Rattle.entities.specs.schema.Views.{schema_view};
+ghost use Rattle.value_paths.specs.EntityPaths.{items_at};
+ghost use Rattle.value_paths.specs.inner.FoundParts.{uid_at, fits, unfit_path, parents_path};
+
+use crate::forms::at_parent;
+use crate::steps::Trail;
+use entities::Schema;
+use entity_values::read_uid;
+use plain::NoMemory;
+use serde_json::Value;
+use std::alloc::Global;
+use values::EntityUid;
+
+/// Returns the uid of a value, if it is present and one.
+pub(crate) fn uid_at(alloc: Global, found: Option<&Value>) -> Result<Option<EntityUid>, NoMemory>
+    ensures { IfOk result (λ o. o ≡ uid_at (option_map (λ v. view v.now) found.entry)) }
+{
+    match found {
+        Some(value) => read_uid(alloc, value),
+        None => Ok(None),
+    }
+}
+
+/// Returns whether an entity may have this parent.
+fn fits(schema: &Schema, uid: &EntityUid, parent: &EntityUid) -> bool
+    ensures { result ≡ fits (schema_view schema.now) uid.now parent.now }
+{
+    parent != uid && schema.may_have_parent(&uid.type_name, &parent.type_name)
+}
+
+/// Returns the path to the first of these parents that an entity may not have, if there is one.
+fn find_unfit(
+    alloc: Global,
+    schema: &Schema,
+    uid: &EntityUid,
+    parents: &[Value],
+) -> Result<Option<Trail>, NoMemory>
+    ensures { IfOk result
+        (λ o. o ≡ unfit_path (schema_view schema.now) uid.now 0 (items_view parents.now)) }
+{
+    for (index, parent) in parents.iter().enumerate() {
+        let parent = match read_uid(alloc, parent)? {
+            Some(parent) => parent,
+            None => return Ok(None),
+        };
+        if !fits(schema, uid, &parent) {
+            return at_parent(alloc, index);
+        }
+    }
+    Ok(None)
+}
+
+/// Returns the same of the value at `parents`.
+#[tactic(auto, unfolding(crate::specs::inner::FoundParts::unfit_path))]
+fn find_unfit_at(
+    alloc: Global,
+    schema: &Schema,
+    uid: &EntityUid,
+    found: Option<&Value>,
+) -> Result<Option<Trail>, NoMemory>
+    ensures { IfOk result (λ o. o ≡ unfit_path (schema_view schema.now) uid.now 0
+        (items_at (option_map (λ v. view v.now) found.entry))) }
+{
+    match found {
+        None => Ok(None),
+        Some(value) => match value.as_array() {
+            Some(parents) => find_unfit(alloc, schema, uid, parents),
+            None => Ok(None),
+        },
+    }
+}
+
+/// Returns the path to the first parent that the entity may not have, if there is one.
+#[tactic(auto, unfolding(crate::specs::inner::FoundParts::parents_path))]
+pub(crate) fn find_bad_parent(
+    alloc: Global,
+    schema: &Schema,
+    value: &Value,
+) -> Result<Option<Trail>, NoMemory>
+    ensures { IfOk result (λ o. o ≡ parents_path (schema_view schema.now) (view value.now)) }
+{
+    match uid_at(alloc, value.get("uid"))? {
+        Some(uid) => find_unfit_at(alloc, schema, &uid, value.get("parents")),
+        None => Ok(None),
+    }
+}

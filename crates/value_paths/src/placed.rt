@@ -1,0 +1,47 @@
+//! Errors with the part that they are about.
+ghost use Rattle.std.specs.Prelude.{IfOk};
+ghost use Rattle.value_paths.specs.inner.Placing.{IsFaultOf, IsPlaced};
+
+use crate::steps::{Step, Trail};
+use entities::EntityFault;
+use plain::{Items, NoMemory};
+
+/// An error of JSON as an entity or a request, and the path from the JSON to the part at fault.
+#[derive(Drop)]
+pub struct PlacedFault {
+    /// The error, which reading the JSON gives.
+    pub fault: EntityFault,
+    /// The steps to the part; none if the whole is at fault. A required key that is absent is the last step.
+    pub path: Items<Step>,
+}
+
+/// Returns the error that reading gave, or `None` if it gave a value. The only error is `NoMemory`.
+pub(crate) fn fault_of<T: Drop>(
+    read: Result<T, EntityFault>,
+) -> Result<Option<EntityFault>, NoMemory>
+    ensures { IfOk result (IsFaultOf read) }
+{
+    match read {
+        Ok(value) => {
+            drop(value);
+            Ok(None)
+        }
+        Err(fault) => match fault {
+            EntityFault::NoMemory => Err(NoMemory),
+            _ => Ok(Some(fault)),
+        },
+    }
+}
+
+/// Returns an error with its path.
+pub(crate) fn placed(fault: EntityFault, found: Option<Trail>) -> Option<PlacedFault>
+    ensures { IsPlaced fault found result }
+{
+    match found {
+        Some(trail) => Some(PlacedFault {
+            fault,
+            path: trail.into_path(),
+        }),
+        None => None,
+    }
+}

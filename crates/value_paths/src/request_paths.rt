@@ -1,0 +1,219 @@
+//! The part of a request's JSON that is at fault.
+ghost use Rattle.std.specs.Prelude.{◌≡◌, IfOk, option_map};
+ghost use Rattle.serde_json.specs.View.{view};
+ghost use Rattle.schema_types.specs.CedarViews.{cedar_view};
+ghost use Rattle.entity_values.specs.entity_uids.Uids.{IsRead};
+ghost use Rattle.entities.specs.schema.Views.{schema_view};
+ghost use Rattle.entities.specs.Contexts.{context_where, is_place};
+ghost use Rattle.entities.specs.Requests.{RequestRefused};
+ghost use Rattle.value_paths.specs.EntityPaths.{first_unmet};
+ghost use Rattle.value_paths.specs.Outcomes.{IsRequestFault};
+ghost use Rattle.value_paths.specs.inner.FoundNames.{Names, IsNamed, IsFormSearched, IsContextSearched, IsPartSearched};
+ghost use Rattle.value_paths.specs.inner.FoundNames.{context_path, named_path, request_demands};
+
+use crate::entity_paths::find_in_fields;
+use crate::forms::{is_absent_or_object, is_object};
+use crate::placed::{PlacedFault, fault_of, placed};
+use crate::steps::{Trail, at_key, under_key};
+use entities::{EntityFault, Environment, Schema, read_request};
+use entity_values::{names_read_back, read_name};
+use plain::NoMemory;
+use schema_types::CedarType;
+use serde_json::Value;
+use std::alloc::Global;
+use values::EntityUid;
+
+/// Returns the entity that a value names, if it is present and names one.
+fn name_at(alloc: Global, found: Option<&Value>) -> Result<Option<EntityUid>, NoMemory>
+    ensures { IfOk result (IsRead (Names (option_map (λ v. view v.now) found.entry))) }
+{
+    match found {
+        Some(value) => read_name(alloc, value),
+        None => Ok(None),
+    }
+}
+
+/// Returns whether a value is present and names an entity.
+fn is_named(alloc: Global, found: Option<&Value>) -> Result<bool, NoMemory>
+    ensures { IfOk result (IsNamed (option_map (λ v. view v.now) found.entry)) }
+{
+    Ok(name_at(alloc, found)?.is_some())
+}
+
+/// Returns the path to the first part that has not the form of a request's, if there is one, where it is known which
+/// of the three names are given.
+fn first_unmet(
+    alloc: Global,
+    value: &Value,
+    principal: bool,
+    action: bool,
+    resource: bool,
+) -> Result<Option<Trail>, NoMemory>
+    ensures { IfOk result (λ o. o ≡ first_unmet (request_demands (view value.now) principal action resource)) }
+{
+    if !is_object(value) {
+        return Ok(Some(Trail::here(alloc)));
+    }
+    if !principal {
+        return at_key(alloc, "principal");
+    }
+    if !action {
+        return at_key(alloc, "action");
+    }
+    if !resource {
+        return at_key(alloc, "resource");
+    }
+    if !is_absent_or_object(value.get("context")) {
+        return at_key(alloc, "context");
+    }
+    Ok(None)
+}
+
+/// Returns the path to the first part that has not the form of a request's, if there is one.
+fn find_in_request_form(alloc: Global, value: &Value) -> Result<Option<Trail>, NoMemory>
+    ensures { IfOk result (IsFormSearched (view value.now)) }
+{
+    let principal = is_named(alloc, value.get("principal"))?;
+    let action = is_named(alloc, value.get("action"))?;
+    let resource = is_named(alloc, value.get("resource"))?;
+    first_unmet(alloc, value, principal, action, resource)
+}
+
+/// Returns whether an environment is that of this action and the types of these entities.
+fn is_of(
+    environment: &Environment,
+    principal: &EntityUid,
+    action: &EntityUid,
+    resource: &EntityUid,
+) -> bool
+    ensures { result ≡ is_place action.now principal.now.type_name resource.now.type_name environment.now.place }
+{
+    let place = &environment.place;
+    place.action == *action
+        && (place.principal.as_str() == principal.type_name.as_str()
+            && place.resource.as_str() == resource.type_name.as_str())
+}
+
+/// Returns the type of the context of a request for these three, if the action applies to them.
+fn context_type<'s>(
+    schema: &'s Schema,
+    principal: &EntityUid,
+    action: &EntityUid,
+    resource: &EntityUid,
+) -> Option<&'s CedarType>
+    ensures { option_map (λ t. cedar_view t.now) result ≡ context_where
+        (is_place action.now principal.now.type_name resource.now.type_name) (schema_view schema.now).environments }
+{
+    let all = schema.environments();
+    for environment in all {
+        if is_of(environment, principal, action, resource) {
+            return Some(environment.context.get());
+        }
+    }
+    None
+}
+
+/// Returns the path to the fault of the context of a request for these three, if there is one.
+fn find_in_context_of(
+    alloc: Global,
+    schema: &Schema,
+    value: &Value,
+    principal: &EntityUid,
+    action: &EntityUid,
+    resource: &EntityUid,
+) -> Result<Option<Trail>, NoMemory>
+    ensures { IfOk result (λ o. o ≡ context_path (schema_view schema.now)
+        (record { principal = principal.now; action = action.now; resource = resource.now }) (view value.now)) }
+{
+    let Some(ty) = context_type(schema, principal, action, resource) else {
+        return Ok(None);
+    };
+    match find_in_fields(alloc, value.get("context"), ty)? {
+        Some(trail) => under_key(alloc, "context", trail),
+        None => Ok(None),
+    }
+}
+
+/// Returns the same, where the names are there.
+fn find_in_context_named(
+    alloc: Global,
+    schema: &Schema,
+    value: &Value,
+    principal: &Option<EntityUid>,
+    action: &Option<EntityUid>,
+    resource: &Option<EntityUid>,
+) -> Result<Option<Trail>, NoMemory>
+    ensures { IfOk result
+        (λ o. o ≡ named_path (schema_view schema.now) principal.now action.now resource.now (view value.now)) }
+{
+    let Some(principal) = principal else {
+        return Ok(None);
+    };
+    let Some(action) = action else {
+        return Ok(None);
+    };
+    let Some(resource) = resource else {
+        return Ok(None);
+    };
+    find_in_context_of(alloc, schema, value, principal, action, resource)
+}
+
+/// Returns the path to the fault of the context, if there is one.
+fn find_in_context(alloc: Global, schema: &Schema, value: &Value) -> Result<Option<Trail>, NoMemory>
+    ensures { IfOk result (IsContextSearched (schema_view schema.now) (view value.now)) }
+{
+    names_read_back();
+    let principal = name_at(alloc, value.get("principal"))?;
+    let action = name_at(alloc, value.get("action"))?;
+    let resource = name_at(alloc, value.get("resource"))?;
+    find_in_context_named(alloc, schema, value, &principal, &action, &resource)
+}
+
+/// Returns the path to the part that an error is about.
+fn find_part(
+    alloc: Global,
+    schema: &Schema,
+    value: &Value,
+    fault: EntityFault,
+) -> Result<Option<Trail>, NoMemory>
+    ensures { IfOk result (IsPartSearched (schema_view schema.now) (view value.now) fault) }
+{
+    match fault {
+        EntityFault::BadShape => find_in_request_form(alloc, value),
+        EntityFault::NotApplicable => at_key(alloc, "action"),
+        _ => find_in_context(alloc, schema, value),
+    }
+}
+
+/// Returns an error of a value as a request, with its path.
+fn placed_fault(
+    alloc: Global,
+    schema: &Schema,
+    value: &Value,
+    fault: EntityFault,
+) -> Result<Option<PlacedFault>, NoMemory>
+    ensures { IfOk result (λ o. RequestRefused (schema_view schema.now) (view value.now) fault
+        → IsRequestFault (schema_view schema.now) (view value.now) o) }
+{
+    let found = find_part(alloc, schema, value, fault)?;
+    Ok(placed(fault, found))
+}
+
+/// Returns the error of a value as a request under a schema, and the path to the part at fault; `None` if the value
+/// states a request. The only error is `NoMemory`.
+///
+/// The path of `BadShape` leads to the first part that has not the form of a request's, that of `NotApplicable` to the
+/// action, any other into the context, as in [`entity_fault`](crate::entity_fault).
+pub fn request_fault(
+    alloc: Global,
+    schema: &Schema,
+    value: &Value,
+) -> Result<Option<PlacedFault>, NoMemory>
+    ensures { IfOk result (IsRequestFault (schema_view schema.now) (view value.now)) }
+{
+    let read = read_request(alloc, schema, value);
+    match fault_of(read)? {
+        Some(fault) => placed_fault(alloc, schema, value, fault),
+        None => Ok(None),
+    }
+}

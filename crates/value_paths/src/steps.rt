@@ -1,0 +1,82 @@
+//! Paths, step by step.
+ghost use Rattle.std.specs.Prelude.{◌≡◌, [], ◌∷◌, IfOk, Some, reverse};
+ghost use Rattle.value_paths.specs.declared.steps.Step.TheVariants as step;
+
+use plain::{Items, NoMemory, Text};
+use std::alloc::Global;
+use std::marker::Model;
+
+/// A step from a JSON value to one of its parts.
+#[derive(Drop)]
+pub enum Step {
+    /// To the member of an object that has this key.
+    Key(Text),
+    /// To the item of an array at this index, counted from 0.
+    Index(usize),
+}
+
+/// A path that grows at its beginning. Contracts see its steps, from the whole value on.
+#[derive(Drop)]
+pub(crate) struct Trail {
+    steps: Vec<Step>,
+}
+
+impl Model for Trail {
+    ghost use Rattle.std.specs.Prelude.{List, reverse};
+    ghost use Rattle.value_paths.specs.declared.steps.Step.{Step as PlainStep};
+
+    ghost Value = { List PlainStep };
+
+    ghost view = { λ t. reverse t.steps.items };
+}
+
+impl Trail {
+    /// Creates the path of a value to itself. Does not allocate.
+    pub(crate) fn here(alloc: Global) -> Trail
+        ensures { result ≡ [] }
+    {
+        Trail {
+            steps: Vec::new(alloc),
+        }
+    }
+
+    /// Returns the path with a step in front of it.
+    pub(crate) fn under(self, step: Step) -> Result<Trail, NoMemory>
+        ensures { IfOk result (λ trail. trail ≡ step ∷ self) }
+    {
+        let Trail { mut steps } = self;
+        steps.push(step)?;
+        Ok(Trail { steps })
+    }
+
+    /// Returns the path in order.
+    pub(crate) fn into_path(self) -> Items<Step>
+        ensures { result ≡ self }
+    {
+        let Trail { mut steps } = self;
+        steps.reverse();
+        Items::from_vec(steps)
+    }
+}
+
+/// Returns the path under a key, if there is one.
+pub(crate) fn under_key(alloc: Global, key: &str, trail: Trail) -> Result<Option<Trail>, NoMemory>
+    ensures { IfOk result (λ o. o ≡ Some (step.Key key.now ∷ trail)) }
+{
+    let key = Text::from_str(alloc, key)?;
+    Ok(Some(trail.under(Step::Key(key))?))
+}
+
+/// Returns the path that has this key alone.
+pub(crate) fn at_key(alloc: Global, key: &str) -> Result<Option<Trail>, NoMemory>
+    ensures { IfOk result (λ o. o ≡ Some (step.Key key.now ∷ [])) }
+{
+    under_key(alloc, key, Trail::here(alloc))
+}
+
+/// Returns the path under an index.
+pub(crate) fn under_index(index: usize, trail: Trail) -> Result<Option<Trail>, NoMemory>
+    ensures { IfOk result (λ o. o ≡ Some (step.Index index ∷ trail)) }
+{
+    Ok(Some(trail.under(Step::Index(index))?))
+}

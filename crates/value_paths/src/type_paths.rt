@@ -1,0 +1,36 @@
+//! The types that are declared along a path.
+ghost use Rattle.std.specs.Prelude.{◌≡◌, option_map};
+ghost use Rattle.schema_types.specs.CedarViews.{cedar_view};
+ghost use Rattle.value_paths.specs.TypePaths.{type_under, type_at};
+
+use crate::finding::{declared, element, fields};
+use crate::steps::Step;
+use schema_types::CedarType;
+
+/// Returns the type of the part that a step leads to.
+fn type_under<'t>(ty: &'t CedarType, step: &Step) -> Option<&'t CedarType>
+    ensures { option_map (λ t. cedar_view t.now) result ≡ type_under (cedar_view ty.now) step.now }
+{
+    match step {
+        Step::Key(key) => match fields(ty) {
+            Some(fields) => declared(fields, key.as_str()),
+            None => None,
+        },
+        Step::Index(_) => element(ty),
+    }
+}
+
+/// Returns the type that is declared for the part of a value of the type `whole` to which `path` leads, or `None` if
+/// none is: at an undeclared key. Does not allocate.
+pub fn type_at<'t>(whole: &'t CedarType, path: &[Step]) -> Option<&'t CedarType>
+    ensures { option_map (λ t. cedar_view t.now) result ≡ type_at (cedar_view whole.now) path.now }
+{
+    let mut ty = whole;
+    for step in path {
+        match type_under(ty, step) {
+            Some(part) => ty = part,
+            None => return None,
+        }
+    }
+    Some(ty)
+}

@@ -1,0 +1,75 @@
+//! Values without parts, which are read or rejected as a whole.
+ghost use Rattle.std.specs.Prelude.{◌≡◌, ◌≢◌, [], IfOk, false, is_ok};
+ghost use Rattle.serde_json.specs.Data.{object, member, no_members};
+ghost use Rattle.serde_json.specs.View.{view};
+ghost use Rattle.schema_types.specs.Cedar.{record_of, field, no_fields};
+ghost use Rattle.schema_types.specs.CedarViews.{cedar_view};
+ghost use Rattle.entity_values.specs.declared.fault.ValueFault.TheVariants as ValueFault;
+ghost use Rattle.entity_values.specs.Typing.{typed_value};
+ghost use Rattle.value_paths.specs.inner.FoundPaths.{whole_path};
+
+use crate::steps::Trail;
+use entity_values::{ValueFault, read_record};
+use plain::{Items, NoMemory, Shared, Text};
+use schema_types::CedarType;
+use serde_json::{Map, Value, put};
+use std::alloc::Global;
+
+/// Returns an object with this value alone.
+fn object_with(alloc: Global, value: &Value) -> Result<Value, NoMemory>
+    ensures { IfOk result (λ v. view v ≡ object (member [] (view value.now) no_members)) }
+{
+    let mut members = Map::new(alloc);
+    let copy = value.clone()?;
+    put(&mut members, alloc, "", copy)?;
+    Ok(Value::Object(members))
+}
+
+/// Returns the type of records with a field of this type alone.
+fn record_with(alloc: Global, ty: &CedarType) -> Result<CedarType, NoMemory>
+    ensures { IfOk result (λ t. cedar_view t ≡ record_of (field [] (cedar_view ty.now) false no_fields)) }
+{
+    let name = Text::from_str(alloc, "")?;
+    let copy = ty.copy()?;
+    let mut fields = Items::new(alloc);
+    fields.push((name, copy, false))?;
+    Ok(CedarType::Record(Shared::new(alloc, fields)?))
+}
+
+/// Returns that a value is not read, for an error of the value.
+fn rejected(fault: ValueFault) -> Result<bool, NoMemory>
+    ensures { IfOk result (λ yes. (yes ≡ false) × (fault ≢ ValueFault.NoMemory)) }
+{
+    match fault {
+        ValueFault::NoMemory => Err(NoMemory),
+        _ => Ok(false),
+    }
+}
+
+/// Returns whether a value is read by a type: whether a record with it alone is.
+///
+/// So the reader of records itself decides, and this crate has no rules of types of its own.
+fn is_read(alloc: Global, value: &Value, ty: &CedarType) -> Result<bool, NoMemory>
+    ensures { IfOk result (λ yes. yes ≡ is_ok (typed_value (cedar_view ty.now) (view value.now))) }
+{
+    let object = object_with(alloc, value)?;
+    let record = record_with(alloc, ty)?;
+    match read_record(alloc, &object, &record) {
+        Ok(_) => Ok(true),
+        Err(fault) => rejected(fault),
+    }
+}
+
+/// Returns the path to the fault of a value without parts, which is the value itself.
+pub(crate) fn find_whole(
+    alloc: Global,
+    value: &Value,
+    ty: &CedarType,
+) -> Result<Option<Trail>, NoMemory>
+    ensures { IfOk result (λ o. o ≡ whole_path (typed_value (cedar_view ty.now) (view value.now))) }
+{
+    if is_read(alloc, value, ty)? {
+        return Ok(None);
+    }
+    Ok(Some(Trail::here(alloc)))
+}

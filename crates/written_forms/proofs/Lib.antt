@@ -1,0 +1,13 @@
+-- What is proved of written forms.
+--   Opening            a form seen by its tree
+--   Peeling            parentheses round a form
+--   Items              an item of a list by its place
+--   Walking            a step of a path
+--   LanguageCounts     how many tokens derive a value, one rule a form of language
+--   ExpressionCounts   an expression's tree counts its tokens, one rule a production
+pub mod Opening
+pub mod Peeling
+pub mod Items
+pub mod Walking
+pub mod LanguageCounts
+pub mod ExpressionCounts

@@ -1,0 +1,5 @@
+pub mod Counted
+pub mod Forms
+pub mod Names
+pub mod Places
+pub mod inner

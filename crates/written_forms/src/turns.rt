@@ -1,0 +1,39 @@
+//! A turn of a path at a form with one or two operands.
+ghost use Rattle.std.specs.Prelude.{◌≡◌};
+ghost use Rattle.written_forms.specs.Places as spec;
+
+/// What a path does first at a conjunction.
+#[derive(Clone, Copy)]
+pub(crate) enum Turn<'p> {
+    /// It ends.
+    Stop,
+    /// It goes to the first operand, and on so.
+    Left(&'p [usize]),
+    /// It goes to the second operand, and on so.
+    Right(&'p [usize]),
+    /// It goes to an operand that is not there.
+    Off,
+}
+
+/// Returns the turn to an operand.
+fn to(index: usize, rest: &[usize]) -> Turn<'_>
+    ensures { spec.abstract_turn result ≡ spec.to index rest.now }
+{
+    if index == 0 {
+        return Turn::Left(rest);
+    }
+    if index == 1 {
+        return Turn::Right(rest);
+    }
+    Turn::Off
+}
+
+/// Returns the first turn of a path.
+pub(crate) fn first_turn(path: &[usize]) -> Turn<'_>
+    ensures { spec.abstract_turn result ≡ spec.turn path.now }
+{
+    match path {
+        [] => Turn::Stop,
+        [index, rest @ ..] => to(*index, rest),
+    }
+}
