@@ -48,7 +48,7 @@ ARROW = "  ->  "
 LONG = {
     "crates/decision_texts/src/request.rt": 1,
     "crates/entities/src/requests.rt": 1,
-    "crates/fault_words/src/table.rt": 6,
+    "crates/fault_words/src/table.rt": 12,
     "crates/type_capabilities/src/compared.rt": 2,
 }
 

@@ -49,7 +49,7 @@ static POLICIES: [CodeWords; 10] = [
         meaning: "no token begins here; a string that is not closed or has a bad escape (its quote); bytes that are not UTF-8 (place 0)",
         example: "`permit(principal, action, #);`",
         says: "no token begins here, or a string is not closed or has a bad escape",
-        advice: "close a string with a quote; escapes are \\n, \\r, \\t, \\\\, \\0, \\', \\\", \\x41 and \\u{1F600}",
+        advice: "close a string with a quote, also one that began before; write `==` for `=`; escapes are \\n, \\r, \\t, \\\\, \\0, \\', \\\", \\x41 and \\u{1F600}",
     },
     CodeWords {
         code: 11,
@@ -57,7 +57,7 @@ static POLICIES: [CodeWords; 10] = [
         meaning: "the first token that continues no policy; the text's length if it ends too early",
         example: "`permit(principal, action);`",
         says: "unexpected",
-        advice: "look before it; a policy is `permit(principal, action, resource) when { .. };`",
+        advice: "look before it: a comma, a bracket, an operator or `;` may be missing; a policy is `permit(principal, action, resource) when { .. };`",
     },
     CodeWords {
         code: 12,
@@ -89,7 +89,7 @@ static POLICIES: [CodeWords; 10] = [
         meaning: "a record's key, an annotation or a policy's name occurs twice",
         example: "`.. when { {a: 1, \"a\": 2} == {} };`",
         says: "repeated:",
-        advice: "remove one of the two, or give it another name",
+        advice: "remove one of the two, or give it another name; a policy without `@id` has the name `policy` and its index",
     },
     CodeWords {
         code: 16,
@@ -185,7 +185,7 @@ static ENTITIES: [CodeWords; 10] = [
         meaning: "not JSON, or JSON of another shape than docs/formats.md demands; an entity that occurs a second time in its file",
         example: "`[{\"uid\":{\"type\":\"User\"}}]`",
         says: "not JSON, or JSON of another shape, or an entity that occurs twice",
-        advice: "give an array of objects with `uid`, each uid once; a request has principal, action and resource",
+        advice: "give an array of objects with `uid`, each uid once; a request has principal, action and resource; attributes and a context need a schema",
     },
     CodeWords {
         code: 31,
@@ -285,7 +285,7 @@ static TYPES: [CodeWords; 7] = [
         meaning: "another type is demanded",
         example: "`1 + true == 2`",
         says: "an operand does not have the type that its operator takes",
-        advice: "arithmetic and `<` take Longs, `&&`, `!` and conditions Booleans, `like` Strings, `in` entities",
+        advice: "arithmetic and `<` take Longs, `&&`, `!` and conditions Booleans, `like` Strings, `in` entities, methods of addresses `ip(..)`",
     },
     CodeWords {
         code: 43,
@@ -301,7 +301,7 @@ static TYPES: [CodeWords; 7] = [
         meaning: "it is not declared, or is optional and its presence was not tested",
         example: "`principal.age > 3` without `principal has age &&`",
         says: "undeclared or optional attribute",
-        advice: "write `x has a && x.a`, or `x is T &&` where not each type has it; or declare it",
+        advice: "if it is not declared, correct its name; if it is optional, write `x has a && x.a`, or `x is T &&` where not each type has it",
     },
     CodeWords {
         code: 45,
