@@ -7,7 +7,7 @@
   layer or on rows below it.
 - docs/proved.md has, in bold, exactly the crates of crates.txt that are not tests, and each law by its name.
 - docs/definitions.md, docs/surface.md and the numbers of docs/reading.md are what tools/made_docs.py makes of the sources.
-- The contract of the whole program rests on each of the twelve files of docs/reading.md.
+- The headline or the contract of the whole program rests on each of the twelve files of docs/reading.md.
 - Each file of docs/, bench/, tools/, examples/, rows/ and of a crate's src/, specs/ and proofs/ that a document names by its path exists. Under a heading
   that names crates, so does each path that begins with specs/, proofs/, src/, must-fail/ or mutants/, in one of these crates.
 - README.md and docs/proving.md have the numbers of crates of the two programs, docs/proving.md that of all crates. tools/last_run.md has the number of
@@ -20,12 +20,14 @@
   have the same codes.
 - If a program's stdout has lines of a case and its outcome, stdin has these lines without the outcomes.
 - Each name of docs/where.md exists (tools/where_it_stands.py).
+- The table of docs/performance.md has the rows of `bench/measure.py page`, in its order.
 Standard library alone.
 """
 import argparse
 import json
 import os
 import re
+import subprocess
 import sys
 
 TOP = os.path.dirname(os.path.dirname(os.path.abspath(__file__)))
@@ -220,21 +222,27 @@ def about_cases():
 
 
 def about_reading():
-    text, (files, _) = text_of("docs/reading.md"), made_docs.reached()
-    if not made_docs.TOTALS.search(text):
-        yield "docs/reading.md: expected the words: N files of specs/, N lines of definitions; N files that declare types"
+    text, (files, _), (headline, _) = text_of("docs/reading.md"), made_docs.reached(), made_docs.reached(headline=True)
+    if len(made_docs.TOTALS.findall(text)) != 2:
+        yield "docs/reading.md: expected twice the words: N files of specs/, N lines of definitions; N files that declare types"
     rows = re.findall(r"(?m)^\| (crates/(\w+)/specs/\S+\.antt) \| \d+ \|", text)
     if len(rows) != 12:
         yield f"docs/reading.md: expected twelve files, got {len(rows)}"
     for path, crate in rows:
-        if f"{TOP}/{path}" not in files.get(crate, ()):
-            yield f"docs/reading.md: expected a file on which the contract of the whole program rests, got {path}"
+        if not any(f"{TOP}/{path}" in it.get(crate, ()) for it in (files, headline)):
+            yield f"docs/reading.md: expected a file on which the headline or the whole program rests, got {path}"
+
+
+def about_performance():
+    ran = subprocess.run([sys.executable, f"{TOP}/bench/measure.py", "page", "--check"], capture_output=True, text=True, check=False)
+    if ran.returncode != 0:
+        yield ran.stdout.strip() or f"bench/measure.py page --check: expected status 0, got {ran.returncode}: {ran.stderr.strip()}"
 
 
 def main():
     argparse.ArgumentParser(description=__doc__, formatter_class=argparse.RawDescriptionHelpFormatter).parse_args()
     found = [*about_layers(), *about_crates(), *about_paths(), *about_numbers(), *about_lines(), *about_long_lines(), *about_codes(), *about_code_table()]
-    found += [*about_cases(), *made_docs.stale(), *about_reading(), *where_it_stands.faults()]
+    found += [*about_cases(), *made_docs.stale(), *about_reading(), *where_it_stands.faults(), *about_performance()]
     print("\n".join(found) or "documents: all checks passed")
     return 1 if found else 0
 

@@ -37,7 +37,9 @@ IMPL = re.compile(r"^impl(?:<.*?>)? (?:(?P<trait>[\w:]+)(?:<.*>)? for )?(?P<type
 LONG = 20
 
 STANDARD = re.compile(r"(?:RFC|FIPS) [\d-]+(?:, sections? [\d., andto]*\d)?")
-# the totals of docs/reading.md
+# the definition of the headline: a crate, a module and a name
+HEADLINE = ("site_theorems", "Promises", "AllWorldsKeepPromises")
+# the totals of docs/reading.md, of the headline and of the whole program
 TOTALS = re.compile(r"\d+(\s+files\s+of\s+specs/,\s+)\d+(\s+lines\s+of\s+definitions;\s+)\d+(\s+files\s+that\s+declare\s+types)")
 # sources in this repository
 OURS = re.compile(r"docs/|the (?:rules|ordinary order)\b|(?:\w+\.antt(?:,? and | of `\w+`)?)+$")
@@ -222,11 +224,14 @@ def head_of(path):
 
 
 @functools.lru_cache(maxsize=None)
-def reached():
-    """Of each crate the files of specs/ that the whole program's contract rests on, in the order in which a reader meets
-    them, each with how many of its lines; and the files of src/ whose types these name."""
+def reached(headline=False):
+    """Of each crate the files of specs/ that the whole program's contract, or the headline, rests on, in the order in
+    which a reader meets them, each with how many of its lines; and the files of src/ whose types these name."""
     walk = specs.Walk()
-    specs.whole(walk)
+    if headline:
+        walk.visit(*HEADLINE)
+    else:
+        specs.whole(walk)
     files, types = {}, {}
     for path, lines, _ in specs.rows_of(walk):
         crate, name = path.split("/")[1], path.split("/", 3)[3].rsplit(".", 1)[0]
@@ -295,10 +300,12 @@ def surface_page():
 
 def reading_page():
     """Returns docs/reading.md with the numbers of the sources: its totals, and the lines of the files that it names."""
-    files, types = reached()
-    lines = sum(sum(it.values()) for it in files.values())
-    totals = (sum(map(len, files.values())), lines, sum(map(len, types.values())))
-    text = TOTALS.sub(lambda it: "".join(f"{number}{words}" for number, words in zip(totals, it.groups())), text_of("docs/reading.md"))
+    totals = []
+    for files, types in (reached(headline=True), reached()):
+        lines = sum(sum(it.values()) for it in files.values())
+        totals.append((sum(map(len, files.values())), lines, sum(map(len, types.values()))))
+    left = iter(totals)
+    text = TOTALS.sub(lambda it: "".join(f"{number}{words}" for number, words in zip(next(left), it.groups())), text_of("docs/reading.md"))
     return re.sub(r"(?m)^\| (crates/\S+\.antt) \| \d+ \|", lambda it: f"| {it[1]} | {lines_of(it[1])} |", text)
 
 

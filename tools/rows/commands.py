@@ -421,6 +421,25 @@ class Runs(Commands):
         return str(self.cedar.run_short(*shlex.split(text)))
 
 
+class ExplainedRuns(Runs):
+    """Runs of commands with the option `--explain`, besides those of `Runs`.
+
+    - `explained COMMAND | FILES`: the run of the command without the option, and how many errors `explain FILES` prints.
+      With the option the status and standard output are the same, and standard error has that text behind the same line;
+      else both runs.
+    """
+
+    def of_explained(self, text):
+        command, _, files = text.partition(" | ")
+        plain = self.cedar.run(*shlex.split(command))
+        behind = self.cedar.run("explain", *shlex.split(files)).answers
+        wanted = Run(plain.status, plain.answers, plain.faults + behind).whole()
+        came = self.cedar.run(*shlex.split(command), "--explain").whole()
+        if came != wanted:
+            return f"expected {wanted}, got {came}"
+        return f"{plain.whole()} and {len(re.findall(rb'^error ', behind, re.M))} explained"
+
+
 class Block(Row):
     """A row of several lines, which is shown by its title."""
 
@@ -661,6 +680,7 @@ KINDS = {
     "stored": Stored,
     "runs": Runs,
     "explanations": Runs,
+    "explained_runs": ExplainedRuns,
     "loads": Runs,
     "merge": Merges,
     "pull": Pulls,

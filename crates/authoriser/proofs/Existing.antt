@@ -16,7 +16,7 @@ use Rattle.scope_index.specs.policy_grammar.Whole.{entity_part, action_part, exp
 use Rattle.evaluator.specs.declared.fault.EvalFault.{EvalFault}
 use Rattle.evaluator.specs.declared.fault.EvalFault.TheVariants as fault
 use Rattle.evaluator.specs.Outcomes.{EvaluationResult, boolean_in}
-use Rattle.evaluator.specs.Operators.{World}
+use Rattle.evaluator.specs.Operators.{Entities}
 use Rattle.evaluator.specs.Evaluation as rule
 use Rattle.evaluator.specs.Evaluation.{EvaluatesTo, TestFails}
 use Rattle.evaluator.specs.Laws.{HaveOneOutcome}
@@ -53,7 +53,7 @@ truth_of (record_of fs) = inr refl
 truth_of (decimal z) = inr refl
 truth_of (ipaddr n) = inr refl
 
-module _ (W : World) (q : Request) (given : Determined W q) (memory : (x : Expr) → ¬ EvaluatesTo W q x (Err fault.NoMemory)) where
+module _ (W : Entities) (q : Request) (given : Determined W q) (memory : (x : Expr) → ¬ EvaluatesTo W q x (Err fault.NoMemory)) where
   -- an expression as a test: a boolean, or an error of the language
   abbrev Tested : Expr → Type 0
   Tested x = ((t : Bool) × EvaluatesTo W q x (Ok (boolean t))) ⊎ ((error : PolicyError) × TestFails W q x (fault_of error))
@@ -138,7 +138,7 @@ module _ (parents : Parents) (stored : List EntityUid) (all : HaveAllParents par
 
 -- ---- an answer
 
-module _ (W : World) (q : Request) (ps : List NamedPolicy) where
+module _ (W : Entities) (q : Request) (ps : List NamedPolicy) where
   by_cycle : ((walk : List EntityUid) × IsLeastCycle W.parents walk) → (a : Answer) × IsAnswer W q ps a
   by_cycle cycle = (record { decision = Deny; reason = []; errors = []; cycle = cycle.0 }, inl (record { least = cycle.1; rest = refl }))
 
@@ -150,7 +150,7 @@ module _ (W : World) (q : Request) (ps : List NamedPolicy) where
   by_either there stored all (inl some) judged = by_cycle (there W.parents stored all some.0 some.1)
   by_either there stored all (inr none) judged = by_policies none judged
 
-pub one_answer_in_finite : PathsAreDecided → CyclesHaveALeast → HaveOneOutcome → ((W : World) (q : Request) (x : Expr) → ¬ EvaluatesTo W q x (Err fault.NoMemory)) → OneAnswerAtMost → OneAnswerInFiniteHierarchies
+pub one_answer_in_finite : PathsAreDecided → CyclesHaveALeast → HaveOneOutcome → ((W : Entities) (q : Request) (x : Expr) → ¬ EvaluatesTo W q x (Err fault.NoMemory)) → OneAnswerAtMost → OneAnswerInFiniteHierarchies
 one_answer_in_finite decided there law memory at_most W stored all q ps =
     let D = decided W.parents stored all in
     let given = law W (reaches W.parents stored) D q in

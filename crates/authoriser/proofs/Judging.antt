@@ -22,7 +22,7 @@ use Rattle.scope_index.specs.policy_grammar.declared.policy.ActionScope.TheVaria
 use Rattle.scope_index.specs.policy_grammar.declared.policy.Scope.{Scope}
 use Rattle.evaluator.specs.declared.fault.EvalFault.{EvalFault}
 use Rattle.evaluator.specs.declared.fault.EvalFault.TheVariants as fault
-use Rattle.evaluator.specs.Operators.{World}
+use Rattle.evaluator.specs.Operators.{Entities}
 use Rattle.evaluator.specs.Evaluation.{TestFails}
 use Rattle.authoriser.specs.declared.others.Other.{Other}
 use Rattle.authoriser.specs.declared.outcome.PolicyError.{PolicyError}
@@ -96,17 +96,17 @@ no_refused_memory TypeError e = absurd (cc)
 no_refused_memory ArithBoundsError e = absurd (cc)
 no_refused_memory ExtensionError e = absurd (cc)
 
-pub fault_comes_to : (W : World) (q : Request) (x : Expr) (f : EvalFault) (error : PolicyError) → f ≡ fault_of error → (f ≢ fault.NoMemory → TestFails W q x f) → ConditionEvaluatesTo W q x (Errs error)
+pub fault_comes_to : (W : Entities) (q : Request) (x : Expr) (f : EvalFault) (error : PolicyError) → f ≡ fault_of error → (f ≢ fault.NoMemory → TestFails W q x f) → ConditionEvaluatesTo W q x (Errs error)
 fault_comes_to W q x f error is g =
     subst (λ e. TestFails W q x e) is (g (λ refused. no_refused_memory error (sym is ∙ refused)))
 
 -- ---- policies
-pub true_scope : TrueScopesLeaveToConditions → (W : World) (q : Request) (s : RequestEntities) (p : Policy) (o : Outcome) → HasRequestAncestors W.parents q s → IsTrueOf p.scope s → ConditionEvaluatesTo W q p.condition o → PolicyEvaluatesTo W q p o
+pub true_scope : TrueScopesLeaveToConditions → (W : Entities) (q : Request) (s : RequestEntities) (p : Policy) (o : Outcome) → HasRequestAncestors W.parents q s → IsTrueOf p.scope s → ConditionEvaluatesTo W q p.condition o → PolicyEvaluatesTo W q p o
 true_scope leaves W q s p Satisfied request_entities h c = (leaves W q p (scope_there W.parents q s p.scope request_entities h)).gives true c
 true_scope leaves W q s p NotSatisfied request_entities h c = (leaves W q p (scope_there W.parents q s p.scope request_entities h)).gives false c
 true_scope leaves W q s p (Errs error) request_entities h c = (leaves W q p (scope_there W.parents q s p.scope request_entities h)).errs (fault_of error) c
 
-pub other_scope : OtherScopesGiveFalse → (W : World) (above : EntityUid → EntityUid → Bool) → Decides W.parents above → (q : Request) (s : RequestEntities) (p : Policy) → HasRequestAncestors W.parents q s → (IsTrueOf p.scope s → ⊥) → PolicyEvaluatesTo W q p NotSatisfied
+pub other_scope : OtherScopesGiveFalse → (W : Entities) (above : EntityUid → EntityUid → Bool) → Decides W.parents above → (q : Request) (s : RequestEntities) (p : Policy) → HasRequestAncestors W.parents q s → (IsTrueOf p.scope s → ⊥) → PolicyEvaluatesTo W q p NotSatisfied
 other_scope idle W above D q s p request_entities n = idle W above D q p (λ h. n (scope_back W.parents q s p.scope request_entities h))
 
 placed_itself : {parents : Parents} {uid : EntityUid} {p : KnownEntity} → HasItsAncestors parents uid p → HasItsAncestors parents p.uid.now p
@@ -115,11 +115,11 @@ placed_itself {parents} {uid} {p} h = record { same = refl; all = subst (λ (u :
 pub all_placed : (parents : Parents) (q : Request) (s : RequestEntities) → HasRequestAncestors parents q s → AllHaveTheirAncestors parents s
 all_placed parents q s h = record { principal = placed_itself h.principal; action = placed_itself h.action; resource = placed_itself h.resource }
 
-attributes_itself : (W : World) (parents : Parents) (uid : EntityUid) (p : KnownEntity) → HasItsAncestors parents uid p
+attributes_itself : (W : Entities) (parents : Parents) (uid : EntityUid) (p : KnownEntity) → HasItsAncestors parents uid p
     → HasItsAttributes W uid p → HasItsAttributes W p.uid.now p
 attributes_itself W parents uid p placed h = subst (λ (u : EntityUid). HasItsAttributes W u p) (sym placed.same) h
 
-pub all_have_attributes : (W : World) (q : Request) (s : RequestEntities) → AreLookedUp W q s → AllHaveTheirAttributes W s
+pub all_have_attributes : (W : Entities) (q : Request) (s : RequestEntities) → AreLookedUp W q s → AllHaveTheirAttributes W s
 all_have_attributes W q s h = record {
   principal = attributes_itself W W.parents q.principal s.principal h.ancestors.principal h.attributes.principal;
   action = attributes_itself W W.parents q.action s.action h.ancestors.action h.attributes.action;
@@ -130,7 +130,7 @@ pub are_ascending : (parents : Parents) (q : Request) (s : RequestEntities) → 
 are_ascending parents q s request_entities = record { principal = request_entities.principal.ascending; action = request_entities.action.ascending; resource = request_entities.resource.ascending }
 
 -- ---- policy by policy
-judged_push : (W : World) (q : Request) (ps : List NamedPolicy) (p : NamedPolicy) (js : List PolicyOutcome) (j : PolicyOutcome) → ArePolicyOutcomes W q ps js → IsPolicyOutcome W q p j → ArePolicyOutcomes W q (ps ++ p ∷ []) (js ++ j ∷ [])
+judged_push : (W : Entities) (q : Request) (ps : List NamedPolicy) (p : NamedPolicy) (js : List PolicyOutcome) (j : PolicyOutcome) → ArePolicyOutcomes W q ps js → IsPolicyOutcome W q p j → ArePolicyOutcomes W q (ps ++ p ∷ []) (js ++ j ∷ [])
 judged_push W q [] p [] j h g = (g, tt)
 judged_push W q [] p (k ∷ js) j h g = absurd h
 judged_push W q (n ∷ ps) p [] j h g = absurd h
@@ -144,7 +144,7 @@ unfolding one_named
 named_push [] p = refl
 named_push (n ∷ ps) p = ap (λ r. one_named n ∷ r) (named_push ps p)
 
-pub next_policy : (W : World) (q : Request) (ps : List (Bor (List ℕ) × Bor Policy)) (i : ℕ) (p : Bor (List ℕ) × Bor Policy) (old new : Tally) (o : Outcome) →
+pub next_policy : (W : Entities) (q : Request) (ps : List (Bor (List ℕ) × Bor Policy)) (i : ℕ) (p : Bor (List ℕ) × Bor Policy) (old new : Tally) (o : Outcome) →
     i < length ps → p ≡ slice_index_or ps i p → PolicyEvaluatesTo W q p.1.now o →
     ((js : List PolicyOutcome) → Counts old js → Counts new (js ++ record { id = p.0.now; effect = p.1.now.effect; outcome = o } ∷ [])) →
     ((js : List PolicyOutcome) × ArePolicyOutcomes W q (named (take i ps)) js × Counts old js) →
@@ -160,7 +160,7 @@ next_policy W q ps i p old new o within is outcome noted before =
 pub counted : (t : Tally) (js : List PolicyOutcome) → Counts t js → decided (ids t.permits.items) (ids t.forbids.items) (faults t.errors.items) ≡ answer_by js
 counted t js c i = decided (c.permits i) (c.forbids i) (c.errors i)
 
-pub all_judged : (W : World) (q : Request) (ps : List (Bor (List ℕ) × Bor Policy)) (i : ℕ) (js : List PolicyOutcome) → length ps ≤ i → ArePolicyOutcomes W q (named (take i ps)) js → ArePolicyOutcomes W q (named ps) js
+pub all_judged : (W : Entities) (q : Request) (ps : List (Bor (List ℕ) × Bor Policy)) (i : ℕ) (js : List PolicyOutcome) → length ps ≤ i → ArePolicyOutcomes W q (named (take i ps)) js → ArePolicyOutcomes W q (named ps) js
 all_judged W q ps i js le h = subst (λ xs. ArePolicyOutcomes W q (named xs) js) (take_all i ps le) h
 
 pub none_before : (P : EntityUid → Type 0) (xs : List EntityUid) (i : ℕ) (x : EntityUid) → i < length xs → x ≡ slice_index_or xs i x → (P x → ⊥) →
@@ -205,7 +205,7 @@ above_other parents others o uid have there same =
     }
 
 -- ---- no cycle, or a cycle
-pub by_policies : (W : World) (q : Request) (ps : List NamedPolicy) (a : Answer) → HasNoCycle W.parents →
+pub by_policies : (W : Entities) (q : Request) (ps : List NamedPolicy) (a : Answer) → HasNoCycle W.parents →
     ((js : List PolicyOutcome) × ArePolicyOutcomes W q ps js × (a ≡ answer_by js)) → IsAnswer W q ps a
 by_policies W q ps a none h = inr (record { acyclic = none; judged = h.0; outcomes = h.1; answer = h.2 })
 

@@ -18,7 +18,7 @@ use Rattle.scope_index.specs.policy_grammar.declared.policy.Effect.TheVariants.{
 use Rattle.scope_index.specs.policy_grammar.declared.policy.Policy.{Policy}
 use Rattle.scope_index.specs.policy_grammar.Whole.{expression_of}
 use Rattle.evaluator.specs.Outcomes.{EvaluationResult}
-use Rattle.evaluator.specs.Operators.{World}
+use Rattle.evaluator.specs.Operators.{Entities}
 use Rattle.evaluator.specs.Evaluation.{EvaluatesTo}
 use Rattle.evaluator.specs.Laws.{HasOneOutcome, HaveOneOutcome}
 use Rattle.authoriser.specs.declared.answer.Answer.{Answer}
@@ -50,7 +50,7 @@ errors_apart ArithBoundsError f h = absurd (cc)
 errors_apart ExtensionError f h = absurd (cc)
 
 -- a policy comes to one thing, where its expression gives one outcome
-module _ (W : World) (q : Request) (p : Policy) (given : HasOneOutcome W q (expression_of p)) where
+module _ (W : Entities) (q : Request) (p : Policy) (given : HasOneOutcome W q (expression_of p)) where
   abbrev pub outcome_given : Outcome → EvaluationResult
   outcome_given Satisfied = Ok (boolean true)
   outcome_given NotSatisfied = Ok (boolean false)
@@ -76,17 +76,17 @@ module _ (W : World) (q : Request) (p : Policy) (given : HasOneOutcome W q (expr
   one_outcome r s h k = same_given r s (given.2 (outcome_given r) (gives_it r h) ∙ sym (given.2 (outcome_given s) (gives_it s k)))
 
 -- each expression gives one outcome
-abbrev pub Determined : World → Request → Type 0
+abbrev pub Determined : Entities → Request → Type 0
 Determined W q = (x : Expr) → HasOneOutcome W q x
 
-pub one_judgement : (W : World) (q : Request) → Determined W q → (p : NamedPolicy) (j k : PolicyOutcome) → IsPolicyOutcome W q p j → IsPolicyOutcome W q p k → j ≡ k
+pub one_judgement : (W : Entities) (q : Request) → Determined W q → (p : NamedPolicy) (j k : PolicyOutcome) → IsPolicyOutcome W q p j → IsPolicyOutcome W q p k → j ≡ k
 one_judgement W q given p j k h g =
     let id : j.id ≡ k.id = h.id ∙ sym g.id in
     let effect : j.effect ≡ k.effect = h.effect ∙ sym g.effect in
     let outcome : j.outcome ≡ k.outcome = one_outcome W q p.policy (given (expression_of p.policy)) j.outcome k.outcome h.outcome g.outcome in
     λ i. record { id = id i; effect = effect i; outcome = outcome i }
 
-one_list_judged : (W : World) (q : Request) → Determined W q → (ps : List NamedPolicy) (js ks : List PolicyOutcome) → ArePolicyOutcomes W q ps js → ArePolicyOutcomes W q ps ks → js ≡ ks
+one_list_judged : (W : Entities) (q : Request) → Determined W q → (ps : List NamedPolicy) (js ks : List PolicyOutcome) → ArePolicyOutcomes W q ps js → ArePolicyOutcomes W q ps ks → js ≡ ks
 one_list_judged W q given [] [] [] h g = refl
 one_list_judged W q given [] [] (k ∷ ks) h g = absurd g
 one_list_judged W q given [] (j ∷ js) ks h g = absurd h
@@ -111,10 +111,10 @@ pub some_member : {X : Type 0} (xs : List X) → xs ≢ [] → (x : X) × Contai
 some_member [] ne = absurd (ne refl)
 some_member (x ∷ xs) ne = (x, Contains-here x xs)
 
-pub not_both : (W : World) (q : Request) (ps : List NamedPolicy) (a b : Answer) → IsCycleDenial W.parents a → IsPolicyAnswer W q ps b → ⊥
+pub not_both : (W : Entities) (q : Request) (ps : List NamedPolicy) (a b : Answer) → IsCycleDenial W.parents a → IsPolicyAnswer W q ps b → ⊥
 not_both W q ps a b d p = let on = begins_on_cycle W.parents a.cycle d.least in p.acyclic on.0 on.1
 
-has_one_answer : LeastCyclesAreOne → (W : World) → ((q : Request) → Determined W q) → HasOneAnswerAtMost W
+has_one_answer : LeastCyclesAreOne → (W : Entities) → ((q : Request) → Determined W q) → HasOneAnswerAtMost W
 has_one_answer one W given q ps a b (inl d) (inl e) = one_denial one W.parents a b d e
 has_one_answer one W given q ps a b (inl d) (inr p) = absurd (not_both W q ps a b d p)
 has_one_answer one W given q ps a b (inr p) (inl d) = absurd (not_both W q ps b a d p)
@@ -258,7 +258,7 @@ policies_erring [] = refl
 policies_erring (j ∷ js) = map-append (λ e. e.policy) (if_erring j) (erring js) ∙ ap (λ rest. policy_if_erring j ++ rest) (policies_erring js)
 
 -- judging keeps the ids
-same_ids : (W : World) (q : Request) (ps : List NamedPolicy) (js : List PolicyOutcome) → ArePolicyOutcomes W q ps js → map (λ p. p.id) ps ≡ map (λ j. j.id) js
+same_ids : (W : Entities) (q : Request) (ps : List NamedPolicy) (js : List PolicyOutcome) → ArePolicyOutcomes W q ps js → map (λ p. p.id) ps ≡ map (λ j. j.id) js
 same_ids W q [] [] h = refl
 same_ids W q [] (j ∷ js) h = absurd h
 same_ids W q (p ∷ ps) [] h = absurd h

@@ -31,7 +31,7 @@ use Rattle.scope_index.specs.policy_grammar.Whole.{entity_literal, is_equal, is_
 use Rattle.scope_index.specs.policy_grammar.Whole.{expression_of}
 use Rattle.evaluator.specs.Outcomes.{IsTruthOf, holds, fails, entity_uid_in}
 use Rattle.evaluator.specs.Operators as op
-use Rattle.evaluator.specs.Operators.{World}
+use Rattle.evaluator.specs.Operators.{Entities}
 use Rattle.evaluator.specs.Evaluation as rule
 use Rattle.evaluator.specs.Evaluation.{EvaluatesTo, EachEvaluatesTo, variable_value}
 use Rattle.evaluator.specs.ancestor_search.Hierarchy.{IsIn}
@@ -116,7 +116,7 @@ uid_known a b = elim (cases_Bool (is_eq (uid_cmp a b))) [
 ]
 
 -- ---- the parts
-module _ (made : SetsHoldTheirMembers) (W : World) (q : Request) where
+module _ (made : SetsHoldTheirMembers) (W : Entities) (q : Request) where
   stands_for : (x : Variable) (uid : EntityUid) → variable_value x q ≡ entity uid → EvaluatesTo W q (core.Variable x) (Ok (entity uid))
   stands_for x uid is = subst (λ v. EvaluatesTo W q (core.Variable x) (Ok v)) is (rule.gives_variable x)
 
@@ -228,7 +228,7 @@ module _ (made : SetsHoldTheirMembers) (W : World) (q : Request) where
 abbrev IsSettled : Type 0 → Type 0
 IsSettled P = P ⊎ (¬ P)
 
-module _ (made : SetsHoldTheirMembers) (W : World) (above : EntityUid → EntityUid → Bool) (D : Decides W.parents above) where
+module _ (made : SetsHoldTheirMembers) (W : Entities) (above : EntityUid → EntityUid → Bool) (D : Decides W.parents above) where
   in_known : (a b : EntityUid) → IsSettled (IsIn W.parents a b)
   in_known a b = elim (uid_known a b) [
     | inl same ↦ inl (inl same)

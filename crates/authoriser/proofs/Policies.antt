@@ -7,7 +7,7 @@ use Rattle.evaluator.specs.ancestor_search.LeastCycle.{LeastCyclesAreOne}
 use Rattle.scope_index.specs.policy_grammar.declared.policy.Effect.{Effect}
 use Rattle.scope_index.specs.policy_grammar.declared.policy.Effect.TheVariants.{Permit, Forbid}
 use Rattle.scope_index.specs.policy_grammar.Whole.{expression_of}
-use Rattle.evaluator.specs.Operators.{World}
+use Rattle.evaluator.specs.Operators.{Entities}
 use Rattle.evaluator.specs.Laws.{HaveOneOutcome, NothingWantsMemory}
 use Rattle.authoriser.specs.declared.answer.Answer.{Answer}
 use Rattle.authoriser.specs.declared.outcome.Outcome.{Outcome}
@@ -58,7 +58,7 @@ none_of [] h = refl
 none_of (x ∷ xs) h = absurd (h x (Contains-here x xs))
 
 -- ---- judgements and policies
-module _ (W : World) (q : Request) where
+module _ (W : Entities) (q : Request) where
   judged_from : (ps : List NamedPolicy) (js : List PolicyOutcome) → ArePolicyOutcomes W q ps js → (j : PolicyOutcome) → Contains js j → (p : NamedPolicy) × Contains ps p × IsPolicyOutcome W q p j
   judged_from [] [] h j c = Contains-none j c
   judged_from [] (k ∷ js) h j c = absurd h

@@ -5,7 +5,7 @@ use Rattle.values.specs.declared.request.Request.{Request}
 use Rattle.scope_index.specs.policy_grammar.declared.policy.Effect.{Effect}
 use Rattle.scope_index.specs.policy_grammar.declared.policy.Effect.TheVariants.{Permit, Forbid}
 use Rattle.scope_index.specs.policy_grammar.Whole.{expression_of}
-use Rattle.evaluator.specs.Operators.{World}
+use Rattle.evaluator.specs.Operators.{Entities}
 use Rattle.evaluator.specs.Laws.{HaveOneOutcome}
 use Rattle.authoriser.specs.declared.answer.Answer.{Answer}
 use Rattle.authoriser.specs.declared.answer.ErringPolicy.{ErringPolicy}
@@ -52,7 +52,7 @@ erring_or_not j = at j.outcome
     at NotSatisfied = inr ((λ error e. cc), refl)
     at (Errs error) = inl (error, refl, refl)
 
-module _ (W : World) (q : Request) (given : Determined W q) where
+module _ (W : Entities) (q : Request) (given : Determined W q) where
   comes_once : (p : NamedPolicy) (j : PolicyOutcome) → IsPolicyOutcome W q p j → (o : Outcome) → PolicyEvaluatesTo W q p.policy o → j.outcome ≡ o
   comes_once p j is o c = one_outcome W q p.policy (given (expression_of p.policy)) j.outcome o is.outcome c
 
@@ -93,7 +93,7 @@ module _ (W : World) (q : Request) (given : Determined W q) where
 
 -- ---- the laws
 
-no_denial : (W : World) (a : Answer) {G : Type 0} → IsCycleDenial W.parents a → IsAcyclic W → G
+no_denial : (W : Entities) (a : Answer) {G : Type 0} → IsCycleDenial W.parents a → IsAcyclic W → G
 no_denial W a d acyclic = let on = begins_on_cycle W.parents a.cycle d.least in absurd (acyclic on.0 on.1)
 
 pub forbid_decides : HaveOneOutcome → ForbidDecides

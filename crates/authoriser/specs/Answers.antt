@@ -15,7 +15,7 @@ use Rattle.scope_index.specs.policy_grammar.declared.policy.Effect.TheVariants.{
 use Rattle.scope_index.specs.policy_grammar.Whole.{expression_of}
 use Rattle.evaluator.specs.declared.fault.EvalFault.{EvalFault}
 use Rattle.evaluator.specs.declared.fault.EvalFault.TheVariants as fault
-use Rattle.evaluator.specs.Operators.{World}
+use Rattle.evaluator.specs.Operators.{Entities}
 use Rattle.evaluator.specs.Evaluation.{EvaluatesTo}
 use Rattle.authoriser.specs.declared.answer.Answer.{Answer}
 use Rattle.authoriser.specs.declared.answer.Decision.TheVariants.{Allow, Deny}
@@ -41,7 +41,7 @@ fault_of ExtensionError = fault.ExtensionError
 
 -- `PolicyEvaluatesTo W q policy outcome` holds if `outcome` is the result of evaluating the policy's whole
 -- expression.
-abbrev pub PolicyEvaluatesTo : World → Request → Policy → Outcome → Type 0
+abbrev pub PolicyEvaluatesTo : Entities → Request → Policy → Outcome → Type 0
 PolicyEvaluatesTo W q policy Satisfied = EvaluatesTo W q (expression_of policy) (Ok (boolean true))
 PolicyEvaluatesTo W q policy NotSatisfied = EvaluatesTo W q (expression_of policy) (Ok (boolean false))
 PolicyEvaluatesTo W q policy (Errs error) = EvaluatesTo W q (expression_of policy) (Err (fault_of error))
@@ -53,13 +53,13 @@ pub record PolicyOutcome : Type 0 where
   pub outcome : Outcome
 
 -- `IsPolicyOutcome W q p j` holds if `j` is the outcome of the policy `p`.
-pub record IsPolicyOutcome (W : World) (q : Request) (p : NamedPolicy) (j : PolicyOutcome) : Type 0 where
+pub record IsPolicyOutcome (W : Entities) (q : Request) (p : NamedPolicy) (j : PolicyOutcome) : Type 0 where
   pub id : j.id ≡ p.id
   pub effect : j.effect ≡ p.policy.effect
   pub outcome : PolicyEvaluatesTo W q p.policy j.outcome
 
 -- `ArePolicyOutcomes W q ps js` holds if `js` are the outcomes of the policies `ps`, in order.
-abbrev pub ArePolicyOutcomes : World → Request → List NamedPolicy → List PolicyOutcome → Type 0
+abbrev pub ArePolicyOutcomes : Entities → Request → List NamedPolicy → List PolicyOutcome → Type 0
 ArePolicyOutcomes W q [] [] = Unit {0}
 ArePolicyOutcomes W q [] (j ∷ js) = ⊥
 ArePolicyOutcomes W q (p ∷ ps) [] = ⊥
@@ -109,7 +109,7 @@ pub record IsCycleDenial (parents : Parents) (a : Answer) : Type 0 where
   pub rest : a ≡ record { decision = Deny; reason = []; errors = []; cycle = a.cycle }
 
 -- `IsPolicyAnswer W q ps a` holds if no entity is cyclic, and `a` is the answer by the outcomes of `ps`.
-pub record IsPolicyAnswer (W : World) (q : Request) (ps : List NamedPolicy) (a : Answer) : Type 0 where
+pub record IsPolicyAnswer (W : Entities) (q : Request) (ps : List NamedPolicy) (a : Answer) : Type 0 where
   pub acyclic : (uid : EntityUid) → IsAncestor W.parents uid uid → ⊥
   pub judged : List PolicyOutcome
   pub outcomes : ArePolicyOutcomes W q ps judged
@@ -117,5 +117,5 @@ pub record IsPolicyAnswer (W : World) (q : Request) (ps : List NamedPolicy) (a :
 
 -- `IsAnswer W q ps a` holds if `a` is the answer to the request `q`: a denial that names the least cycle, if there is
 -- one; else the answer by the outcomes of the policies `ps`.
-abbrev pub IsAnswer : World → Request → List NamedPolicy → Answer → Type 0
+abbrev pub IsAnswer : Entities → Request → List NamedPolicy → Answer → Type 0
 IsAnswer W q ps a = IsCycleDenial W.parents a ⊎ IsPolicyAnswer W q ps a

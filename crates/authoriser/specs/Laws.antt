@@ -12,7 +12,7 @@ use Rattle.evaluator.specs.ancestor_search.Hierarchy.{IsAncestor}
 use Rattle.evaluator.specs.ancestor_search.Decided.{Decides, HaveAllParents}
 use Rattle.scope_index.specs.policy_grammar.declared.policy.Effect.{Effect}
 use Rattle.scope_index.specs.policy_grammar.declared.policy.Effect.TheVariants.{Permit, Forbid}
-use Rattle.evaluator.specs.Operators.{World}
+use Rattle.evaluator.specs.Operators.{Entities}
 use Rattle.authoriser.specs.declared.answer.Answer.{Answer}
 use Rattle.authoriser.specs.declared.answer.Decision.TheVariants.{Allow, Deny}
 use Rattle.authoriser.specs.declared.answer.ErringPolicy.{ErringPolicy}
@@ -23,32 +23,34 @@ use Rattle.authoriser.specs.Answers.{NamedPolicy, PolicyEvaluatesTo, IsAnswer}
 -- ---- one answer
 
 -- `HasOneAnswerAtMost W` holds if any two answers to a request are equal.
-abbrev pub HasOneAnswerAtMost : World → Type 0
+abbrev pub HasOneAnswerAtMost : Entities → Type 0
 HasOneAnswerAtMost W = (q : Request) (ps : List NamedPolicy) (a b : Answer) → IsAnswer W q ps a → IsAnswer W q ps b
     → a ≡ b
 
 -- `HasOneAnswer W` holds if each request has exactly one answer.
-abbrev pub HasOneAnswer : World → Type 0
+abbrev pub HasOneAnswer : Entities → Type 0
 HasOneAnswer W = (q : Request) (ps : List NamedPolicy)
     → (a : Answer) × IsAnswer W q ps a × ((b : Answer) → IsAnswer W q ps b → b ≡ a)
 
 -- `OneAnswerAtMost`: a request has at most one answer, if a test decides the ancestor relation.
 abbrev pub OneAnswerAtMost : Type 0
-OneAnswerAtMost = (W : World) (above : EntityUid → EntityUid → Bool) → Decides W.parents above → HasOneAnswerAtMost W
+OneAnswerAtMost =
+    (W : Entities) (above : EntityUid → EntityUid → Bool) → Decides W.parents above → HasOneAnswerAtMost W
 
 -- `OneAnswerInFiniteHierarchies`: a request has exactly one answer, if finitely many entities have parents.
 abbrev pub OneAnswerInFiniteHierarchies : Type 0
-OneAnswerInFiniteHierarchies = (W : World) (stored : List EntityUid) → HaveAllParents W.parents stored → HasOneAnswer W
+OneAnswerInFiniteHierarchies =
+    (W : Entities) (stored : List EntityUid) → HaveAllParents W.parents stored → HasOneAnswer W
 
 -- ---- decisions
 
 -- `IsSatisfied W q effect p` holds if `p` has this effect and is satisfied.
-abbrev pub IsSatisfied : World → Request → Effect → NamedPolicy → Type 0
+abbrev pub IsSatisfied : Entities → Request → Effect → NamedPolicy → Type 0
 IsSatisfied W q effect p = (p.policy.effect ≡ effect) × PolicyEvaluatesTo W q p.policy Satisfied
 
 -- `DefaultDeny`: without a satisfied permit the request is denied.
 abbrev pub DefaultDeny : Type 0
-DefaultDeny = (W : World) (q : Request) (ps : List NamedPolicy) (a : Answer) → IsAnswer W q ps a →
+DefaultDeny = (W : Entities) (q : Request) (ps : List NamedPolicy) (a : Answer) → IsAnswer W q ps a →
     ((p : NamedPolicy) → Contains ps p → ¬ IsSatisfied W q Permit p) → a.decision ≡ Deny
 
 -- `AreIdsOf P ps ids` holds if `ids` are those of the policies of `ps` for which `P` holds, in order, one for each
@@ -62,7 +64,7 @@ pub data AreIdsOf (P : NamedPolicy → Type 0) : List NamedPolicy → List (List
 
 -- `AreErrorsOf W q ps errors` holds if `errors` are those of the erroring policies of `ps`, in order, each with its
 -- error.
-pub data AreErrorsOf (W : World) (q : Request) : List NamedPolicy → List ErringPolicy → Type 0 where
+pub data AreErrorsOf (W : Entities) (q : Request) : List NamedPolicy → List ErringPolicy → Type 0 where
   no_error : AreErrorsOf W q [] []
   its_error : {p : NamedPolicy} {ps : List NamedPolicy} {errors : List ErringPolicy} {error : PolicyError}
       → PolicyEvaluatesTo W q p.policy (Errs error) → AreErrorsOf W q ps errors
@@ -72,12 +74,12 @@ pub data AreErrorsOf (W : World) (q : Request) : List NamedPolicy → List Errin
       → AreErrorsOf W q (p ∷ ps) errors
 
 -- `IsAcyclic W` holds if no entity is cyclic.
-abbrev pub IsAcyclic : World → Type 0
+abbrev pub IsAcyclic : Entities → Type 0
 IsAcyclic W = (uid : EntityUid) → ¬ IsAncestor W.parents uid uid
 
 -- `ForbidDecides`: a satisfied forbid denies; and if no entity is cyclic, the satisfied forbids determine the answer.
 abbrev pub ForbidDecides : Type 0
-ForbidDecides = (W : World) (above : EntityUid → EntityUid → Bool) → Decides W.parents above →
+ForbidDecides = (W : Entities) (above : EntityUid → EntityUid → Bool) → Decides W.parents above →
     (q : Request) (ps : List NamedPolicy) (a : Answer) (p : NamedPolicy) → IsAnswer W q ps a → Contains ps p
     → IsSatisfied W q Forbid p →
     (a.decision ≡ Deny) × (IsAcyclic W → AreIdsOf (IsSatisfied W q Forbid) ps a.reason)
@@ -85,7 +87,7 @@ ForbidDecides = (W : World) (above : EntityUid → EntityUid → Bool) → Decid
 -- `PermitsDecide`: if no forbid is satisfied and no entity is cyclic, the request is allowed if and only if some
 -- permit is satisfied, and the satisfied permits determine the answer.
 abbrev pub PermitsDecide : Type 0
-PermitsDecide = (W : World) (above : EntityUid → EntityUid → Bool) → Decides W.parents above →
+PermitsDecide = (W : Entities) (above : EntityUid → EntityUid → Bool) → Decides W.parents above →
     (q : Request) (ps : List NamedPolicy) (a : Answer) → IsAnswer W q ps a → IsAcyclic W
     → ((p : NamedPolicy) → Contains ps p → ¬ IsSatisfied W q Forbid p) →
     ((a.decision ≡ Allow) ↔ ((p : NamedPolicy) × Contains ps p × IsSatisfied W q Permit p))
@@ -93,25 +95,25 @@ PermitsDecide = (W : World) (above : EntityUid → EntityUid → Bool) → Decid
 
 -- `ErrorsAreReported`: if no entity is cyclic, the errors are those of exactly the erroring policies.
 abbrev pub ErrorsAreReported : Type 0
-ErrorsAreReported = (W : World) (above : EntityUid → EntityUid → Bool) → Decides W.parents above →
+ErrorsAreReported = (W : Entities) (above : EntityUid → EntityUid → Bool) → Decides W.parents above →
     (q : Request) (ps : List NamedPolicy) (a : Answer) → IsAnswer W q ps a → IsAcyclic W → AreErrorsOf W q ps a.errors
 
 -- ---- policies that may be removed
 
 -- `IsIdle W q p` holds if `p` is neither satisfied nor erroring.
-pub record IsIdle (W : World) (q : Request) (p : NamedPolicy) : Type 0 where
+pub record IsIdle (W : Entities) (q : Request) (p : NamedPolicy) : Type 0 where
   pub satisfied : ¬ PolicyEvaluatesTo W q p.policy Satisfied
   pub erring : (error : PolicyError) → ¬ PolicyEvaluatesTo W q p.policy (Errs error)
 
 -- `IdleChangesNothing`: removing an idle policy changes no answer, whatever its position.
 abbrev pub IdleChangesNothing : Type 0
-IdleChangesNothing = (W : World) (above : EntityUid → EntityUid → Bool) → Decides W.parents above →
+IdleChangesNothing = (W : Entities) (above : EntityUid → EntityUid → Bool) → Decides W.parents above →
     (q : Request) (front back : List NamedPolicy) (p : NamedPolicy) (a : Answer) → IsIdle W q p →
     IsAnswer W q (front ++ p ∷ back) a ↔ IsAnswer W q (front ++ back) a
 
 -- `LeavingOutChangesNothing`: removing all policies that a test does not keep changes no answer, if these are idle.
 abbrev pub LeavingOutChangesNothing : Type 0
-LeavingOutChangesNothing = (W : World) (above : EntityUid → EntityUid → Bool) → Decides W.parents above →
+LeavingOutChangesNothing = (W : Entities) (above : EntityUid → EntityUid → Bool) → Decides W.parents above →
     (q : Request) (ps : List NamedPolicy) (kept : NamedPolicy → Bool) (a : Answer)
     → ((p : NamedPolicy) → Contains ps p → kept p ≡ false → IsIdle W q p) →
     IsAnswer W q ps a ↔ IsAnswer W q (filter kept ps) a
@@ -132,7 +134,7 @@ pub record AreAlike (a b : Answer) : Type 0 where
 
 -- `OrderDoesNotMatter`: whatever the order of the policies, and however often each occurs, the answers are alike.
 abbrev pub OrderDoesNotMatter : Type 0
-OrderDoesNotMatter = (W : World) (above : EntityUid → EntityUid → Bool) → Decides W.parents above →
+OrderDoesNotMatter = (W : Entities) (above : EntityUid → EntityUid → Bool) → Decides W.parents above →
     (q : Request) (ps others : List NamedPolicy) (a b : Answer) → HaveSameMembers ps others → IsAnswer W q ps a
     → IsAnswer W q others b → AreAlike a b
 
@@ -143,6 +145,6 @@ AreIdsAscending ids = IsStrictlySortedBy text_cmp ids
 -- `ListsAscend`: if the ids of the policies ascend strictly, so do those of the determining and of the erroring
 -- policies.
 abbrev pub ListsAscend : Type 0
-ListsAscend = (W : World) (q : Request) (ps : List NamedPolicy) (a : Answer) → AreIdsAscending (map (λ p. p.id) ps)
+ListsAscend = (W : Entities) (q : Request) (ps : List NamedPolicy) (a : Answer) → AreIdsAscending (map (λ p. p.id) ps)
     → IsAnswer W q ps a →
     AreIdsAscending a.reason × AreIdsAscending (map (λ e. e.policy) a.errors)

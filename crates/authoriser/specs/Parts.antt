@@ -13,17 +13,17 @@ use Rattle.scope_index.specs.policy_grammar.declared.policy.Policy.{Policy}
 use Rattle.scope_index.specs.policy_grammar.declared.policy.Scope.{Scope}
 use Rattle.scope_index.specs.policy_grammar.Whole.{entity_part, action_part, expression_of}
 use Rattle.evaluator.specs.declared.fault.EvalFault.{EvalFault}
-use Rattle.evaluator.specs.Operators.{World}
+use Rattle.evaluator.specs.Operators.{Entities}
 use Rattle.evaluator.specs.Evaluation.{EvaluatesTo, TestFails}
 use Rattle.evaluator.specs.ancestor_search.Hierarchy.{IsIn}
 use Rattle.scope_index.specs.Scopes.{IsEntityScopeTrue, IsActionScopeTrue, IsScopeTrue}
 
 -- `GivesWhether W q x P` holds if `x` evaluates to the boolean that says whether `P` holds.
-abbrev pub GivesWhether : World → Request → Expr → Type 0 → Type 0
+abbrev pub GivesWhether : Entities → Request → Expr → Type 0 → Type 0
 GivesWhether W q x P = (P → EvaluatesTo W q x (Ok (boolean true))) × (¬ P → EvaluatesTo W q x (Ok (boolean false)))
 
 -- `PartsDecide W q scope` holds if each part of `scope` evaluates to whether it is true.
-pub record PartsDecide (W : World) (q : Request) (scope : Scope) : Type 0 where
+pub record PartsDecide (W : Entities) (q : Request) (scope : Scope) : Type 0 where
   pub principal : GivesWhether W q (entity_part Principal scope.principal)
       (IsEntityScopeTrue (IsIn W.parents q.principal) scope.principal q.principal)
   pub action : GivesWhether W q (action_part scope.action)
@@ -33,23 +33,23 @@ pub record PartsDecide (W : World) (q : Request) (scope : Scope) : Type 0 where
 
 -- `ConditionDecides W q policy` holds if the policy evaluates to what its condition does as a test, its errors
 -- included.
-pub record ConditionDecides (W : World) (q : Request) (policy : Policy) : Type 0 where
+pub record ConditionDecides (W : Entities) (q : Request) (policy : Policy) : Type 0 where
   pub gives : (t : Bool) → EvaluatesTo W q policy.condition (Ok (boolean t))
       → EvaluatesTo W q (expression_of policy) (Ok (boolean t))
   pub errs : (e : EvalFault) → TestFails W q policy.condition e → EvaluatesTo W q (expression_of policy) (Err e)
 
 -- `ScopesDoNotErr`: no part of a scope errors.
 abbrev pub ScopesDoNotErr : Type 0
-ScopesDoNotErr = (W : World) (q : Request) (scope : Scope) → PartsDecide W q scope
+ScopesDoNotErr = (W : Entities) (q : Request) (scope : Scope) → PartsDecide W q scope
 
 -- `TrueScopesLeaveToConditions`: if the scope is true, the condition decides.
 abbrev pub TrueScopesLeaveToConditions : Type 0
-TrueScopesLeaveToConditions = (W : World) (q : Request) (policy : Policy) → IsScopeTrue W.parents policy.scope q
+TrueScopesLeaveToConditions = (W : Entities) (q : Request) (policy : Policy) → IsScopeTrue W.parents policy.scope q
     → ConditionDecides W q policy
 
 -- `OtherScopesGiveFalse`: a policy whose scope is not true evaluates to false, whatever its condition, if a test
 -- decides the ancestor relation.
 abbrev pub OtherScopesGiveFalse : Type 0
-OtherScopesGiveFalse = (W : World) (above : EntityUid → EntityUid → Bool) → Decides W.parents above
+OtherScopesGiveFalse = (W : Entities) (above : EntityUid → EntityUid → Bool) → Decides W.parents above
     → (q : Request) (policy : Policy) →
     ¬ IsScopeTrue W.parents policy.scope q → EvaluatesTo W q (expression_of policy) (Ok (boolean false))

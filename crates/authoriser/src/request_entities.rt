@@ -1,7 +1,7 @@
 //! A request's three entities, with their ancestors and attributes, looked up once.
 ghost use Rattle.std.specs.Prelude.{◌↔◌, ⊤, IsTrue, IfOk, MatchOption};
 ghost use Rattle.evaluator.specs.ancestor_search.Hierarchy.{Parents, IsAscending, names};
-ghost use Rattle.evaluator.specs.Operators.{World, world_of};
+ghost use Rattle.evaluator.specs.Operators.{Entities, world_of};
 ghost use Rattle.authoriser.specs.inner.Views.{IsWithin, HasItsAncestors, HasRequestAncestors, AllHaveTheirAncestors};
 ghost use Rattle.authoriser.specs.inner.Views.{HasItsAttributes, HasRequestAttributes, AllHaveTheirAttributes};
 
@@ -90,7 +90,7 @@ impl<'a> RequestEntities<'a> {
             (λ p. (parents : Parents) → AllHaveTheirAncestors parents self.now
             → HasItsAncestors parents uid.now p.now) }
         ensures attributes { MatchOption result ⊤
-            (λ p. (W : World) → AllHaveTheirAttributes W self.now → HasItsAttributes W uid.now p.now) }
+            (λ p. (W : Entities) → AllHaveTheirAttributes W self.now → HasItsAttributes W uid.now p.now) }
     {
         if self.principal.uid.same(uid) {
             return Some(&self.principal);

@@ -3,7 +3,7 @@ use Rattle.std.proofs.Common.{◌≡◌, ℕ, List, map, string_bytes, String, G
 use Rattle.std.specs.Prelude.{⊤, IfOk, IfErr, MatchResult}
 use Rattle.values.specs.declared.request.Request.{Request}
 use Rattle.answer_lines.specs.policy_grammar.declared.policy.Policy.{Policy}
-use Rattle.entity_data.specs.evaluator.Operators.{World}
+use Rattle.entity_data.specs.evaluator.Operators.{Entities}
 use Rattle.answer_lines.specs.authoriser.declared.answer.Answer.{Answer}
 use Rattle.answer_lines.specs.authoriser.Answers.{NamedPolicy, IsAnswer}
 use Rattle.entity_data.specs.Keeping.{Entries}
@@ -20,7 +20,7 @@ use Rattle.decision_texts.specs.inner.Stores.{Keeps, world_held, IsLineTo}
 use Rattle.decision_texts.proofs.StoreLemmas.{held_world}
 
 -- what is tried is in order
-pub in_order_answered : {E : Type 0} (policies tried ordered : List NamedPolicy) (W : World) (q : Request) (result : Result Answer E) → tried ≡ ordered
+pub in_order_answered : {E : Type 0} (policies tried ordered : List NamedPolicy) (W : Entities) (q : Request) (result : Result Answer E) → tried ≡ ordered
     → IsInOrder policies ordered → IfOk result (IsAnswer W q tried) → IfOk result (IsAnswerTo policies W q)
 in_order_answered policies tried ordered W q (Ok a) same order is =
     record { ordered = ordered; order = order; is = subst (λ (ps : List NamedPolicy). IsAnswer W q ps a) same is }
@@ -50,7 +50,7 @@ module _ (r : Reading) where
     asked = to.asked;
     question = to.question;
     answer = to.told.answer;
-    answers = subst (λ (W : World). IsAnswerTo policies W to.asked to.told.answer) (held_world r store kept.entities kept.held) to.told.answers;
+    answers = subst (λ (W : Entities). IsAnswerTo policies W to.asked to.told.answer) (held_world r store kept.entities kept.held) to.told.answers;
     line_is = to.told.line_is;
   }
 

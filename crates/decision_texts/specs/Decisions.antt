@@ -11,7 +11,7 @@ use Rattle.std.specs.Cmp.Lexicographic.{slice_cmp}
 use Rattle.std.specs.Str.{IsUtf8}
 use Rattle.values.specs.declared.request.Request.{Request}
 use Rattle.entity_data.specs.ancestor_search.Decided.{is_same}
-use Rattle.entity_data.specs.evaluator.Operators.{World}
+use Rattle.entity_data.specs.evaluator.Operators.{Entities}
 use Rattle.entity_data.specs.declared.entity.Entity.{Entity}
 use Rattle.entity_data.specs.Entities.{EntityMap, Actions, with_actions, world_in}
 use Rattle.entity_data.specs.Keeping.{data_of}
@@ -88,12 +88,12 @@ stated [] q = None
 stated (e ∷ es) q = if is_same e.uid q then Some (data_of e) else stated es q
 
 -- `world_with actions es` are these entities, and the declared actions.
-abbrev pub world_with : Actions → List Entity → World
+abbrev pub world_with : Actions → List Entity → Entities
 world_with actions es = world_in (with_actions actions (stated es))
 
 -- `IsAnswerTo policies W asked answer` holds if `answer` is the answer over these policies, in the order of their
 -- names.
-pub record IsAnswerTo (policies : List NamedPolicy) (W : World) (asked : Request) (answer : Answer) : Type 0 where
+pub record IsAnswerTo (policies : List NamedPolicy) (W : Entities) (asked : Request) (answer : Answer) : Type 0 where
   pub ordered : List NamedPolicy
   pub order : IsInOrder policies ordered
   pub is : IsAnswer W asked ordered answer

@@ -16,7 +16,7 @@ use crate::policies::admitted_policies;
 use crate::question::request_in;
 use crate::setting::Setting;
 use answer_lines::{Answer, Policy, Refusal, answer_line, decide};
-use entity_data::{EntityStore, World};
+use entity_data::{Entities, EntityStore};
 use plain::NoMemory;
 use std::alloc::Global;
 use values::Request;
@@ -60,7 +60,7 @@ fn answer_over<S: Setting>(
     ensures { IfOk result
         (IsAnswer (world_held (S.reading setting.now) store.now) request.now (named policies.now)) }
 {
-    let world = World::new(alloc, store, setting.actions());
+    let world = Entities::new(alloc, store, setting.actions());
     decide(alloc, policies, request, &world)
 }
 

@@ -20,7 +20,7 @@ mod uid_set;
 pub use canonical::canonical_text;
 pub use canonical_laws::{canonical_texts_are_read, json_texts_are_utf8};
 pub use contexts::read_context;
-pub use entity_data::{ActionSource, Entity, EntitySource, EntityStore, NoActions, World};
+pub use entity_data::{ActionSource, Entities, Entity, EntitySource, EntityStore, NoActions};
 pub use entity_values::{ActionScope, EntityScope, Policy, Scope};
 pub use fault::EntityFault;
 pub use laws::{action_types_are_told, entities_read_back, requests_have_one_outcome};

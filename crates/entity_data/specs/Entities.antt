@@ -6,7 +6,7 @@
 use Rattle.std.specs.Prelude.{◌↔◌, List, [], ◌++◌, Contains, Option, Some, None, IsSome}
 use Rattle.values.specs.declared.entity_uid.EntityUid.{EntityUid}
 use Rattle.values.specs.Fields.{Field}
-use Rattle.evaluator.specs.Operators.{World, world_of}
+use Rattle.evaluator.specs.Operators.{Entities, world_of}
 use Rattle.entity_data.specs.UidSets.{uid_set}
 use Rattle.entity_data.specs.declared.data.EntityData.{EntityData}
 
@@ -25,7 +25,7 @@ kept_parents None = []
 kept_parents (Some e) = e.parents
 
 -- `world_in entities` are the attributes and the parents of each entity, as evaluation sees them.
-abbrev pub world_in : EntityMap → World
+abbrev pub world_in : EntityMap → Entities
 world_in entities = world_of (λ u. attributes_of (entities u)) (λ u. kept_parents (entities u))
 
 -- `AreListed entities us` holds if `us` are the uids that have data.

@@ -18,4 +18,4 @@ pub use entity::Entity;
 pub use evaluator::ascending_lists_are_one;
 pub use source::EntitySource;
 pub use store::EntityStore;
-pub use world::World;
+pub use world::Entities;

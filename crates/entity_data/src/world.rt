@@ -20,7 +20,7 @@ use values::{EntityUid, Record};
 ///
 /// Contracts see the source and the actions; `with_actions` defines the entities of both.
 #[derive(Drop)]
-pub struct World<'a, S: EntitySource, A: ActionSource + Drop> {
+pub struct Entities<'a, S: EntitySource, A: ActionSource + Drop> {
     alloc: Global,
     /// The source and the actions, as the search for cycles sees them.
     alone: Alone<'a, S, A>,
@@ -28,7 +28,7 @@ pub struct World<'a, S: EntitySource, A: ActionSource + Drop> {
     nothing: Record,
 }
 
-impl<'a, S: EntitySource, A: ActionSource + Drop> Model for World<'a, S, A> {
+impl<'a, S: EntitySource, A: ActionSource + Drop> Model for Entities<'a, S, A> {
     ghost use Rattle.std.specs.Prelude.{◌≡◌, []};
 
     ghost Value = { S × A };
@@ -38,12 +38,12 @@ impl<'a, S: EntitySource, A: ActionSource + Drop> Model for World<'a, S, A> {
     ghost invariant = { λ w. w.nothing ≡ [] };
 }
 
-impl<'a, S: EntitySource, A: ActionSource + Drop> World<'a, S, A> {
+impl<'a, S: EntitySource, A: ActionSource + Drop> Entities<'a, S, A> {
     /// Creates the entity data of a source and these actions. Does not allocate.
     pub fn new(alloc: Global, source: &'a S, actions: A) -> Self
         ensures { result ≡ (source.now, actions) }
     {
-        World {
+        Entities {
             alloc,
             alone: Alone { source, actions },
             nothing: Record::new(alloc),
@@ -58,7 +58,7 @@ impl<'a, S: EntitySource, A: ActionSource + Drop> World<'a, S, A> {
     }
 }
 
-impl<S: EntitySource, A: ActionSource + Drop> ParentsOf for World<'_, S, A> {
+impl<S: EntitySource, A: ActionSource + Drop> ParentsOf for Entities<'_, S, A> {
     ghost parents = { λ w u. kept_parents (with_actions (A.declared w.1) (S.kept w.0) u) };
 
     fn parents_of(&self, uid: &EntityUid) -> &[EntityUid] {
@@ -69,7 +69,7 @@ impl<S: EntitySource, A: ActionSource + Drop> ParentsOf for World<'_, S, A> {
     }
 }
 
-impl<S: EntitySource, A: ActionSource + Drop> Graph for World<'_, S, A> {
+impl<S: EntitySource, A: ActionSource + Drop> Graph for Entities<'_, S, A> {
     ghost stored = { λ w. uids_with (A.uids w.1) (S.uids w.0) };
 
     ghost has_all = { λ w.
@@ -80,7 +80,7 @@ impl<S: EntitySource, A: ActionSource + Drop> Graph for World<'_, S, A> {
     }
 }
 
-impl<S: EntitySource, A: ActionSource + Drop> Ancestry for World<'_, S, A> {
+impl<S: EntitySource, A: ActionSource + Drop> Ancestry for Entities<'_, S, A> {
     ghost parents = { λ w u. kept_parents (with_actions (A.declared w.1) (S.kept w.0) u) };
 
     ghost above = { λ w. reaches (λ u. kept_parents (with_actions (A.declared w.1) (S.kept w.0) u))
@@ -108,7 +108,7 @@ impl<S: EntitySource, A: ActionSource + Drop> Ancestry for World<'_, S, A> {
     }
 }
 
-impl<S: EntitySource, A: ActionSource + Drop> Lookup for World<'_, S, A> {
+impl<S: EntitySource, A: ActionSource + Drop> Lookup for Entities<'_, S, A> {
     ghost stored = { λ w u. attributes_of (with_actions (A.declared w.1) (S.kept w.0) u) };
 
     fn attrs_of(&self, uid: &EntityUid) -> Option<&Record> {

@@ -7,7 +7,7 @@ use Rattle.values.specs.Names.{uid_cmp}
 use Rattle.authoriser.specs.ancestor_search.Hierarchy.{Parents, Path, IsAncestor, IsOnCycle, no_parents, with_parents}
 use Rattle.authoriser.specs.ancestor_search.Deciding.{Contains-here, Contains-there, Contains-none, same_uid}
 use Rattle.authoriser.specs.ancestor_search.Deciding.{IsAncestor-joined}
-use Rattle.entities.specs.schema_names.Qualifying.{FoundAction, FoundSchema}
+use Rattle.entities.specs.schema_names.Qualifying.{ResolvedAction, ResolvedSchema}
 use Rattle.entities.specs.schema.Schemas.{StatedSchema, Answers, IsAction, action_parents}
 use Rattle.entities.specs.schema.Schemas.{with_actions as with_action_parents}
 use Rattle.entities.specs.schema.WellFormed.{IsWellFormed}
@@ -20,27 +20,27 @@ use Rattle.entity_hierarchy.proofs.PutLemmas.{cycles_alike}
 
 -- ---- what has a parent by `memberOf` is a declared action
 
-abbrev IsDeclaredAmong : List FoundAction → EntityUid → Type 0
-IsDeclaredAmong us b = (x : FoundAction) × Contains us x × (x.uid ≡ b)
+abbrev IsDeclaredAmong : List ResolvedAction → EntityUid → Type 0
+IsDeclaredAmong us b = (x : ResolvedAction) × Contains us x × (x.uid ≡ b)
 
-first_or : (x : FoundAction) (us : List FoundAction) (before : List EntityUid) (b a : EntityUid) (own : Bool) → is_eq (uid_cmp x.uid b) ≡ own
+first_or : (x : ResolvedAction) (us : List ResolvedAction) (before : List EntityUid) (b a : EntityUid) (own : Bool) → is_eq (uid_cmp x.uid b) ≡ own
     → Contains (if own then x.parents else before) a → IsDeclaredAmong (x ∷ us) b ⊎ Contains before a
 first_or x us before b a true e h = inl (x, Contains-here x us, same_uid x.uid b e)
 first_or x us before b a false e h = inr h
 
-declared_or : (parents : Parents) (us : List FoundAction) (b a : EntityUid) → Contains (with_action_parents parents us b) a → IsDeclaredAmong us b ⊎ Contains (parents b) a
+declared_or : (parents : Parents) (us : List ResolvedAction) (b a : EntityUid) → Contains (with_action_parents parents us b) a → IsDeclaredAmong us b ⊎ Contains (parents b) a
 declared_or parents [] b a h = inr h
 declared_or parents (x ∷ us) b a h = elim (declared_or (with_parents parents x.uid x.parents) us b a h) [
   | inl there ↦ inl (there.0, Contains-there x us there.0 there.1, there.2)
   | inr before ↦ first_or x us (parents b) b a (is_eq (uid_cmp x.uid b)) refl before
 ]
 
-pub is_declared : (s : FoundSchema) (b a : EntityUid) → Contains (action_parents s b) a → IsAction s b
+pub is_declared : (s : ResolvedSchema) (b a : EntityUid) → Contains (action_parents s b) a → IsAction s b
 is_declared s b a h = elim (declared_or no_parents s.actions b a h) [ inl there ↦ there | inr none ↦ Contains-none a none ]
 
 -- ---- the two hierarchies
 
-module _ (s : FoundSchema) (v : StatedSchema) (answers : Answers s v) (entities : EntityMap) where
+module _ (s : ResolvedSchema) (v : StatedSchema) (answers : Answers s v) (entities : EntityMap) where
   abbrev P : Parents
   P = (stated_world s v entities).parents
 

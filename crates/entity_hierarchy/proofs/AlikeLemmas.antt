@@ -12,7 +12,7 @@ use Rattle.authoriser.specs.grammar_core.declared.operator.Binary.{Binary}
 use Rattle.authoriser.specs.evaluator.declared.fault.EvalFault.{EvalFault}
 use Rattle.authoriser.specs.evaluator.Outcomes.{EvaluationResult, IsTruthOf, holds, fails}
 use Rattle.authoriser.specs.evaluator.Operators as op
-use Rattle.authoriser.specs.evaluator.Operators.{World, world_of, BinaryGives, FieldGives, HasGives}
+use Rattle.authoriser.specs.evaluator.Operators.{Entities, world_of, BinaryGives, FieldGives, HasGives}
 use Rattle.authoriser.specs.evaluator.Evaluation as rule
 use Rattle.authoriser.specs.evaluator.Evaluation.{EvaluatesTo, TestFails, EachEvaluatesTo}
 use Rattle.authoriser.specs.policy_grammar.Whole.{expression_of}
@@ -52,10 +52,10 @@ least_stays P Q alike same (c ∷ cs) h = record {
 -- ---- what expressions give
 
 module _ (stored : EntityUid → Option (List Field)) (P Q : Parents) (alike : LeadAlike P Q) where
-  abbrev W : World
+  abbrev W : Entities
   W = world_of stored P
 
-  abbrev V : World
+  abbrev V : Entities
   V = world_of stored Q
 
   into : (a b : EntityUid) → IsIn W.parents a b → IsIn V.parents a b

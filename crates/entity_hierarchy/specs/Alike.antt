@@ -6,7 +6,7 @@ use Rattle.authoriser.specs.ancestor_search.Hierarchy.{Parents, IsAncestor}
 use Rattle.authoriser.specs.ancestor_search.LeastCycle.{IsClosedWalk}
 use Rattle.authoriser.specs.grammar_core.declared.expr.Expr.{Expr}
 use Rattle.authoriser.specs.evaluator.Outcomes.{EvaluationResult}
-use Rattle.authoriser.specs.evaluator.Operators.{World}
+use Rattle.authoriser.specs.evaluator.Operators.{Entities}
 use Rattle.authoriser.specs.evaluator.Evaluation.{EvaluatesTo}
 use Rattle.authoriser.specs.declared.answer.Answer.{Answer}
 use Rattle.authoriser.specs.Answers.{NamedPolicy, IsAnswer}
@@ -20,10 +20,10 @@ abbrev pub HaveSameCycles : Parents → Parents → Type 0
 HaveSameCycles parents others = (walk : List EntityUid) → IsClosedWalk parents walk ↔ IsClosedWalk others walk
 
 -- `GiveAlike W V` holds if each expression has the same outcome.
-abbrev pub GiveAlike : World → World → Type 0
+abbrev pub GiveAlike : Entities → Entities → Type 0
 GiveAlike W V = (q : Request) (x : Expr) (r : EvaluationResult) → EvaluatesTo W q x r ↔ EvaluatesTo V q x r
 
 -- `AnswerAlike W V` holds if each request has the same answer, over any policies.
-abbrev pub AnswerAlike : World → World → Type 0
+abbrev pub AnswerAlike : Entities → Entities → Type 0
 AnswerAlike W V = (q : Request) (policies : List NamedPolicy) (a : Answer)
     → IsAnswer W q policies a ↔ IsAnswer V q policies a

@@ -7,8 +7,8 @@ use Rattle.values.specs.declared.entity_uid.EntityUid.{EntityUid}
 use Rattle.values.specs.Fields.{Field}
 use Rattle.authoriser.specs.ancestor_search.Hierarchy.{Parents, IsOnCycle, with_parents}
 use Rattle.authoriser.specs.ancestor_search.LeastCycle.{HasNoCycle}
-use Rattle.authoriser.specs.evaluator.Operators.{World, world_of}
-use Rattle.entities.specs.schema_names.Qualifying.{FoundSchema}
+use Rattle.authoriser.specs.evaluator.Operators.{Entities, world_of}
+use Rattle.entities.specs.schema_names.Qualifying.{ResolvedSchema}
 use Rattle.entities.specs.schema.Schemas.{StatedSchema, IsSchemaOf, action_parents}
 use Rattle.entities.specs.entity_data.declared.entity.Entity.{Entity}
 use Rattle.entities.specs.Entities.{entity_stated_in}
@@ -25,15 +25,15 @@ ReachDecides = (stored : EntityUid → Option (List Field)) (parents others : Pa
     × (HasNoCycle parents → HaveSameCycles parents others)
 
 -- `by_member_of s v` are the actions of a schema, each with the parents that its `memberOf` states.
-abbrev pub by_member_of : FoundSchema → StatedSchema → Actions
+abbrev pub by_member_of : ResolvedSchema → StatedSchema → Actions
 by_member_of s v u = option_map (λ above. action_parents s u) (v.ancestors u)
 
 -- `stated_world` and `closed_world` are the entity data with these actions, and with all ancestors of an action as
 -- its parents.
-abbrev pub stated_world : FoundSchema → StatedSchema → EntityMap → World
+abbrev pub stated_world : ResolvedSchema → StatedSchema → EntityMap → Entities
 stated_world s v entities = world_in (with_actions (by_member_of s v) entities)
 
-abbrev pub closed_world : StatedSchema → EntityMap → World
+abbrev pub closed_world : StatedSchema → EntityMap → Entities
 closed_world v entities = world_in (with_actions v.ancestors entities)
 
 -- `MemberOfIsKept`: the stored parents of an action under a schema are those that its `memberOf` states.

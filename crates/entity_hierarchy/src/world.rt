@@ -8,15 +8,15 @@ use std::alloc::Global;
 /// The entities of a source, and the actions of a schema.
 ///
 /// Contracts see the source and the schema; `entities_under` defines the entities of both.
-pub type World<'a, S> = entities::World<'a, S, SchemaActions<'a>>;
+pub type Entities<'a, S> = entities::Entities<'a, S, SchemaActions<'a>>;
 
 /// Creates the entity data of a source and the actions of this schema. Does not allocate.
 pub fn world_under<'a, S: EntitySource>(
     alloc: Global,
     source: &'a S,
     schema: &'a Schema,
-) -> World<'a, S>
+) -> Entities<'a, S>
     ensures { result ≡ (source.now, schema.now) }
 {
-    entities::World::new(alloc, source, SchemaActions::of(schema))
+    entities::Entities::new(alloc, source, SchemaActions::of(schema))
 }

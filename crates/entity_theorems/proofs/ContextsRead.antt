@@ -8,8 +8,8 @@ use Rattle.serde_json.specs.Find.{get}
 use Rattle.json_words.specs.ReadsAs.{◌>>=◌, or_fault}
 use Rattle.values.specs.declared.entity_uid.EntityUid.{EntityUid}
 use Rattle.values.specs.Fields.{Field}
-use Rattle.entity_values.specs.declared.fault.ValueFault.{ValueFault}
-use Rattle.entity_values.specs.Typing.{record_in}
+use Rattle.entities.specs.entity_values.declared.fault.ValueFault.{ValueFault}
+use Rattle.entities.specs.entity_values.Typing.{record_in}
 use Rattle.entity_data.specs.ancestor_search.Decided.{is_same}
 use Rattle.entities.specs.schema_types.Cedar.{Cedar}
 use Rattle.entities.specs.schema.declared.parts.Place.{Place}

@@ -11,8 +11,8 @@ use Rattle.serde_json.specs.Data as json
 use Rattle.serde_json.specs.Find.{get_member}
 use Rattle.entities.specs.schema_types.Cedar as type
 use Rattle.entities.specs.schema_types.Cedar.{Cedar, CedarFields}
-use Rattle.entity_values.specs.Parts.{declared_at}
-use Rattle.entity_values.specs.Typing.{all_there}
+use Rattle.entities.specs.entity_values.Parts.{declared_at}
+use Rattle.entities.specs.entity_values.Typing.{all_there}
 use Rattle.entity_theorems.specs.Values.{Declares, Requires, HasKey, HasRequired, LacksRequired}
 use Rattle.entity_theorems.specs.Values as stated
 use Rattle.entity_theorems.proofs.Steps.{some_is, true_false, same_bytes, bytes_same, untrue}

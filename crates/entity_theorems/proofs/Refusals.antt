@@ -14,15 +14,15 @@ use Rattle.values.specs.Values.{PlainValue, PlainFields, values_of, fields_of, p
 use Rattle.values.specs.Fields.{Field}
 use Rattle.values.specs.Sets.{set_list}
 use Rattle.values.specs.extensions.TextsDecided.{decimal_of, network_of}
-use Rattle.entity_values.specs.entity_uids.Uids.{uid_in}
-use Rattle.entity_values.specs.declared.fault.ValueFault.{ValueFault}
-use Rattle.entity_values.specs.declared.fault.ValueFault.TheVariants.{WrongType, Undeclared, Missing}
+use Rattle.entities.specs.entity_values.entity_uids.Uids.{uid_in}
+use Rattle.entities.specs.entity_values.declared.fault.ValueFault.{ValueFault}
+use Rattle.entities.specs.entity_values.declared.fault.ValueFault.TheVariants.{WrongType, Undeclared, Missing}
 use Rattle.entities.specs.schema_types.Cedar as type
 use Rattle.entities.specs.schema_types.Cedar.{Cedar, CedarFields}
-use Rattle.entity_values.specs.Parts.{declared_at, element_of, fields_in}
-use Rattle.entity_values.specs.Typing.{all_there, inside, with_or, typed_value, typed_items, typed_members, record_in, leaf}
-use Rattle.entity_values.specs.Typing.{under_key, plain_call, call_in, argument_or_call, argument_in, boolean_in, is_long, long_of, long_in}
-use Rattle.entity_values.specs.Typing.{text_in, entity_in, decimal_in, ipaddr_in}
+use Rattle.entities.specs.entity_values.Parts.{declared_at, element_of, fields_in}
+use Rattle.entities.specs.entity_values.Typing.{all_there, inside, with_or, typed_value, typed_items, typed_members, record_in, leaf}
+use Rattle.entities.specs.entity_values.Typing.{under_key, plain_call, call_in, argument_or_call, argument_in, boolean_in, is_long, long_of, long_in}
+use Rattle.entities.specs.entity_values.Typing.{text_in, entity_in, decimal_in, ipaddr_in}
 use Rattle.entity_theorems.specs.Values.{Declares, Reads, ReadMembers, FaultyMember, RefusesRecord}
 use Rattle.entity_theorems.specs.Values as says
 use Rattle.entity_theorems.specs.Laws.{ValuesAreRead, OneValue, OtherJsonIsOfWrongType, RecordsAreRead, RecordsAreRefused}

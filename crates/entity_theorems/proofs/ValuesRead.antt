@@ -9,12 +9,12 @@ use Rattle.values.specs.Values.{PlainValue, values_of, fields_of}
 use Rattle.values.specs.Fields.{Field}
 use Rattle.values.specs.Sets.{set_list}
 use Rattle.values.proofs.Unique.{set_of, set_of_is}
-use Rattle.entity_values.specs.declared.fault.ValueFault.{ValueFault}
-use Rattle.entity_values.specs.declared.fault.ValueFault.TheVariants.{WrongType, Undeclared}
+use Rattle.entities.specs.entity_values.declared.fault.ValueFault.{ValueFault}
+use Rattle.entities.specs.entity_values.declared.fault.ValueFault.TheVariants.{WrongType, Undeclared}
 use Rattle.entities.specs.schema_types.Cedar as type
 use Rattle.entities.specs.schema_types.Cedar.{Cedar, CedarFields}
-use Rattle.entity_values.specs.Parts.{declared_at}
-use Rattle.entity_values.specs.Typing.{all_there, inside, typed_value, typed_items, typed_members, boolean_in, text_in}
+use Rattle.entities.specs.entity_values.Parts.{declared_at}
+use Rattle.entities.specs.entity_values.Typing.{all_there, inside, typed_value, typed_items, typed_members, boolean_in, text_in}
 use Rattle.entity_theorems.specs.Values.{Reads, ReadItems, ReadMembers}
 use Rattle.entity_theorems.specs.Values as says
 use Rattle.entity_theorems.proofs.Steps.{done, ok_is, some_of, passes}

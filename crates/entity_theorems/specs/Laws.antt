@@ -4,9 +4,9 @@ use Rattle.serde_json.specs.Data.{Data, Members, object}
 use Rattle.values.specs.Values.{PlainValue, record_of, fields_of}
 use Rattle.values.specs.Fields.{Field}
 use Rattle.entities.specs.schema_types.Cedar.{Cedar}
-use Rattle.entity_values.specs.declared.fault.ValueFault.{ValueFault}
-use Rattle.entity_values.specs.declared.fault.ValueFault.TheVariants.{WrongType}
-use Rattle.entity_values.specs.Typing.{typed_value, record_in}
+use Rattle.entities.specs.entity_values.declared.fault.ValueFault.{ValueFault}
+use Rattle.entities.specs.entity_values.declared.fault.ValueFault.TheVariants.{WrongType}
+use Rattle.entities.specs.entity_values.Typing.{typed_value, record_in}
 use Rattle.entities.specs.schema.Schemas.{StatedSchema}
 use Rattle.entities.specs.Entities.{entity_stated_in}
 use Rattle.entities.specs.Contexts.{context_in}

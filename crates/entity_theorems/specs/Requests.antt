@@ -8,7 +8,7 @@ use Rattle.values.specs.Fields.{Field}
 use Rattle.values.specs.Values.{record_of, fields_of}
 use Rattle.values.specs.declared.entity_uid.EntityUid.{EntityUid}
 use Rattle.values.specs.declared.request.Request.{Request}
-use Rattle.entity_values.specs.declared.fault.ValueFault.{ValueFault}
+use Rattle.entities.specs.entity_values.declared.fault.ValueFault.{ValueFault}
 use Rattle.entities.specs.schema_types.Cedar.{Cedar}
 use Rattle.entities.specs.schema.declared.parts.Place.{Place}
 use Rattle.entities.specs.schema.Schemas.{EnvironmentOf, StatedSchema}

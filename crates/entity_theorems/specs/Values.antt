@@ -17,9 +17,9 @@ use Rattle.values.specs.declared.entity_uid.EntityUid.{EntityUid}
 use Rattle.values.specs.extensions.Network.{Network}
 use Rattle.values.specs.extensions.DecimalText.{IsDecimalText}
 use Rattle.values.specs.extensions.NetworkText.{IsNetworkText}
-use Rattle.entity_values.specs.entity_uids.Uids.{IsUid}
-use Rattle.entity_values.specs.declared.fault.ValueFault.{ValueFault}
-use Rattle.entity_values.specs.declared.fault.ValueFault.TheVariants.{WrongType, Undeclared, Missing}
+use Rattle.entities.specs.entity_values.entity_uids.Uids.{IsUid}
+use Rattle.entities.specs.entity_values.declared.fault.ValueFault.{ValueFault}
+use Rattle.entities.specs.entity_values.declared.fault.ValueFault.TheVariants.{WrongType, Undeclared, Missing}
 use Rattle.entities.specs.schema_types.Cedar as type
 use Rattle.entities.specs.schema_types.Cedar.{Cedar, CedarFields}
 

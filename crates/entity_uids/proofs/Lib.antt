@@ -4,4 +4,5 @@ mod FoundLemmas
 pub mod ListLemmas
 mod NameLemmas
 pub mod Nested
+mod TwoMembers
 mod UidLemmas

@@ -6,6 +6,7 @@
 
 mod laws;
 mod names;
+mod spelling;
 mod uids;
 mod writing;
 

@@ -1,14 +1,28 @@
 //! Uids as JSON.
-ghost use Rattle.std.specs.Prelude.{◌≡◌, IfOk, map};
+ghost use Rattle.std.specs.Prelude.{◌≡◌, IfOk, MatchOption, map};
+ghost use Rattle.plain.specs.Words.{IsPath};
 ghost use Rattle.serde_json.specs.View.{view};
 ghost use Rattle.entity_uids.specs.Uids.{IsPlainUid, IsUid, IsRead, uid_in, uids_in};
 
 use crate::laws::names_read_back;
+use crate::spelling::two_texts;
 use json_words::{only_keys, text_at};
 use plain::{Items, NoMemory};
 use serde_json::Value;
 use std::alloc::Global;
 use values::{EntityUid, SharedText, TypeName};
+
+/// Returns the entity of a type's name and an id.
+fn uid_of(alloc: Global, type_name: &str, id: &str) -> Result<Option<EntityUid>, NoMemory>
+    ensures { IfOk result (λ o. MatchOption o (IsPath type_name.now → ⊥)
+        (λ u. IsPath type_name.now × (u.type_name ≡ type_name.now) × (u.id ≡ id.now))) }
+{
+    let Some(type_name) = TypeName::parse(alloc, type_name)? else {
+        return Ok(None);
+    };
+    let id = SharedText::from_str(alloc, id)?;
+    Ok(Some(EntityUid { type_name, id }))
+}
 
 /// Returns the entity of an object with a type and an id.
 fn read_plain_uid(alloc: Global, value: &Value) -> Result<Option<EntityUid>, NoMemory>
@@ -35,6 +49,9 @@ fn read_plain_uid(alloc: Global, value: &Value) -> Result<Option<EntityUid>, NoM
 fn read_either(alloc: Global, value: &Value) -> Result<Option<EntityUid>, NoMemory>
     ensures { IfOk result (IsRead (IsUid (view value.now))) }
 {
+    if let Some((id, type_name)) = two_texts(value, "id", "type") {
+        return uid_of(alloc, type_name, id);
+    }
     match value.get("__entity") {
         None => read_plain_uid(alloc, value),
         Some(inner) => {
@@ -57,14 +74,43 @@ pub fn read_uid(alloc: Global, value: &Value) -> Result<Option<EntityUid>, NoMem
     read_either(alloc, value)
 }
 
+/// Returns this uid. If the last of these uids has the same type, the result shares the string of its name.
+fn like_last(uids: &[EntityUid], uid: EntityUid) -> Result<EntityUid, NoMemory>
+    ensures { IfOk result (λ u. u ≡ uid) }
+{
+    let Some(last) = uids.last() else {
+        return Ok(uid);
+    };
+    if !last.type_name.same(&uid.type_name) {
+        return Ok(uid);
+    }
+    let type_name = last.type_name.copy()?;
+    let EntityUid { type_name: _, id } = uid;
+    Ok(EntityUid { type_name, id })
+}
+
+/// Returns the entity of a value, like the last of these uids.
+fn read_next(
+    alloc: Global,
+    uids: &[EntityUid],
+    value: &Value,
+) -> Result<Option<EntityUid>, NoMemory>
+    ensures { IfOk result (λ o. o ≡ uid_in (view value.now)) }
+{
+    match read_uid(alloc, value)? {
+        Some(uid) => Ok(Some(like_last(uids, uid)?)),
+        None => Ok(None),
+    }
+}
+
 /// Returns the entities of values, each as [`read_uid`] parses it, in order and with repeats; `None` if one of them
-/// is not a name. The only error is `NoMemory`.
+/// is not a name. Neighbours of one type share the string of its name. The only error is `NoMemory`.
 pub fn read_uids(alloc: Global, values: &[Value]) -> Result<Option<Items<EntityUid>>, NoMemory>
     ensures { IfOk result (λ o. o ≡ uids_in (map view values.now)) }
 {
     let mut uids = Vec::with_capacity(alloc, values.len())?;
     for value in values {
-        match read_uid(alloc, value)? {
+        match read_next(alloc, uids.as_slice(), value)? {
             Some(uid) => uids.push(uid)?,
             None => return Ok(None),
         }

@@ -20,7 +20,7 @@ use Rattle.grammar_core.specs.declared.expr.Expr.TheVariants as form
 use Rattle.evaluator.specs.declared.fault.EvalFault.{EvalFault}
 use Rattle.evaluator.specs.declared.fault.EvalFault.TheVariants.{TypeError}
 use Rattle.evaluator.specs.Outcomes.{EvaluationResult, boolean_in}
-use Rattle.evaluator.specs.Operators.{World}
+use Rattle.evaluator.specs.Operators.{Entities}
 use Rattle.evaluator.specs.Evaluation as rule
 use Rattle.evaluator.specs.Evaluation.{literal_value, variable_value, HasOperands, put_each, EvaluatesTo, TestFails, EachEvaluatesTo, IsSoundEvaluation, IsCompleteEvaluation}
 use Rattle.evaluator.specs.Laws.{HasOneOutcome}
@@ -58,7 +58,7 @@ one_field x xs done (Ok v) (Ok vs) = refl
 one_field x xs done (Ok v) (Err e) = refl
 one_field x xs done (Err e) n = refl
 
-module _ (L : LawsBelow) (W : World) (above : EntityUid → EntityUid → Bool) (D : Decides W.parents above) (q : Request) where
+module _ (L : LawsBelow) (W : Entities) (above : EntityUid → EntityUid → Bool) (D : Decides W.parents above) (q : Request) where
   abbrev E : DecidedWorld
   E = decided_world W.stored above
 
@@ -326,7 +326,7 @@ meanings_are_given L W above D q x = record { given = given L W above D q x; onl
 
 -- ---- so an answer is what is given
 
-module _ (W : World) (q : Request) (x : Expr) (m : EvaluationResult) (gives : GivesOnly W q x m) where
+module _ (W : Entities) (q : Request) (x : Expr) (m : EvaluationResult) (gives : GivesOnly W q x m) where
   pub answers_what_is_given : (r : EvaluationResult) → Answers r m → IsSoundEvaluation W q x r
   answers_what_is_given (Ok v) h = subst (EvaluatesTo W q x) h gives.given
   answers_what_is_given (Err e) h = λ n. subst (EvaluatesTo W q x) (h n) gives.given

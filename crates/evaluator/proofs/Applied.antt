@@ -30,7 +30,7 @@ use Rattle.evaluator.specs.Outcomes.{EvaluationResult, boolean_in, long_in, text
 use Rattle.evaluator.specs.Outcomes.{record_fields_in}
 use Rattle.ancestor_search.specs.Hierarchy.{IsIn}
 use Rattle.evaluator.specs.Operators as rule
-use Rattle.evaluator.specs.Operators.{World, UnaryGives, BinaryGives, FieldGives, HasGives, NumbersGive, TakesNumbers}
+use Rattle.evaluator.specs.Operators.{Entities, UnaryGives, BinaryGives, FieldGives, HasGives, NumbersGive, TakesNumbers}
 use Rattle.evaluator.specs.Operators.{TakesSets}
 use Rattle.evaluator.specs.inner.Computing.{DecidedWorld, decided_world, and_then, demanded, two_demanded, truth}
 use Rattle.evaluator.specs.inner.Computing.{bounded, apply_unary, is_in, in_members, in_value, numbers, sets}
@@ -136,7 +136,7 @@ attribute_is stored name _ (of_stored.attribute fs s e) = ap (λ o. attribute o 
 attribute_is stored name _ (of_stored.no_attribute fs s e) = ap (λ o. attribute o name) s ∙ ap (found_or AttrDoesNotExist) e
 attribute_is stored name _ (of_stored.not_stored s) = ap (λ o. attribute o name) s
 
-module _ (W : World) (above : EntityUid → EntityUid → Bool) (D : Decides W.parents above) where
+module _ (W : Entities) (above : EntityUid → EntityUid → Bool) (D : Decides W.parents above) where
   abbrev pub E : DecidedWorld
   E = decided_world W.stored above
 

@@ -9,11 +9,11 @@ use Rattle.ancestor_search.specs.Hierarchy.{IsAllAbove, IsIn}
 use Rattle.ancestor_search.specs.Decided.{Decides}
 use Rattle.evaluator.specs.declared.fault.EvalFault.{EvalFault}
 use Rattle.evaluator.specs.Outcomes.{entity_uid_in}
-use Rattle.evaluator.specs.Operators.{World}
+use Rattle.evaluator.specs.Operators.{Entities}
 use Rattle.evaluator.specs.inner.Computing.{DecidedWorld, decided_world, demanded, and_then, is_in, in_members}
 use Rattle.evaluator.proofs.Telling.{is_in_iff}
 
-pub within_is : (W : World) (above : EntityUid → EntityUid → Bool) → Decides W.parents above →
+pub within_is : (W : Entities) (above : EntityUid → EntityUid → Bool) → Decides W.parents above →
     (a b : EntityUid) (ancestors : List EntityUid) → IsAllAbove W.parents a ancestors →
     (found : Bool) → (IsTrue found ↔ ((a ≡ b) ⊎ Contains ancestors b)) → found ≡ is_in (decided_world W.stored above) a b
 within_is W above d a b ancestors all found tells = same_from_decides {P = IsIn W.parents a b} found (is_in (decided_world W.stored above) a b) (

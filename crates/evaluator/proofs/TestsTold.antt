@@ -10,7 +10,7 @@ use Rattle.evaluator.specs.declared.fault.EvalFault.TheVariants.{TypeError, NoMe
 use Rattle.evaluator.specs.declared.numbers.Numbers.{Numbers}
 use Rattle.evaluator.specs.Outcomes.{EvaluationResult, boolean_in}
 use Rattle.evaluator.proofs.ByKind.{boolean_cases}
-use Rattle.evaluator.specs.Operators.{World}
+use Rattle.evaluator.specs.Operators.{Entities}
 use Rattle.evaluator.specs.Evaluation.{EvaluatesTo, TestFails, test_errs, no_boolean, AnswersTest}
 use Rattle.evaluator.specs.inner.Computing.{DecidedWorld, Answers, and_then, as_test, demanded, truth, apply_binary, TellNumbers}
 
@@ -19,7 +19,7 @@ pub compare_fails : (E : DecidedWorld) (op : Binary) (found : Result Numbers Eva
 compare_fails E op found e is a b h n = ap as_test (subst (λ (r : Result Numbers EvalFault). TellNumbers r a b) is h n (apply_binary E op))
 
 -- a test is told by what the expression gives
-module _ (W : World) (q : Request) (x : Expr) where
+module _ (W : Entities) (q : Request) (x : Expr) where
   abbrev Told : PlainValue → Type 0
   Told v = EvaluatesTo W q x (Ok v) → (r : Result Bool EvalFault) → Answers r (demanded (boolean_in v)) → AnswersTest W q x r
 

@@ -13,7 +13,7 @@ use Rattle.evaluator.specs.declared.fault.EvalFault.{EvalFault}
 use Rattle.evaluator.specs.declared.fault.EvalFault.TheVariants.{EntityDoesNotExist, AttrDoesNotExist, TypeError, ArithBoundsError, ExtensionError, NoMemory}
 use Rattle.evaluator.specs.Outcomes.{EvaluationResult, IsTruthOf, holds, fails, IsChecked, fits, overflows}
 use Rattle.evaluator.specs.Operators as op
-use Rattle.evaluator.specs.Operators.{World, UnaryGives, NumbersGive, BinaryGives, FieldGives, HasGives, UnaryCallGives, BinaryCallGives}
+use Rattle.evaluator.specs.Operators.{Entities, UnaryGives, NumbersGive, BinaryGives, FieldGives, HasGives, UnaryCallGives, BinaryCallGives}
 use Rattle.evaluator.specs.Evaluation as rule
 use Rattle.evaluator.specs.Evaluation.{EvaluatesTo, TestFails, EachEvaluatesTo}
 use Rattle.evaluator.specs.Laws.{NothingWantsMemory}
@@ -58,7 +58,7 @@ of_numbers Subtract x y r h = comes _ r h
 of_numbers Multiply x y r h = comes _ r h
 of_numbers o x y r h = absurd h
 
-module _ (W : World) where
+module _ (W : Entities) where
   of_binary : (o : Binary) (v w : PlainValue) (r : EvaluationResult) → BinaryGives W o v w r → IsProper r
   of_binary _ _ _ _ (op.equal {v} {w} {r} h) = told r h
   of_binary _ _ _ _ (op.of_numbers {op = o} {x} {y} {r} h) = of_numbers o x y r h
@@ -104,7 +104,7 @@ of_binary_call _ _ _ _ (op.in_range {m} {n} {r} h) = told r h
 of_binary_call _ _ _ _ (op.no_decimals takes h) = tt
 of_binary_call _ _ _ _ (op.no_addresses h) = tt
 
-module _ (W : World) (q : Request) where
+module _ (W : Entities) (q : Request) where
   mutual
     proper : (x : Expr) (r : EvaluationResult) → EvaluatesTo W q x r → IsProper r
     proper _ _ (rule.gives_literal l) = tt

@@ -23,7 +23,7 @@ use Rattle.grammar_core.specs.declared.expr.Expr.TheVariants as form
 use Rattle.evaluator.specs.declared.fault.EvalFault.{EvalFault}
 use Rattle.evaluator.specs.declared.fault.EvalFault.TheVariants.{TypeError, NoMemory}
 use Rattle.evaluator.specs.Outcomes.{EvaluationResult, boolean_in}
-use Rattle.evaluator.specs.Operators.{World, UnaryGives, BinaryGives, FieldGives, HasGives, UnaryCallGives}
+use Rattle.evaluator.specs.Operators.{Entities, UnaryGives, BinaryGives, FieldGives, HasGives, UnaryCallGives}
 use Rattle.evaluator.specs.Operators.{BinaryCallGives}
 
 -- `literal_value l` is the value of the literal `l`.
@@ -59,7 +59,7 @@ put_each xs vs done = done
 
 mutual
   -- `EvaluatesTo W q x r` holds if `r` is the outcome of `x` under the request `q`, over the entities of `W`.
-  pub data EvaluatesTo (W : World) (q : Request) : Expr → EvaluationResult → Type 0 where
+  pub data EvaluatesTo (W : Entities) (q : Request) : Expr → EvaluationResult → Type 0 where
     gives_literal : (l : Literal) → EvaluatesTo W q (form.Literal l) (Ok (literal_value l))
     gives_variable : (x : Variable) → EvaluatesTo W q (form.Variable x) (Ok (variable_value x q))
     if_true : (a b c : Expr) {r : EvaluationResult} → EvaluatesTo W q a (Ok (boolean true)) → EvaluatesTo W q b r
@@ -102,13 +102,14 @@ mutual
         → EvaluatesTo W q b (Ok w) → BinaryCallGives called v w r → EvaluatesTo W q (form.BinaryCall called a b) r
 
   -- `TestFails W q x e` holds if `x` fails as a condition with `e`: that is its outcome, or it is not a boolean.
-  pub data TestFails (W : World) (q : Request) : Expr → EvalFault → Type 0 where
+  pub data TestFails (W : Entities) (q : Request) : Expr → EvalFault → Type 0 where
     test_errs : {a : Expr} {e : EvalFault} → EvaluatesTo W q a (Err e) → TestFails W q a e
     no_boolean : {a : Expr} {v : PlainValue} → EvaluatesTo W q a (Ok v) → boolean_in v ≡ None
         → TestFails W q a TypeError
 
   -- `EachEvaluatesTo W q xs r` holds if `r` are the values of `xs` in order, or the first error.
-  pub data EachEvaluatesTo (W : World) (q : Request) : List Expr → Result (List PlainValue) EvalFault → Type 0 where
+  pub data EachEvaluatesTo (W : Entities) (q : Request)
+      : List Expr → Result (List PlainValue) EvalFault → Type 0 where
     each_none : EachEvaluatesTo W q [] (Ok [])
     each_more : {x : Expr} {xs : List Expr} {v : PlainValue} {vs : List PlainValue} → EvaluatesTo W q x (Ok v)
         → EachEvaluatesTo W q xs (Ok vs) → EachEvaluatesTo W q (x ∷ xs) (Ok (v ∷ vs))
@@ -120,16 +121,16 @@ mutual
 -- ---- contracts of an evaluator
 
 -- Soundness: a result other than `NoMemory` is one that `EvaluatesTo` relates to the expression.
-abbrev pub IsSoundEvaluation : World → Request → Expr → EvaluationResult → Type 0
+abbrev pub IsSoundEvaluation : Entities → Request → Expr → EvaluationResult → Type 0
 IsSoundEvaluation W q x answer = MatchResult answer (λ v. EvaluatesTo W q x (Ok v))
     (λ e. e ≢ NoMemory → EvaluatesTo W q x (Err e))
 
 -- Completeness: a result that `EvaluatesTo` relates to the expression is returned, unless `NoMemory` is.
-abbrev pub IsCompleteEvaluation : World → Request → Expr → EvaluationResult → Type 0
+abbrev pub IsCompleteEvaluation : Entities → Request → Expr → EvaluationResult → Type 0
 IsCompleteEvaluation W q x answer = (r : EvaluationResult) → EvaluatesTo W q x r → answer ≢ Err NoMemory → answer ≡ r
 
 -- `AnswersTest W q x answer` holds if `answer` is the boolean of `x`, the error by which `x` fails as a condition, or
 -- `NoMemory`.
-abbrev pub AnswersTest : World → Request → Expr → Result Bool EvalFault → Type 0
+abbrev pub AnswersTest : Entities → Request → Expr → Result Bool EvalFault → Type 0
 AnswersTest W q x answer = MatchResult answer (λ t. EvaluatesTo W q x (Ok (boolean t)))
     (λ e. e ≢ NoMemory → TestFails W q x e)

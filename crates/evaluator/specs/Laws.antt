@@ -6,24 +6,24 @@ use Rattle.ancestor_search.specs.Decided.{Decides, HaveAllParents}
 use Rattle.grammar_core.specs.declared.expr.Expr.{Expr}
 use Rattle.evaluator.specs.declared.fault.EvalFault.TheVariants.{NoMemory}
 use Rattle.evaluator.specs.Outcomes.{EvaluationResult}
-use Rattle.evaluator.specs.Operators.{World}
+use Rattle.evaluator.specs.Operators.{Entities}
 use Rattle.evaluator.specs.Evaluation.{EvaluatesTo}
 
 -- `HasOneOutcome W q x` holds if `x` has exactly one outcome.
-abbrev pub HasOneOutcome : World → Request → Expr → Type 0
+abbrev pub HasOneOutcome : Entities → Request → Expr → Type 0
 HasOneOutcome W q x = (r : EvaluationResult) × EvaluatesTo W q x r
     × ((s : EvaluationResult) → EvaluatesTo W q x s → s ≡ r)
 
 -- `HaveOneOutcome`: each expression does, if a test decides the ancestor relation.
 abbrev pub HaveOneOutcome : Type 0
-HaveOneOutcome = (W : World) (above : EntityUid → EntityUid → Bool) → Decides W.parents above
+HaveOneOutcome = (W : Entities) (above : EntityUid → EntityUid → Bool) → Decides W.parents above
     → (q : Request) (x : Expr) → HasOneOutcome W q x
 
 -- `HaveOneOutcomeInFiniteHierarchies`: each expression does, if finitely many entities have parents.
 abbrev pub HaveOneOutcomeInFiniteHierarchies : Type 0
-HaveOneOutcomeInFiniteHierarchies = (W : World) (stored : List EntityUid) → HaveAllParents W.parents stored
+HaveOneOutcomeInFiniteHierarchies = (W : Entities) (stored : List EntityUid) → HaveAllParents W.parents stored
     → (q : Request) (x : Expr) → HasOneOutcome W q x
 
 -- `NothingWantsMemory`: `NoMemory` is not an outcome of any expression.
 abbrev pub NothingWantsMemory : Type 0
-NothingWantsMemory = (W : World) (q : Request) (x : Expr) → ¬ EvaluatesTo W q x (Err NoMemory)
+NothingWantsMemory = (W : Entities) (q : Request) (x : Expr) → ¬ EvaluatesTo W q x (Err NoMemory)

@@ -31,13 +31,13 @@ use Rattle.evaluator.specs.declared.fault.EvalFault.TheVariants.{ExtensionError}
 use Rattle.evaluator.specs.Outcomes.{EvaluationResult, IsTruthOf, IsChecked, boolean_in, long_in, text_in}
 use Rattle.evaluator.specs.Outcomes.{entity_uid_in, members_in, record_fields_in, decimal_in, network_in}
 
--- A `World` has the attributes of each stored entity, and the parents of each entity.
-pub record World : Type 0 where
+-- A `Entities` has the attributes of each stored entity, and the parents of each entity.
+pub record Entities : Type 0 where
   pub stored : EntityUid → Option (List Field)
   pub parents : Parents
 
 -- `world_of stored parents` is the world with these attributes and parents.
-abbrev pub world_of : (EntityUid → Option (List Field)) → Parents → World
+abbrev pub world_of : (EntityUid → Option (List Field)) → Parents → Entities
 world_of stored parents = record { stored = stored; parents = parents }
 
 -- `UnaryGives op v r` holds if `r` is the result of the operator `op` on `v`.
@@ -80,7 +80,7 @@ TakesSets op = ⊥
 -- `BinaryGives W op v w r` holds if `r` is the result of `op` on `v` and `w`. `a in b` tests, for two entities,
 -- whether `a` is `b` or a descendant of it; for a set, all of whose members must be entities, whether it is so for
 -- some member.
-pub data BinaryGives (W : World) : Binary → PlainValue → PlainValue → EvaluationResult → Type 0 where
+pub data BinaryGives (W : Entities) : Binary → PlainValue → PlainValue → EvaluationResult → Type 0 where
   equal : {v w : PlainValue} {r : EvaluationResult} → IsTruthOf (v ≡ w) r → BinaryGives W Equal v w r
   of_numbers : {op : Binary} {x y : ℤ} {r : EvaluationResult} → NumbersGive op x y r
       → BinaryGives W op (long x) (long y) r
@@ -109,7 +109,7 @@ pub data BinaryGives (W : World) : Binary → PlainValue → PlainValue → Eval
       → BinaryGives W op v w (Err TypeError)
 
 -- `FieldGives W name v r` holds if `r` is the result of `v.name`.
-pub data FieldGives (W : World) (name : List ℕ) : PlainValue → EvaluationResult → Type 0 where
+pub data FieldGives (W : Entities) (name : List ℕ) : PlainValue → EvaluationResult → Type 0 where
   field : {fs : PlainFields} {v : PlainValue} → find_field name (pairs_of fs) ≡ Some v
       → FieldGives W name (record_of fs) (Ok v)
   no_field : {fs : PlainFields} → find_field name (pairs_of fs) ≡ None
@@ -120,7 +120,7 @@ pub data FieldGives (W : World) (name : List ℕ) : PlainValue → EvaluationRes
       → FieldGives W name v (Err TypeError)
 
 -- `HasGives W name v r` holds if `r` is the result of `v has name`.
-pub data HasGives (W : World) (name : List ℕ) : PlainValue → EvaluationResult → Type 0 where
+pub data HasGives (W : Entities) (name : List ℕ) : PlainValue → EvaluationResult → Type 0 where
   has_field : {fs : PlainFields} {r : EvaluationResult} → IsTruthOf (IsSome (find_field name (pairs_of fs))) r
       → HasGives W name (record_of fs) r
   has_attribute : {u : EntityUid} {r : EvaluationResult} (fs : List Field) → W.stored u ≡ Some fs

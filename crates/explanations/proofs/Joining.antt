@@ -22,7 +22,7 @@ use Rattle.token_spans.specs.declared.spans.Span.{Span}
 use Rattle.token_spans.specs.Spans.{IsSpanOf, IsNameSpanOf}
 use Rattle.explanations.specs.declared.pieces.Piece.{Piece}
 use Rattle.explanations.specs.Files.{File, Files}
-use Rattle.explanations.specs.Parts.{IsPartOf, IsSourceAt, IsWholeAt, AppendsSome}
+use Rattle.explanations.specs.Parts.{IsPartOf, IsNothing, IsSourceAt, IsWholeAt, AppendsSome}
 use Rattle.explanations.specs.Pieces.{ArePiecesOf}
 use Rattle.explanations.specs.Policies.{is_searched, IsFoundAs, IsFaultText, IsCheckExplained, passes_so, rejected_so, too_large, ArePoliciesExplained}
 use Rattle.explanations.specs.Unread.{byte_in, IsPieceExplained, is_read, is_unread, ArePiecesExplained, AppendsTold}
@@ -127,20 +127,35 @@ module _ (o : Option StatedSchema) (file held text : List ℕ) (tokens : List To
 
 -- ---- what was checked
 
-pub judged_so : (name old new : List ℕ) (r q : Refusal) → q ≡ r → (r ≡ no_memory → ⊥) → AppendsSome (IsWholeAt name q.code q.place) old new
-    → AppendsSome (IsJudgedText name (Err r)) old new
-judged_so name old new r q e h a = (a.0, (h, subst (λ (t : Refusal). IsWholeAt name t.code t.place a.0) e a.1), a.2)
+with_words : (name : List ℕ) (code : ℕ) (index : Option ℕ) (words : List ℕ) (Told : List ℕ → Type 0) (bytes : List ℕ) → Told words
+    → IsWholeAt name code index (λ w. w ≡ words) bytes → IsWholeAt name code index Told bytes
+with_words name code index words Told bytes t h = record {
+  finding = h.finding;
+  code_is = h.code_is;
+  index_is = h.index_is;
+  told = subst Told (sym h.told) t;
+  is_text = h.is_text;
+}
 
-pub judged_text : (name old new : List ℕ) (Read : Type 0) (Refused : Refusal → Type 0) (r : Result ⊤ Refusal) → OnOk r Read
-    → IfErr r (OrNoMemory no_memory Refused) → AppendsSome (IsJudgedText name r) old new → AppendsSome (IsJudged name Read Refused) old new
-judged_text name old new Read Refused r read refused a = (a.0, judged name a.0 Read Refused r read refused a.1, a.2)
+pub whole_told : (name old new : List ℕ) (code : ℕ) (index : Option ℕ) (words : List ℕ) (Told : List ℕ → Type 0) → Told words
+    → AppendsSome (IsWholeAt name code index (λ w. w ≡ words)) old new → AppendsSome (IsWholeAt name code index Told) old new
+whole_told name old new code index words Told t a = (a.0, with_words name code index words Told a.0 t a.1, a.2)
+
+pub judged_so : (name old new : List ℕ) (Told : Option ℕ → List ℕ → Type 0) (r q : Refusal) → q ≡ r → (r ≡ no_memory → ⊥)
+    → AppendsSome (IsWholeAt name q.code q.place (Told q.place)) old new → AppendsSome (IsJudgedText name Told (Err r)) old new
+judged_so name old new Told r q e h a =
+    (a.0, (h, subst (λ (t : Refusal). IsWholeAt name t.code t.place (Told t.place) a.0) e a.1), a.2)
+
+pub judged_text : (name old new : List ℕ) (Read : Type 0) (Refused : Refusal → Type 0) (Told : Option ℕ → List ℕ → Type 0) (r : Result ⊤ Refusal) → OnOk r Read
+    → IfErr r (OrNoMemory no_memory Refused) → AppendsSome (IsJudgedText name Told r) old new → AppendsSome (IsJudged name Read Refused Told) old new
+judged_text name old new Read Refused Told r read refused a = (a.0, judged name a.0 Read Refused Told r read refused a.1, a.2)
 
 -- ---- all texts
 
 module _ (given : Files) (old : List ℕ) where
   pub others : (o : Option StatedSchema) (schema : Option (List ℕ)) (one two new : List ℕ) → schema ≡ option_map (λ file. file.text) given.schema
       → AppendsSome (IsFileExplained o given.policies.name given.policies.text) old one → AppendsSome (AreEntitiesExplained o given.entities) one two
-      → AppendsSome (IsRequestExplained schema given.request) two new → AppendsSome (AreOthersExplained o given) old new
+      → AppendsSome (IsRequestExplained o schema given.request) two new → AppendsSome (AreOthersExplained o given) old new
   others o schema one two new e a b d = (
     a.0 ++ b.0 ++ d.0,
     record {
@@ -149,7 +164,7 @@ module _ (given : Files) (old : List ℕ) where
       third = d.0;
       policies = a.1;
       entities = b.1;
-      request = subst (λ (t : Option (List ℕ)). IsRequestExplained t given.request d.0) e d.1;
+      request = subst (λ (t : Option (List ℕ)). IsRequestExplained o t given.request d.0) e d.1;
       is = refl;
     },
     in_turn old two new (a.0 ++ b.0) d.0 (in_turn old one two a.0 b.0 a.2 b.2) d.2,
@@ -160,7 +175,7 @@ module _ (given : Files) (old : List ℕ) where
   under_schema schema s new h a = (a.0, inl (s, h, a.1), a.2)
 
   pub schema_rejected : (schema : File) (r q : Refusal) (new : List ℕ) → q ≡ r → IsSchemaRefused schema.text r
-      → AppendsSome (IsWholeAt schema.name q.code q.place) old new → AppendsSome (IsExplainedUnder schema given) old new
+      → AppendsSome (IsWholeAt schema.name q.code q.place IsNothing) old new → AppendsSome (IsExplainedUnder schema given) old new
   schema_rejected schema r q new e h a = (a.0, inr (q, subst (IsSchemaRefused schema.text) (sym e) h, a.1), a.2)
 
 pub from_nothing : (given : Files) (old new : List ℕ) → old ≡ [] → AppendsSome (IsExplained given) old new → IsExplained given new

@@ -8,12 +8,13 @@ use Rattle.explanation_texts.proofs.Readable.{both, nothing, source_is_readable,
 use Rattle.blame_texts.specs.declared.telling.PolicyFault.{PolicyFault}
 use Rattle.explanations.specs.declared.pieces.Piece.{Piece}
 use Rattle.explanations.specs.Files.{File, Files}
-use Rattle.explanations.specs.Parts.{IsSourceAt, IsWholeAt}
+use Rattle.explanations.specs.Parts.{IsNothing, IsSourceAt, IsWholeAt}
 use Rattle.explanations.specs.Policies as of_policies
 use Rattle.explanations.specs.Policies.{IsFaultText, IsCheckExplained, passes_so, rejected_so, too_large, IsPolicyExplained, ArePoliciesExplained}
 use Rattle.explanations.specs.Unread as of_pieces
 use Rattle.explanations.specs.Unread.{IsPieceExplained, is_read, is_unread, ArePiecesExplained}
 use Rattle.explanations.specs.Others.{IsJudged, AreEntitiesRead, AreEntitiesRefused, IsRequestRead, IsRequestRefused, AreEntitiesExplained, IsRequestExplained}
+use Rattle.explanations.specs.Others.{IsEntityPartTold, IsRequestPartTold}
 use Rattle.explanations.specs.Explained as whole
 use Rattle.explanations.specs.Explained.{IsUnreadExplained, IsOutcomeExplained, AreOthersExplained, IsExplainedUnder, IsExplainedAs, IsExplained}
 
@@ -23,8 +24,8 @@ empty bytes e = subst IsReadable (sym e) nothing
 at_source : (file text : List ℕ) (code start : ℕ) (bytes : List ℕ) → IsSourceAt file text code start bytes → IsReadable bytes
 at_source file text code start bytes h = source_is_readable file text h.finding bytes h.is_text
 
-at_whole : (file : List ℕ) (code : ℕ) (index : Option ℕ) (bytes : List ℕ) → IsWholeAt file code index bytes → IsReadable bytes
-at_whole file code index bytes h = whole_is_readable file h.finding bytes h.is_text
+at_whole : (file : List ℕ) (code : ℕ) (index : Option ℕ) (Told : List ℕ → Type 0) (bytes : List ℕ) → IsWholeAt file code index Told bytes → IsReadable bytes
+at_whole file code index Told bytes h = whole_is_readable file h.finding bytes h.is_text
 
 fault : (file text : List ℕ) (place : Piece) (f : PolicyFault) (bytes : List ℕ) → IsFaultText file text place f bytes → IsReadable bytes
 fault file text place f bytes h = source_is_readable file text h.finding bytes h.is_text
@@ -68,27 +69,29 @@ outcome_reads : (o : Option StatedSchema) (file held text : List ℕ) (pieces : 
 outcome_reads o file held text pieces _ (whole.read names cores bytes a h) = policies_read o file text pieces cores bytes h
 outcome_reads o file held text pieces _ (whole.unread r bytes a h) = unread_reads o file text pieces r bytes h
 
-judged_reads : (name : List ℕ) (Read : Type 0) (Refused : Refusal → Type 0) (bytes : List ℕ) → IsJudged name Read Refused bytes → IsReadable bytes
-judged_reads name Read Refused bytes (inl h) = empty bytes h.1
-judged_reads name Read Refused bytes (inr h) = at_whole name _ _ bytes h.2
+judged_reads : (name : List ℕ) (Read : Type 0) (Refused : Refusal → Type 0) (Told : Option ℕ → List ℕ → Type 0) (bytes : List ℕ) → IsJudged name Read Refused Told bytes
+    → IsReadable bytes
+judged_reads name Read Refused Told bytes (inl h) = empty bytes h.1
+judged_reads name Read Refused Told bytes (inr h) = at_whole name _ _ (Told h.0.place) bytes h.2
 
 entities_read : (o : Option StatedSchema) (file : Option File) (bytes : List ℕ) → AreEntitiesExplained o file bytes → IsReadable bytes
 entities_read o None bytes h = empty bytes h
-entities_read o (Some file) bytes h = judged_reads file.name (AreEntitiesRead o file.text) (AreEntitiesRefused o file.text) bytes h
+entities_read o (Some file) bytes h = judged_reads file.name (AreEntitiesRead o file.text) (AreEntitiesRefused o file.text) (IsEntityPartTold o file.text) bytes h
 
-request_reads : (schema : Option (List ℕ)) (file : Option File) (bytes : List ℕ) → IsRequestExplained schema file bytes → IsReadable bytes
-request_reads schema None bytes h = empty bytes h
-request_reads schema (Some file) bytes h = judged_reads file.name (IsRequestRead schema file.text) (IsRequestRefused schema file.text) bytes h
+request_reads : (o : Option StatedSchema) (schema : Option (List ℕ)) (file : Option File) (bytes : List ℕ) → IsRequestExplained o schema file bytes → IsReadable bytes
+request_reads o schema None bytes h = empty bytes h
+request_reads o schema (Some file) bytes h =
+    judged_reads file.name (IsRequestRead schema file.text) (IsRequestRefused schema file.text) (λ place. IsRequestPartTold o file.text) bytes h
 
 others_read : (o : Option StatedSchema) (given : Files) (bytes : List ℕ) → AreOthersExplained o given bytes → IsReadable bytes
 others_read o given bytes h =
     let policies = outcome_reads o given.policies.name given.policies.text h.policies.text h.policies.pieces h.first h.policies.outcome in
     let two = both h.first h.second policies (entities_read o given.entities h.second h.entities) in
-    subst IsReadable (sym h.is) (both (h.first ++ h.second) h.third two (request_reads _ given.request h.third h.request))
+    subst IsReadable (sym h.is) (both (h.first ++ h.second) h.third two (request_reads o _ given.request h.third h.request))
 
 under_reads : (schema : File) (given : Files) (bytes : List ℕ) → IsExplainedUnder schema given bytes → IsReadable bytes
 under_reads schema given bytes (inl h) = others_read (Some h.0) given bytes h.2
-under_reads schema given bytes (inr h) = at_whole schema.name _ _ bytes h.2
+under_reads schema given bytes (inr h) = at_whole schema.name _ _ IsNothing bytes h.2
 
 as_given : (o : Option File) (given : Files) (bytes : List ℕ) → IsExplainedAs o given bytes → IsReadable bytes
 as_given None given bytes h = others_read None given bytes h

@@ -12,7 +12,7 @@ use Rattle.schema_decisions.specs.decision_texts.Decisions.{ArePoliciesOf, ArePo
 use Rattle.schema_decisions.specs.Checks.{IsSchemaRefused}
 use Rattle.explanations.specs.Files.{File, Files}
 use Rattle.explanations.specs.declared.pieces.Piece.{Piece}
-use Rattle.explanations.specs.Parts.{IsSourceAt, IsWholeAt}
+use Rattle.explanations.specs.Parts.{IsNothing, IsSourceAt, IsWholeAt}
 use Rattle.explanations.specs.Pieces.{ArePiecesOf}
 use Rattle.explanations.specs.Policies.{ArePoliciesExplained}
 use Rattle.explanations.specs.Unread.{ArePiecesExplained}
@@ -65,14 +65,14 @@ pub record AreOthersExplained (s : Option StatedSchema) (given : Files) (bytes :
   pub third : List ℕ
   pub policies : IsFileExplained s given.policies.name given.policies.text first
   pub entities : AreEntitiesExplained s given.entities second
-  pub request : IsRequestExplained (option_map (λ file. file.text) given.schema) given.request third
+  pub request : IsRequestExplained s (option_map (λ file. file.text) given.schema) given.request third
   pub is : bytes ≡ first ++ second ++ third
 
 -- `IsExplainedUnder schema given bytes` is the same under the schema of a file, or why that is rejected.
 abbrev pub IsExplainedUnder : File → Files → List ℕ → Type 0
 IsExplainedUnder schema given bytes =
     ((s : StatedSchema) × IsSchemaOf schema.text s × AreOthersExplained (Some s) given bytes)
-    ⊎ ((r : Refusal) × IsSchemaRefused schema.text r × IsWholeAt schema.name r.code r.place bytes)
+    ⊎ ((r : Refusal) × IsSchemaRefused schema.text r × IsWholeAt schema.name r.code r.place IsNothing bytes)
 
 -- `IsExplainedAs schema given bytes` is the same, with a schema if there is one.
 abbrev pub IsExplainedAs : Option File → Files → List ℕ → Type 0

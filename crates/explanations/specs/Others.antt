@@ -1,6 +1,6 @@
 -- Defines the text that explains why entities or a request are rejected.
 -- Rules of this product: entities are checked as `decide` checks them, whatever else is given, and so is a request: the
--- first error is explained, with its index in the array.
+-- first error is explained, with its index in the array and, under a schema, the JSON pointer of the part at fault.
 use Rattle.std.specs.Prelude.{◌≡◌, ◌⊎◌, ℕ, List, [], ◌++◌, Option, None, Some, Result, Ok, Err, ⊤, codes}
 use Rattle.schema_decisions.specs.schema.Schemas.{StatedSchema}
 use Rattle.schema_decisions.specs.entity_data.declared.entity.Entity.{Entity}
@@ -11,8 +11,9 @@ use Rattle.schema_decisions.specs.decision_texts.Decisions as bare
 use Rattle.schema_decisions.specs.decision_texts.EntityArrays.{entities_of}
 use Rattle.schema_decisions.specs.Decisions as typed
 use Rattle.schema_decisions.specs.UnderSchema.{reading_under}
+use Rattle.part_texts.specs.Told.{IsItemTold, IsAskedTold}
 use Rattle.explanations.specs.Files.{File}
-use Rattle.explanations.specs.Parts.{IsWholeAt}
+use Rattle.explanations.specs.Parts.{IsNothing, IsWholeAt}
 
 -- `any_request` is a request that parses without a schema.
 abbrev pub any_request : List ℕ
@@ -49,25 +50,39 @@ abbrev pub IsRequestRefused : Option (List ℕ) → List ℕ → Refusal → Typ
 IsRequestRefused None text r = AreBareTextsRefused (codes "[]") text r
 IsRequestRefused (Some schema) text r = typed.IsSchemaDecisionRefused schema [] (codes "[]") text r
 
--- `IsJudgedText name judged bytes` holds if `bytes` explain the error of the file `name`; they are empty if there is
--- none.
-abbrev pub IsJudgedText : List ℕ → Result ⊤ Refusal → List ℕ → Type 0
-IsJudgedText name (Ok done) bytes = bytes ≡ []
-IsJudgedText name (Err r) bytes = (r ≡ no_memory → ⊥) × IsWholeAt name r.code r.place bytes
+-- `IsEntityPartTold s text index words` holds if `words` say which part is at fault of the entity at this index of
+-- `text`, under the schema `s`, and `IsRequestPartTold s text words` if they say it of the request `text`; without a
+-- schema they say nothing.
+abbrev pub IsEntityPartTold : Option StatedSchema → List ℕ → Option ℕ → List ℕ → Type 0
+IsEntityPartTold None text index words = IsNothing words
+IsEntityPartTold (Some s) text index words = IsItemTold s text index words
 
--- `IsJudged name Read Refused bytes` holds if `bytes` are empty, of what is read, or explain why it is rejected.
-abbrev pub IsJudged : List ℕ → Type 0 → (Refusal → Type 0) → List ℕ → Type 0
-IsJudged name Read Refused bytes =
-    (Read × (bytes ≡ [])) ⊎ ((r : Refusal) × Refused r × IsWholeAt name r.code r.place bytes)
+abbrev pub IsRequestPartTold : Option StatedSchema → List ℕ → List ℕ → Type 0
+IsRequestPartTold None text words = IsNothing words
+IsRequestPartTold (Some s) text words = IsAskedTold s text words
+
+-- `IsJudgedText name Told judged bytes` holds if `bytes` explain the error of the file `name`, with words for which
+-- `Told` holds at its index; they are empty if there is none.
+abbrev pub IsJudgedText : List ℕ → (Option ℕ → List ℕ → Type 0) → Result ⊤ Refusal → List ℕ → Type 0
+IsJudgedText name Told (Ok done) bytes = bytes ≡ []
+IsJudgedText name Told (Err r) bytes = (r ≡ no_memory → ⊥) × IsWholeAt name r.code r.place (Told r.place) bytes
+
+-- `IsJudged name Read Refused Told bytes` holds if `bytes` are empty, of what is read, or explain why it is rejected.
+abbrev pub IsJudged : List ℕ → Type 0 → (Refusal → Type 0) → (Option ℕ → List ℕ → Type 0) → List ℕ → Type 0
+IsJudged name Read Refused Told bytes =
+    (Read × (bytes ≡ [])) ⊎ ((r : Refusal) × Refused r × IsWholeAt name r.code r.place (Told r.place) bytes)
 
 -- `AreEntitiesExplained s file bytes` holds if `bytes` explain why the entities of a file are rejected, and
--- `IsRequestExplained schema file bytes` if they explain why the request of a file is.
+-- `IsRequestExplained s schema file bytes` if they explain why the request of a file is, where `s` is the schema of the
+-- text `schema`.
 abbrev pub AreEntitiesExplained : Option StatedSchema → Option File → List ℕ → Type 0
 AreEntitiesExplained s None bytes = bytes ≡ []
 AreEntitiesExplained s (Some file) bytes =
-    IsJudged file.name (AreEntitiesRead s file.text) (AreEntitiesRefused s file.text) bytes
+    IsJudged file.name (AreEntitiesRead s file.text) (AreEntitiesRefused s file.text) (IsEntityPartTold s file.text)
+    bytes
 
-abbrev pub IsRequestExplained : Option (List ℕ) → Option File → List ℕ → Type 0
-IsRequestExplained schema None bytes = bytes ≡ []
-IsRequestExplained schema (Some file) bytes =
-    IsJudged file.name (IsRequestRead schema file.text) (IsRequestRefused schema file.text) bytes
+abbrev pub IsRequestExplained : Option StatedSchema → Option (List ℕ) → Option File → List ℕ → Type 0
+IsRequestExplained s schema None bytes = bytes ≡ []
+IsRequestExplained s schema (Some file) bytes =
+    IsJudged file.name (IsRequestRead schema file.text) (IsRequestRefused schema file.text)
+    (λ place. IsRequestPartTold s file.text) bytes

@@ -20,13 +20,19 @@ pub record IsSourceAt (file text : List ℕ) (code start : ℕ) (bytes : List �
   pub start_is : finding.start ≡ start
   pub is_text : IsSourceText file text finding bytes
 
--- `IsWholeAt file code index bytes` holds if `bytes` explain an error of this code, at this index in the array of a
--- file.
-pub record IsWholeAt (file : List ℕ) (code : ℕ) (index : Option ℕ) (bytes : List ℕ) : Type 0 where
-  pub finding : WholeFinding
-  pub code_is : finding.code ≡ code
-  pub index_is : finding.index ≡ index
-  pub is_text : IsWholeText file finding bytes
+-- `IsNothing words` holds if `words` say nothing.
+abbrev pub IsNothing : List ℕ → Type 0
+IsNothing words = words ≡ []
+
+-- `IsWholeAt file code index Told bytes` holds if `bytes` explain an error of this code, at this index in the array of
+-- a file, and `Told` holds of the words on what is there.
+pub record IsWholeAt (file : List ℕ) (code : ℕ) (index : Option ℕ) (Told : List ℕ → Type 0) (bytes : List ℕ) : Type 0
+  where
+    pub finding : WholeFinding
+    pub code_is : finding.code ≡ code
+    pub index_is : finding.index ≡ index
+    pub told : Told finding.detail.now
+    pub is_text : IsWholeText file finding bytes
 
 -- `AppendsSome Is old new` holds if `new` is `old` followed by bytes for which `Is` holds.
 abbrev pub AppendsSome : (List ℕ → Type 0) → List ℕ → List ℕ → Type 0

@@ -118,7 +118,13 @@ fn explain_others(
 {
     explain_file(alloc, out, schema, given.policies)?;
     explain_entities(alloc, out, schema, given.entities)?;
-    explain_request(alloc, out, text_of_source(given.schema), given.request)?;
+    explain_request(
+        alloc,
+        out,
+        schema,
+        text_of_source(given.schema),
+        given.request,
+    )?;
     Ok(())
 }
 

@@ -1,17 +1,19 @@
 //! Rejected entities and requests.
-ghost use Rattle.std.specs.Prelude.{◌≡◌, OnOk, IfErr, option_map, string_bytes};
+ghost use Rattle.std.specs.Prelude.{◌≡◌, OnOk, IfOk, IfErr, option_map, string_bytes};
 ghost use Rattle.plain.specs.Refused.{OrNoMemory};
 ghost use Rattle.schema_decisions.specs.schema.Views.{schema_view};
 ghost use Rattle.schema_decisions.specs.answer_lines.Refusals.{no_memory};
 ghost use Rattle.explanations.specs.Files.{file_of};
-ghost use Rattle.explanations.specs.Parts.{AppendsSome};
+ghost use Rattle.explanations.specs.Parts.{AppendsSome, IsWholeAt};
 ghost use Rattle.explanations.specs.Others.{any_request, AreBareTextsRead, AreBareTextsRefused};
 ghost use Rattle.explanations.specs.Others.{AreEntitiesRead, AreEntitiesRefused, IsRequestRead};
 ghost use Rattle.explanations.specs.Others.{IsRequestRefused, IsJudgedText, AreEntitiesExplained, IsRequestExplained};
+ghost use Rattle.explanations.specs.Others.{IsEntityPartTold, IsRequestPartTold};
 
 use crate::given::Source;
 use crate::parts::{no_want_of_memory, push_refusal};
-use plain::NoMemory;
+use part_texts::{entity_part, request_part};
+use plain::{NoMemory, Text};
 use schema_decisions::{Refusal, Schema, UnderSchema, decide_texts, decide_under, judge_entities};
 use std::alloc::Global;
 
@@ -70,15 +72,106 @@ fn judge_request(alloc: Global, schema: Option<&[u8]>, text: &[u8]) -> Result<()
     }
 }
 
-/// Appends why a text is rejected, if it is.
-fn explain_judged(out: &mut String, name: &str, judged: Result<(), Refusal>) -> Result<(), NoMemory>
-    ensures { OnOk result (AppendsSome (IsJudgedText name.now judged) (string_bytes out.old) (string_bytes out.new)) }
+/// Returns the words on the part at fault of the entity at an index.
+fn entity_words(
+    alloc: Global,
+    schema: Option<&Schema>,
+    text: &[u8],
+    index: Option<usize>,
+) -> Result<Text, NoMemory>
+    ensures { IfOk result
+        (IsEntityPartTold (option_map (λ s. schema_view s.now) schema.entry) text.now index) }
+{
+    match schema {
+        Some(schema) => entity_part(alloc, schema, text, index),
+        None => Ok(Text::from_string(String::new(alloc))),
+    }
+}
+
+/// Returns the words on the part at fault of a request.
+fn request_words(alloc: Global, schema: Option<&Schema>, text: &[u8]) -> Result<Text, NoMemory>
+    ensures { IfOk result
+        (IsRequestPartTold (option_map (λ s. schema_view s.now) schema.entry) text.now) }
+{
+    match schema {
+        Some(schema) => request_part(alloc, schema, text),
+        None => Ok(Text::from_string(String::new(alloc))),
+    }
+}
+
+/// Appends the text of an error of entities, with the part at fault.
+fn push_entity(
+    alloc: Global,
+    out: &mut String,
+    schema: Option<&Schema>,
+    source: Source<'_, '_>,
+    refusal: Refusal,
+) -> Result<(), NoMemory>
+    ensures { OnOk result (AppendsSome (IsWholeAt source.entry.name.now refusal.code refusal.place
+        (IsEntityPartTold (option_map (λ s. schema_view s.now) schema.entry) source.entry.text.now refusal.place))
+        (string_bytes out.old) (string_bytes out.new)) }
+{
+    let words = entity_words(alloc, schema, source.text, refusal.place)?;
+    push_refusal(out, source.name, refusal, words.as_str())?;
+    Ok(())
+}
+
+/// Appends the text of an error of a request, with the part at fault.
+fn push_request(
+    alloc: Global,
+    out: &mut String,
+    schema: Option<&Schema>,
+    source: Source<'_, '_>,
+    refusal: Refusal,
+) -> Result<(), NoMemory>
+    ensures { OnOk result (AppendsSome (IsWholeAt source.entry.name.now refusal.code refusal.place
+        (IsRequestPartTold (option_map (λ s. schema_view s.now) schema.entry) source.entry.text.now))
+        (string_bytes out.old) (string_bytes out.new)) }
+{
+    let words = request_words(alloc, schema, source.text)?;
+    push_refusal(out, source.name, refusal, words.as_str())?;
+    Ok(())
+}
+
+/// Appends why entities are rejected, if they are.
+fn explain_array(
+    alloc: Global,
+    out: &mut String,
+    schema: Option<&Schema>,
+    source: Source<'_, '_>,
+    judged: Result<(), Refusal>,
+) -> Result<(), NoMemory>
+    ensures { OnOk result (AppendsSome (IsJudgedText source.entry.name.now
+        (IsEntityPartTold (option_map (λ s. schema_view s.now) schema.entry) source.entry.text.now) judged)
+        (string_bytes out.old) (string_bytes out.new)) }
 {
     match judged {
         Ok(()) => Ok(()),
         Err(refusal) => {
             let refusal = no_want_of_memory(refusal)?;
-            push_refusal(out, name, refusal, "")?;
+            push_entity(alloc, out, schema, source, refusal)?;
+            Ok(())
+        }
+    }
+}
+
+/// Appends why a request is rejected, if it is.
+fn explain_asked(
+    alloc: Global,
+    out: &mut String,
+    schema: Option<&Schema>,
+    source: Source<'_, '_>,
+    judged: Result<(), Refusal>,
+) -> Result<(), NoMemory>
+    ensures { OnOk result (AppendsSome (IsJudgedText source.entry.name.now
+        (λ place. IsRequestPartTold (option_map (λ s. schema_view s.now) schema.entry) source.entry.text.now) judged)
+        (string_bytes out.old) (string_bytes out.new)) }
+{
+    match judged {
+        Ok(()) => Ok(()),
+        Err(refusal) => {
+            let refusal = no_want_of_memory(refusal)?;
+            push_request(alloc, out, schema, source, refusal)?;
             Ok(())
         }
     }
@@ -98,28 +191,29 @@ pub(crate) fn explain_entities(
     match entities {
         Some(source) => {
             let judged = judge_array(alloc, schema, source.text);
-            explain_judged(out, source.name, judged)?;
+            explain_array(alloc, out, schema, source, judged)?;
             Ok(())
         }
         None => Ok(()),
     }
 }
 
-/// Appends why a request is rejected, if there is one and it is.
+/// Appends why a request is rejected, if there is one and it is, where `schema` is the schema of the text `stated`.
 pub(crate) fn explain_request(
     alloc: Global,
     out: &mut String,
-    schema: Option<&[u8]>,
+    schema: Option<&Schema>,
+    stated: Option<&[u8]>,
     request: Option<Source<'_, '_>>,
 ) -> Result<(), NoMemory>
-    ensures { OnOk result (AppendsSome
-        (IsRequestExplained (option_map (λ s. s.now) schema.entry) (option_map file_of request.entry))
+    ensures { OnOk result (AppendsSome (IsRequestExplained (option_map (λ s. schema_view s.now) schema.entry)
+        (option_map (λ s. s.now) stated.entry) (option_map file_of request.entry))
         (string_bytes out.old) (string_bytes out.new)) }
 {
     match request {
         Some(source) => {
-            let judged = judge_request(alloc, schema, source.text);
-            explain_judged(out, source.name, judged)?;
+            let judged = judge_request(alloc, stated, source.text);
+            explain_asked(alloc, out, schema, source, judged)?;
             Ok(())
         }
         None => Ok(()),

@@ -36,14 +36,15 @@ pub(crate) fn push_at(
     Ok(())
 }
 
-/// Appends the text of an error in the file `file`, at the index in its array, if it has one.
+/// Appends the text of an error in the file `file`, at the index in its array, if it has one, with these words on what
+/// is there.
 pub(crate) fn push_refusal(
     out: &mut String,
     file: &str,
     refusal: Refusal,
     detail: &str,
 ) -> Result<(), NoMemory>
-    ensures { OnOk result (AppendsSome (IsWholeAt file.now refusal.code refusal.place)
+    ensures { OnOk result (AppendsSome (IsWholeAt file.now refusal.code refusal.place (λ words. words ≡ detail.now))
         (string_bytes out.old) (string_bytes out.new)) }
 {
     let finding = WholeFinding {

@@ -144,12 +144,12 @@ module _ (one : HaveOneJudgement) (env : Environment) where
     and_stops_left t i (Layers.and_right h m g q) =
         absurd (i (subst IsBoolean (same_type h t) (may_be_true_boolean m)))
 
-    pub and_goes_right : {s : StaticType} {L : Pairs} {m : ExpressionFault} → Types env K a s L → IsBoolean s
+    pub and_is_sound : {s : StaticType} {L : Pairs} {m : ExpressionFault} → Types env K a s L → IsBoolean s
         → Faults env (K ++ L) b m → AndFaults env K x a b n d → Goes (K ++ L) b 1 n d
-    and_goes_right t i f (Layers.and_in_left g q) = absurd (never t g)
-    and_goes_right t i f (Layers.and_left h j q) = absurd (j (subst IsBoolean (same_type t h) i))
-    and_goes_right t i f (Layers.and_in_right h m g q) = let k = behind t h g in (k.0, q ∙ k.1)
-    and_goes_right t i f (Layers.and_right h m g q) = absurd (never_behind h t g f)
+    and_is_sound t i f (Layers.and_in_left g q) = absurd (never t g)
+    and_is_sound t i f (Layers.and_left h j q) = absurd (j (subst IsBoolean (same_type t h) i))
+    and_is_sound t i f (Layers.and_in_right h m g q) = let k = behind t h g in (k.0, q ∙ k.1)
+    and_is_sound t i f (Layers.and_right h m g q) = absurd (never_behind h t g f)
 
     pub and_stops_right : {s u : StaticType} {L M : Pairs} → Types env K a s L → IsBoolean s → Types env (K ++ L) b u M
         → AndFaults env K x a b n d → d ≡ at_operand 1 x (u ∷ [])
@@ -175,12 +175,12 @@ module _ (one : HaveOneJudgement) (env : Environment) where
     or_stops_left t i (Layers.or_right h m g q) =
         absurd (i (subst IsBoolean (same_type h t) (may_be_false_boolean m)))
 
-    pub or_goes_right : {s : StaticType} {L : Pairs} {m : ExpressionFault} → Types env K a s L → IsBoolean s
+    pub or_is_sound : {s : StaticType} {L : Pairs} {m : ExpressionFault} → Types env K a s L → IsBoolean s
         → Faults env K b m → OrFaults env K x a b n d → Goes K b 1 n d
-    or_goes_right t i f (Layers.or_in_left g q) = absurd (never t g)
-    or_goes_right t i f (Layers.or_left h j q) = absurd (j (subst IsBoolean (same_type t h) i))
-    or_goes_right t i f (Layers.or_in_right h m g q) = (g, q)
-    or_goes_right t i f (Layers.or_right h m g q) = absurd (never g f)
+    or_is_sound t i f (Layers.or_in_left g q) = absurd (never t g)
+    or_is_sound t i f (Layers.or_left h j q) = absurd (j (subst IsBoolean (same_type t h) i))
+    or_is_sound t i f (Layers.or_in_right h m g q) = (g, q)
+    or_is_sound t i f (Layers.or_right h m g q) = absurd (never g f)
 
     pub or_stops_right : {s u : StaticType} {L M : Pairs} → Types env K a s L → IsBoolean s → Types env K b u M
         → OrFaults env K x a b n d → d ≡ at_operand 1 x (u ∷ [])

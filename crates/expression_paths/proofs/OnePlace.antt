@@ -72,7 +72,7 @@ module _ (one : HaveOneJudgement) (env : Environment) where
     one_blame (faults.left_of_and_no_boolean a b t i) h =
         sym (Going.and_stops_left one env (form.And a b) a b t i (layer env (Expr-F.And a b) (form.outs-And a b) h))
     one_blame (faults.fault_right_of_and a b t m g) h =
-        let k = Going.and_goes_right one env (form.And a b) a b t (Going.may_be_true_boolean m) g
+        let k = Going.and_is_sound one env (form.And a b) a b t (Going.may_be_true_boolean m) g
         (layer env (Expr-F.And a b) (form.outs-And a b) h) in
         ap (under 1) (one_blame g k.0) ∙ sym k.1
     one_blame (faults.right_of_and_no_boolean a b t m s i) h =
@@ -84,7 +84,7 @@ module _ (one : HaveOneJudgement) (env : Environment) where
     one_blame (faults.left_of_or_no_boolean a b t i) h =
         sym (Going.or_stops_left one env (form.Or a b) a b t i (layer env (Expr-F.Or a b) (form.outs-Or a b) h))
     one_blame (faults.fault_right_of_or a b t m g) h =
-        let k = Going.or_goes_right one env (form.Or a b) a b t (Going.may_be_false_boolean m) g
+        let k = Going.or_is_sound one env (form.Or a b) a b t (Going.may_be_false_boolean m) g
         (layer env (Expr-F.Or a b) (form.outs-Or a b) h) in
         ap (under 1) (one_blame g k.0) ∙ sym k.1
     one_blame (faults.right_of_or_no_boolean a b t m s i) h =

@@ -15,7 +15,7 @@ use Rattle.type_checker.specs.Views.{static_view, boolean_view, fault_view}
 use Rattle.type_checker.specs.declared.static_type.BooleanType.{BooleanType}
 use Rattle.type_checker.specs.declared.static_type.BooleanType.TheVariants as truth
 use Rattle.type_checker.specs.type_capabilities.Pairs.{pair_of, pairs}
-use Rattle.type_checker.specs.type_capabilities.declared.pair.Pair.{Pair}
+use Rattle.type_checker.specs.type_capabilities.declared.pair.Capability.{Capability}
 use Rattle.type_checker.specs.declared.typed.Typed.{Typed}
 use Rattle.type_checker.specs.declared.fault.ExpressionFault as at_hand
 use Rattle.type_checker.specs.declared.fault.ExpressionFault.TheVariants as fault
@@ -26,19 +26,19 @@ use Rattle.fault_paths.specs.inner.Judging.{IsFault, IsFaultyIn, IsToldIn, IsBla
 use Rattle.fault_paths.specs.inner.Steps.{IsFound, IsFoundIn}
 
 module _ (env : Environment) (x : Expr) where
-  abbrev TypedBehind : List Pair → Typed → Type 0
+  abbrev TypedBehind : List Capability → Typed → Type 0
   TypedBehind ps t = Types env (pairs ps) x (static_view t.kind) (pairs t.learns.items)
 
-  abbrev FaultyBehind : List Pair → at_hand.ExpressionFault → Type 0
+  abbrev FaultyBehind : List Capability → at_hand.ExpressionFault → Type 0
   FaultyBehind ps f = f ≢ fault.NoMemory → Faults env (pairs ps) x (fault_view f)
 
-  found_at : {B : Type 0} (ps : List Pair) (r : Result Typed at_hand.ExpressionFault) (q : Result (Option Typed) B)
+  found_at : {B : Type 0} (ps : List Capability) (r : Result Typed at_hand.ExpressionFault) (q : Result (Option Typed) B)
       → IfOk r (TypedBehind ps) → IfErr r (FaultyBehind ps) → IsFoundIn r q → IfOk q (IsFound env (pairs ps) x)
   found_at ps r (Ok (Some t)) h g e = subst (λ s. IfOk s (TypedBehind ps)) e h
   found_at ps r (Ok None) h g e = (fault_view e.0, subst (λ s. IfErr s (FaultyBehind ps)) e.2 g e.1)
   found_at ps r (Err m) h g e = tt
 
-  pub found_is : {B : Type 0} (qs ps : List Pair) (r : Result Typed at_hand.ExpressionFault) (q : Result (Option Typed) B)
+  pub found_is : {B : Type 0} (qs ps : List Capability) (r : Result Typed at_hand.ExpressionFault) (q : Result (Option Typed) B)
       → qs ≡ ps → IfOk r (TypedBehind qs) → IfErr r (FaultyBehind qs) → IsFoundIn r q → IfOk q (IsFound env (pairs ps) x)
   found_is qs ps r q e h g f =
       found_at ps r q (subst (λ rs. IfOk r (TypedBehind rs)) e h) (subst (λ rs. IfErr r (FaultyBehind rs)) e g) f
@@ -59,18 +59,18 @@ module _ (env : Environment) (x : Expr) where
   told_as fault.BadExtensionLiteral n = refl
 
   -- it has a type where nothing is known, or the fault that is told
-  pub typed_there : (ps : List Pair) {r : Result Typed at_hand.ExpressionFault} {t : Typed} → ps ≡ [] → r ≡ Ok t
+  pub typed_there : (ps : List Capability) {r : Result Typed at_hand.ExpressionFault} {t : Typed} → ps ≡ [] → r ≡ Ok t
       → IfOk r (TypedBehind ps) → IsFaultyIn env x None
   typed_there ps {t = t} e is h =
       (static_view t.kind, (pairs t.learns.items, subst (λ qs. TypedBehind qs t) e (subst (λ s. IfOk s (TypedBehind ps)) is h)))
 
-  pub faulty_there : (ps : List Pair) {r : Result Typed at_hand.ExpressionFault} {f : at_hand.ExpressionFault} (g : TypeFault) → ps ≡ []
+  pub faulty_there : (ps : List Capability) {r : Result Typed at_hand.ExpressionFault} {f : at_hand.ExpressionFault} (g : TypeFault) → ps ≡ []
       → r ≡ Err f → f ≢ fault.NoMemory → g ≡ of_types f → IfErr r (FaultyBehind ps) → IsFaultyIn env x (Some g)
   faulty_there ps {f = f} g e is n told h =
       (fault_view f, told ∙ told_as f n, subst (λ qs. Faults env (pairs qs) x (fault_view f)) e (subst (λ s. IfErr s (FaultyBehind ps)) is h n))
 
 module _ (env : Environment) (x : Expr) where
-  pub told_is : {B : Type 0} (ps : List Pair) (r : Result Typed at_hand.ExpressionFault) (q : Result (Option TypeFault) B) → ps ≡ []
+  pub told_is : {B : Type 0} (ps : List Capability) (r : Result Typed at_hand.ExpressionFault) (q : Result (Option TypeFault) B) → ps ≡ []
       → IfOk r (TypedBehind env x ps) → IfErr r (FaultyBehind env x ps) → IsToldIn r q → IfOk q (IsFaultyIn env x)
   told_is ps r (Ok None) e h g t = typed_there env x ps e t.1 h
   told_is ps r (Ok (Some f)) e h g t = faulty_there env x ps f e t.2 t.1 t.3 g
@@ -83,7 +83,7 @@ blamed_so env other x i b e at f h = subst (λ E. IsBlamedAt E i x b) e (at, f, 
 pub typed_so : (env other : Environment) (x : Expr) → env ≡ other → IsFaultyIn env x None → (t : types.StaticType) × HasType x t other
 typed_so env other x e h = subst (λ E. IsFaultyIn E x None) e h
 
-pub pairs_append : (ps qs rs : List Pair) → rs ≡ ps ++ qs → pairs rs ≡ pairs ps ++ pairs qs
+pub pairs_append : (ps qs rs : List Capability) → rs ≡ ps ++ qs → pairs rs ≡ pairs ps ++ pairs qs
 pairs_append ps qs rs e = ap pairs e ∙ map-append pair_of ps qs
 
 boolean_view_boolean : (t : BooleanType) → types.IsBoolean (boolean_view t)

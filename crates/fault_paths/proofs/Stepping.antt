@@ -72,7 +72,7 @@ module _ (one : HaveOneJudgement) (env : Environment) (K : Pairs) where
       let x = form.And a y.now in
       subst (λ M. IsStep env K x M (step.Down 1 y)) (sym e) (
         lower_at x (Expr-F.And a y.now) o (a ∷ []) [] y.now refl,
-        λ n h. Going.and_goes_right one env x a y.now t i f (layer env (Expr-F.And a y.now) o h),
+        λ n h. Going.and_is_sound one env x a y.now t i f (layer env (Expr-F.And a y.now) o h),
       )
 
   pub and_stop_right : (a b : Expr) {s u : types.StaticType} {L M : Pairs} → Types env K a s L → IsBoolean s
@@ -101,7 +101,7 @@ module _ (one : HaveOneJudgement) (env : Environment) (K : Pairs) where
       let o = form.outs-Or a y.now in
       let x = form.Or a y.now in (
         lower_at x (Expr-F.Or a y.now) o (a ∷ []) [] y.now refl,
-        λ n h. Going.or_goes_right one env x a y.now t i f (layer env (Expr-F.Or a y.now) o h),
+        λ n h. Going.or_is_sound one env x a y.now t i f (layer env (Expr-F.Or a y.now) o h),
       )
 
   pub or_stop_right : (a b : Expr) {s u : types.StaticType} {L M : Pairs} → Types env K a s L → IsBoolean s

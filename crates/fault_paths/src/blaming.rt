@@ -13,7 +13,7 @@ use grammar_core::Expr;
 use plain::NoMemory;
 use std::alloc::Global;
 use type_checker::{
-    Environment, ExpressionFault, Pair, Policy, Schema, Typed, TypingEnvironment,
+    Capability, Environment, ExpressionFault, Policy, Schema, Typed, TypingEnvironment,
     expressions_have_one_judgement, judge_behind,
 };
 use validator::TypeFault;
@@ -53,7 +53,7 @@ fn fault_in<'a>(
 ) -> Result<Option<TypeFault>, NoMemory>
     ensures { IfOk result (IsFaultyIn (typing_environment env.entry) whole.entry.now) }
 {
-    let nothing: Vec<Pair<'a>> = Vec::new(alloc);
+    let nothing: Vec<Capability<'a>> = Vec::new(alloc);
     told(judge_behind(alloc, env, nothing.as_slice(), whole))
 }
 

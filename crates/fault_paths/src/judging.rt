@@ -7,7 +7,7 @@ ghost use Rattle.fault_paths.specs.inner.Steps.{IsFound, IsFoundIn};
 use grammar_core::Expr;
 use plain::NoMemory;
 use std::alloc::Global;
-use type_checker::{ExpressionFault, Pair, Typed, TypingEnvironment, judge_behind};
+use type_checker::{Capability, ExpressionFault, Typed, TypingEnvironment, judge_behind};
 
 /// Returns the type that was found, or `None` where there is none.
 fn found<'a>(judged: Result<Typed<'a>, ExpressionFault>) -> Result<Option<Typed<'a>>, NoMemory>
@@ -26,7 +26,7 @@ fn found<'a>(judged: Result<Typed<'a>, ExpressionFault>) -> Result<Option<Typed<
 pub(crate) fn judge<'a>(
     alloc: Global,
     env: TypingEnvironment<'a>,
-    known: &Vec<Pair<'a>>,
+    known: &Vec<Capability<'a>>,
     expr: &'a Expr,
 ) -> Result<Option<Typed<'a>>, NoMemory>
     ensures { IfOk result (λ found. IsFound (typing_environment env.entry) (pairs known.now.items)
@@ -37,8 +37,8 @@ pub(crate) fn judge<'a>(
 
 /// Puts what is learned behind what is known.
 pub(crate) fn know_too<'a>(
-    known: &mut Vec<Pair<'a>>,
-    learns: &Vec<Pair<'a>>,
+    known: &mut Vec<Capability<'a>>,
+    learns: &Vec<Capability<'a>>,
 ) -> Result<(), NoMemory>
     ensures { IfOk result (λ _. known.new.items ≡ known.old.items ++ learns.now.items) }
 {
@@ -49,9 +49,9 @@ pub(crate) fn know_too<'a>(
 /// Returns both: what is known, and behind it what is learned.
 fn both<'a>(
     alloc: Global,
-    known: &Vec<Pair<'a>>,
-    learns: &Vec<Pair<'a>>,
-) -> Result<Vec<Pair<'a>>, NoMemory>
+    known: &Vec<Capability<'a>>,
+    learns: &Vec<Capability<'a>>,
+) -> Result<Vec<Capability<'a>>, NoMemory>
     ensures { IfOk result (λ both. both.items ≡ known.now.items ++ learns.now.items) }
 {
     let mut both = Vec::new(alloc);
@@ -64,8 +64,8 @@ fn both<'a>(
 pub(crate) fn judge_with<'a>(
     alloc: Global,
     env: TypingEnvironment<'a>,
-    known: &Vec<Pair<'a>>,
-    learns: &Vec<Pair<'a>>,
+    known: &Vec<Capability<'a>>,
+    learns: &Vec<Capability<'a>>,
     expr: &'a Expr,
 ) -> Result<Option<Typed<'a>>, NoMemory>
     ensures { IfOk result (λ found. IsFound (typing_environment env.entry)

@@ -15,7 +15,9 @@ use expression_paths::operand;
 use grammar_core::Expr;
 use plain::{NoMemory, Shared};
 use std::alloc::Global;
-use type_checker::{Pair, StaticType, Typed, TypingEnvironment, expressions_have_one_judgement};
+use type_checker::{
+    Capability, StaticType, Typed, TypingEnvironment, expressions_have_one_judgement,
+};
 
 /// A step from a form that is at fault.
 #[derive(Drop)]
@@ -53,8 +55,8 @@ fn stop_at_branches<'a>(
 fn from_right_of_and<'a>(
     alloc: Global,
     env: TypingEnvironment<'a>,
-    known: &mut Vec<Pair<'a>>,
-    learns: Vec<Pair<'a>>,
+    known: &mut Vec<Capability<'a>>,
+    learns: Vec<Capability<'a>>,
     right: &'a Expr,
 ) -> Result<Step<'a>, NoMemory>
     ensures { let E = typing_environment env.entry in let K = pairs known.old.items in IfOk result (λ step.
@@ -75,7 +77,7 @@ fn from_right_of_and<'a>(
 fn from_and<'a>(
     alloc: Global,
     env: TypingEnvironment<'a>,
-    known: &mut Vec<Pair<'a>>,
+    known: &mut Vec<Capability<'a>>,
     left: Typed<'a>,
     right: &'a Expr,
 ) -> Result<Step<'a>, NoMemory>
@@ -94,7 +96,7 @@ fn from_and<'a>(
 fn from_right_of_or<'a>(
     alloc: Global,
     env: TypingEnvironment<'a>,
-    known: &Vec<Pair<'a>>,
+    known: &Vec<Capability<'a>>,
     right: &'a Expr,
 ) -> Result<Step<'a>, NoMemory>
     ensures { let E = typing_environment env.entry in let K = pairs known.now.items in IfOk result (λ step.
@@ -112,7 +114,7 @@ fn from_right_of_or<'a>(
 fn from_or<'a>(
     alloc: Global,
     env: TypingEnvironment<'a>,
-    known: &Vec<Pair<'a>>,
+    known: &Vec<Capability<'a>>,
     left: Typed<'a>,
     right: &'a Expr,
 ) -> Result<Step<'a>, NoMemory>
@@ -131,7 +133,7 @@ fn from_or<'a>(
 fn from_else<'a>(
     alloc: Global,
     env: TypingEnvironment<'a>,
-    known: &Vec<Pair<'a>>,
+    known: &Vec<Capability<'a>>,
     then: StaticType<'a>,
     alternative: &'a Expr,
 ) -> Result<Step<'a>, NoMemory>
@@ -150,8 +152,8 @@ fn from_else<'a>(
 fn from_branches<'a>(
     alloc: Global,
     env: TypingEnvironment<'a>,
-    known: &mut Vec<Pair<'a>>,
-    learns: Vec<Pair<'a>>,
+    known: &mut Vec<Capability<'a>>,
+    learns: Vec<Capability<'a>>,
     consequent: &'a Expr,
     alternative: &'a Expr,
 ) -> Result<Step<'a>, NoMemory>
@@ -174,7 +176,7 @@ fn from_branches<'a>(
 fn from_if<'a>(
     alloc: Global,
     env: TypingEnvironment<'a>,
-    known: &mut Vec<Pair<'a>>,
+    known: &mut Vec<Capability<'a>>,
     test: Typed<'a>,
     consequent: &'a Expr,
     alternative: &'a Expr,
@@ -215,7 +217,7 @@ fn keep_type<'a>(
 fn from_operands<'a>(
     alloc: Global,
     env: TypingEnvironment<'a>,
-    known: &Vec<Pair<'a>>,
+    known: &Vec<Capability<'a>>,
     expr: &'a Expr,
     blamed: Option<usize>,
 ) -> Result<Step<'a>, NoMemory>
@@ -241,7 +243,7 @@ fn from_operands<'a>(
 fn step_and<'a>(
     alloc: Global,
     env: TypingEnvironment<'a>,
-    known: &mut Vec<Pair<'a>>,
+    known: &mut Vec<Capability<'a>>,
     left: &'a Shared<Expr>,
     right: &'a Shared<Expr>,
 ) -> Result<Step<'a>, NoMemory>
@@ -261,7 +263,7 @@ fn step_and<'a>(
 fn step_or<'a>(
     alloc: Global,
     env: TypingEnvironment<'a>,
-    known: &Vec<Pair<'a>>,
+    known: &Vec<Capability<'a>>,
     left: &'a Shared<Expr>,
     right: &'a Shared<Expr>,
 ) -> Result<Step<'a>, NoMemory>
@@ -281,7 +283,7 @@ fn step_or<'a>(
 fn step_if<'a>(
     alloc: Global,
     env: TypingEnvironment<'a>,
-    known: &mut Vec<Pair<'a>>,
+    known: &mut Vec<Capability<'a>>,
     test: &'a Shared<Expr>,
     consequent: &'a Shared<Expr>,
     alternative: &'a Shared<Expr>,
@@ -304,7 +306,7 @@ fn step_if<'a>(
 pub(crate) fn step_from<'a>(
     alloc: Global,
     env: TypingEnvironment<'a>,
-    known: &mut Vec<Pair<'a>>,
+    known: &mut Vec<Capability<'a>>,
     expr: &'a Expr,
 ) -> Result<Step<'a>, NoMemory>
     ensures { IfOk result (IsStep (typing_environment env.entry) (pairs known.old.items) expr.entry.now

@@ -8,7 +8,7 @@ use Rattle.grammar_trees.specs.grammar_tokens.declared.tree.UidTree.{UidTree}
 use Rattle.grammar_trees.specs.declared.tree.Access.{Access}
 use Rattle.grammar_trees.specs.declared.tree.Access.TheVariants as access
 use Rattle.grammar_trees.specs.declared.tree.Comparison.{Comparison}
-use Rattle.grammar_trees.specs.declared.tree.Entry.{Entry}
+use Rattle.grammar_trees.specs.declared.tree.RecordEntry.{RecordEntry}
 use Rattle.grammar_trees.specs.declared.tree.KeyTree.{KeyTree}
 use Rattle.grammar_trees.specs.declared.tree.Variable.{Variable}
 use Rattle.grammar_trees.specs.declared.tree.Term.{Term}
@@ -61,7 +61,7 @@ module _ (text : List ℕ) where
   core-Set members =
       ap (core_of text) (sym (t.rolls-Set members)) ∙ ap (λ m. m.alone) (fold-roll-ExprTree Meaning (core_step text) (tree.Set members)) ∙ ap core.Set (map_map (λ m. m.alone) (meaning text) members)
 
-  pub core-Record : (entries : List (Entry ExprTree)) → core_of text (t.Record entries) ≡ core.Record (map (field text) (map (in_entry (core_of text)) entries))
+  pub core-Record : (entries : List (RecordEntry ExprTree)) → core_of text (t.Record entries) ≡ core.Record (map (field text) (map (in_entry (core_of text)) entries))
   core-Record entries =
       ap (core_of text) (sym (t.rolls-Record entries)) ∙ ap (λ m. m.alone) (fold-roll-ExprTree Meaning (core_step text) (tree.Record entries)) ∙ ap (λ es. core.Record (map (field text) es)) (map_map (in_entry (λ m. m.alone)) _ entries)
 

@@ -8,7 +8,7 @@ use Rattle.grammar_trees.specs.grammar_tokens.declared.tree.UidTree.{UidTree}
 use Rattle.grammar_trees.specs.declared.tree.Access.{Access}
 use Rattle.grammar_trees.specs.declared.tree.Access.TheVariants as access
 use Rattle.grammar_trees.specs.declared.tree.Comparison.{Comparison}
-use Rattle.grammar_trees.specs.declared.tree.Entry.{Entry}
+use Rattle.grammar_trees.specs.declared.tree.RecordEntry.{RecordEntry}
 use Rattle.grammar_trees.specs.declared.tree.KeyTree.{KeyTree}
 use Rattle.grammar_trees.specs.declared.tree.Variable.{Variable}
 use Rattle.grammar_trees.specs.declared.tree.Term.{Term}
@@ -59,7 +59,7 @@ module _ (text : List ℕ) where
   faults-Set members =
       ap (faults_of text) (sym (t.rolls-Set members)) ∙ ap (λ f. f.alone) (fold-roll-ExprTree Faulty (fault_step text) (tree.Set members)) ∙ flat_map_map (λ f. f.alone) (fault_meaning text) members
 
-  pub faults-Record : (entries : List (Entry ExprTree)) → faults_of text (t.Record entries) ≡ repeat_faults (map (key_of text) entries) ++ flat_map (λ entry. faults_of text entry.value) entries
+  pub faults-Record : (entries : List (RecordEntry ExprTree)) → faults_of text (t.Record entries) ≡ repeat_faults (map (key_of text) entries) ++ flat_map (λ entry. faults_of text entry.value) entries
   faults-Record entries =
       ap (faults_of text) (sym (t.rolls-Record entries)) ∙ ap (λ f. f.alone) (fold-roll-ExprTree Faulty (fault_step text) (tree.Record entries)) ∙ joined (ap repeat_faults (map_map (key_of text) _ entries)) (flat_map_each (λ entry. entry.value.alone) (λ entry. faults_of text entry.value) _ (λ entry. refl) entries)
 

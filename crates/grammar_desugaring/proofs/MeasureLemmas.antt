@@ -9,7 +9,7 @@ use Rattle.grammar_trees.specs.grammar_tokens.declared.tree.UidTree.{UidTree}
 use Rattle.grammar_trees.specs.declared.tree.Access.{Access}
 use Rattle.grammar_trees.specs.declared.tree.Access.TheVariants as access
 use Rattle.grammar_trees.specs.declared.tree.Comparison.{Comparison}
-use Rattle.grammar_trees.specs.declared.tree.Entry.{Entry}
+use Rattle.grammar_trees.specs.declared.tree.RecordEntry.{RecordEntry}
 use Rattle.grammar_trees.specs.declared.tree.KeyTree.{KeyTree}
 use Rattle.grammar_trees.specs.declared.tree.Variable.{Variable}
 use Rattle.grammar_trees.specs.declared.tree.Term.{Term}
@@ -66,19 +66,19 @@ module _ (text : List ℕ) where
       ap (λ es. of_row es (flat_map (faults_of text) xs)) (sym (fold_snoc (core_of text) xs []))
       ∙ fused of_row (λ es x. es ++ core_of text x ∷ []) (faults_of text) (λ j x. beside j (measured text x)) (λ es fs x. row-snoc es (core_of text x) fs (faults_of text x)) xs [] []
 
-  valued : (entries : List (Entry ExprTree)) →
+  valued : (entries : List (RecordEntry ExprTree)) →
       of_row (map (λ entry. core_of text entry.value) entries) (flat_map (λ entry. faults_of text entry.value) entries) ≡ fold (measured_entry text) nothing entries
   valued entries =
       ap (λ es. of_row es (flat_map (λ entry. faults_of text entry.value) entries)) (sym (fold_snoc (λ entry. core_of text entry.value) entries []))
       ∙ fused of_row (λ es entry. es ++ core_of text entry.value ∷ []) (λ entry. faults_of text entry.value) (measured_entry text)
       (λ es fs entry. row-snoc es (core_of text entry.value) fs (faults_of text entry.value)) entries [] []
 
-  heights : (step : Expr → ℕ) (entries : List (Entry ExprTree)) → map (λ f. f.value) (map {A = Named Expr} {B = Named ℕ} (λ f. record { name = f.name; value = step f.value })
+  heights : (step : Expr → ℕ) (entries : List (RecordEntry ExprTree)) → map (λ f. f.value) (map {A = Named Expr} {B = Named ℕ} (λ f. record { name = f.name; value = step f.value })
       (map (field text) (map (in_entry (core_of text)) entries))) ≡ map step (map (λ entry. core_of text entry.value) entries)
   heights step [] = refl
   heights step (entry ∷ entries) = ap (λ ns. step (core_of text entry.value) ∷ ns) (heights step entries)
 
-  of-Record : (entries : List (Entry ExprTree)) (fs : List DesugarFault) →
+  of-Record : (entries : List (RecordEntry ExprTree)) (fs : List DesugarFault) →
       of (core.Record (map (field text) (map (in_entry (core_of text)) entries))) fs ≡ above (of_row (map (λ entry. core_of text entry.value) entries) fs)
   of-Record entries fs =
       let values = map (λ entry. core_of text entry.value) entries in
@@ -140,7 +140,7 @@ module _ (text : List ℕ) where
   measured-Set members =
       same_of (core-Set text members) (faults-Set text members) ∙ of-Set (map (core_of text) members) (flat_map (faults_of text) members) ∙ ap above (rowed members)
 
-  pub measured-Record : (entries : List (Entry ExprTree)) → measured text (t.Record entries) ≡ above (with_fault (least (repeat_faults (map (key_of text) entries))) (fold (measured_entry text) nothing entries))
+  pub measured-Record : (entries : List (RecordEntry ExprTree)) → measured text (t.Record entries) ≡ above (with_fault (least (repeat_faults (map (key_of text) entries))) (fold (measured_entry text) nothing entries))
   measured-Record entries =
       same_of (core-Record text entries) (faults-Record text entries) ∙ of-Record entries (repeat_faults (map (key_of text) entries) ++ flat_map (λ entry. faults_of text entry.value) entries)
       ∙ ap (λ o. above (measure (greatest (map height (map (λ entry. core_of text entry.value) entries))) (total (map forms (map (λ entry. core_of text entry.value) entries))) o))

@@ -8,7 +8,7 @@ use Rattle.grammar_trees.specs.grammar_tokens.declared.tree.UidTree.{UidTree}
 use Rattle.grammar_trees.specs.declared.tree.Access.{Access}
 use Rattle.grammar_trees.specs.declared.tree.Access.TheVariants as access
 use Rattle.grammar_trees.specs.declared.tree.Comparison.{Comparison}
-use Rattle.grammar_trees.specs.declared.tree.Entry.{Entry}
+use Rattle.grammar_trees.specs.declared.tree.RecordEntry.{RecordEntry}
 use Rattle.grammar_trees.specs.declared.tree.KeyTree.{KeyTree}
 use Rattle.grammar_trees.specs.declared.tree.KeyTree.TheVariants.{Word, Quoted}
 use Rattle.grammar_trees.specs.declared.tree.Term.{Term}
@@ -84,7 +84,7 @@ module _ (text : List ℕ) where
       let all = opened x (flat_map parts_of members) (t.Set members) is (parts-Set members) stands in
       all_in members all
 
-  pub of-Record : (x : ExprTree) (entries : List (Entry ExprTree)) → x ≡ t.Record entries → WellFormed text x → AllByRecursion (WellFormedEntry text) entries
+  pub of-Record : (x : ExprTree) (entries : List (RecordEntry ExprTree)) → x ≡ t.Record entries → WellFormed text x → AllByRecursion (WellFormedEntry text) entries
   of-Record x entries is stands =
       let all = opened x (flat_map parts_of_entry entries) (t.Record entries) is (parts-Record entries) stands in
       all_flat Is (WellFormedEntry text) parts_of_entry (λ entry parts. record { key = key_in entry.key parts.0; value = tree_in entry.value parts.1 }) entries all

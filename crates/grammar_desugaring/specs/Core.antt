@@ -18,7 +18,7 @@ use Rattle.grammar_trees.specs.declared.tree.Access.{Access}
 use Rattle.grammar_trees.specs.declared.tree.Access.TheVariants as access
 use Rattle.grammar_trees.specs.declared.tree.Comparison.{Comparison}
 use Rattle.grammar_trees.specs.declared.tree.Comparison.TheVariants as is
-use Rattle.grammar_trees.specs.declared.tree.Entry.{Entry}
+use Rattle.grammar_trees.specs.declared.tree.RecordEntry.{RecordEntry}
 use Rattle.grammar_trees.specs.declared.tree.Term.{Term}
 use Rattle.grammar_trees.specs.declared.tree.ExprTree.{ExprTree}
 use Rattle.grammar_trees.specs.declared.tree.ExprTree.TheOpen.{ExprTree-F as tree}
@@ -94,7 +94,7 @@ abbrev pub added : Expr → Term Expr → Expr
 added left term = core.Binary (sign_of term.sign) left term.operand
 
 -- `field text entry` is the named value of a record's entry.
-abbrev pub field : List ℕ → Entry Expr → Named Expr
+abbrev pub field : List ℕ → RecordEntry Expr → Named Expr
 field text entry = record { name = name_of text entry.key; value = entry.value }
 
 -- The parts of a list, each with its expression mapped by `f`.
@@ -102,7 +102,7 @@ module _ {A B : Type 0} (f : A → B) where
   abbrev pub in_term : Term A → Term B
   in_term term = record { sign = term.sign; operand = f term.operand }
 
-  abbrev pub in_entry : Entry A → Entry B
+  abbrev pub in_entry : RecordEntry A → RecordEntry B
   in_entry entry = record { key = entry.key; value = f entry.value }
 
   abbrev pub in_access : Access (List A) → Access (List B)

@@ -8,7 +8,7 @@ use Rattle.grammar_trees.specs.grammar_tokens.Lexing.{spelling_of}
 use Rattle.grammar_trees.specs.grammar_tokens.declared.tree.PathTree.{PathTree}
 use Rattle.grammar_trees.specs.declared.tree.Access.{Access}
 use Rattle.grammar_trees.specs.declared.tree.Access.TheVariants as access
-use Rattle.grammar_trees.specs.declared.tree.Entry.{Entry}
+use Rattle.grammar_trees.specs.declared.tree.RecordEntry.{RecordEntry}
 use Rattle.grammar_trees.specs.declared.tree.ExprTree.{ExprTree}
 use Rattle.grammar_trees.specs.declared.tree.ExprTree.TheOpen.{ExprTree-F as tree}
 use Rattle.grammar_trees.specs.declared.tree.ExprTree.TheFolds.{fold-ExprTree}
@@ -51,7 +51,7 @@ access_faults text (access.Method name arguments) =
     ++ flat_map (λ faults. faults) arguments
 
 -- `key_of text entry` is the key of a record's entry, with its offset.
-abbrev pub key_of : List ℕ → {A : Type 0} → Entry A → NameAt
+abbrev pub key_of : List ℕ → {A : Type 0} → RecordEntry A → NameAt
 key_of text entry = record { name = name_of text entry.key; at = place_of entry.key }
 
 abbrev by_itself : Faulty → List DesugarFault

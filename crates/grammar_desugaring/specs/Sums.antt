@@ -11,7 +11,7 @@ use Rattle.grammar_trees.specs.declared.tree.Access.{Access}
 use Rattle.grammar_trees.specs.declared.tree.Access.TheVariants as access
 use Rattle.grammar_trees.specs.declared.tree.Comparison.{Comparison}
 use Rattle.grammar_trees.specs.declared.tree.Comparison.TheVariants as is
-use Rattle.grammar_trees.specs.declared.tree.Entry.{Entry}
+use Rattle.grammar_trees.specs.declared.tree.RecordEntry.{RecordEntry}
 use Rattle.grammar_trees.specs.declared.tree.Term.{Term}
 use Rattle.grammar_trees.specs.declared.tree.ExprTree.{ExprTree}
 use Rattle.grammar_desugaring.specs.declared.fault.DesugarFault.{DesugarFault}
@@ -77,7 +77,7 @@ abbrev pub measured_term : List ℕ → Measure → Term ExprTree → Measure
 measured_term text j term = paired j (measured text term.operand)
 
 -- `measured_entry text j entry` is that with one more entry.
-abbrev pub measured_entry : List ℕ → Measure → Entry ExprTree → Measure
+abbrev pub measured_entry : List ℕ → Measure → RecordEntry ExprTree → Measure
 measured_entry text j entry = beside j (measured text entry.value)
 
 -- `measured_compared operator i j` is that of a comparison.

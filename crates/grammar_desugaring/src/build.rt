@@ -18,7 +18,7 @@ use crate::names::method_named;
 use crate::pairs::{add, both};
 use crate::words::name;
 use grammar_core::{Expr, Named, Unary};
-use grammar_trees::{Access, Entry, ExprTree, Term, spelling};
+use grammar_trees::{Access, ExprTree, RecordEntry, Term, spelling};
 use plain::{Boxed, Items, NoMemory};
 use std::alloc::Global;
 
@@ -112,7 +112,7 @@ fn build_all(alloc: Global, text: &str, trees: &[ExprTree]) -> Result<Items<Expr
 fn build_entries(
     alloc: Global,
     text: &str,
-    entries: &[Entry<ExprTree>],
+    entries: &[RecordEntry<ExprTree>],
 ) -> Result<Items<Named<Expr>>, NoMemory>
     requires { AllByRecursion (WellFormedEntry text.now) entries.now }
     ensures { IfOk result (λ fs. fs ≡ map (spec.field text.now) (map (spec.in_entry (core_of text.now)) entries.now)) }

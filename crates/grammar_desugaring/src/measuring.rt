@@ -25,7 +25,7 @@ use crate::names::{function_named, method_named};
 use crate::numbers::{fits, fits_negated};
 use crate::repeats::repeated_key;
 use grammar_core::UnaryCall;
-use grammar_trees::{Access, Comparison, Entry, ExprTree, PathTree, Term, Token, spelling};
+use grammar_trees::{Access, Comparison, ExprTree, PathTree, RecordEntry, Term, Token, spelling};
 use plain::{Boxed, Items, NoMemory};
 use std::alloc::Global;
 
@@ -261,7 +261,7 @@ fn measure_all(alloc: Global, text: &str, trees: &[ExprTree]) -> Told
 }
 
 #[cycle(measuring)]
-fn measure_entries(alloc: Global, text: &str, entries: &[Entry<ExprTree>]) -> Told
+fn measure_entries(alloc: Global, text: &str, entries: &[RecordEntry<ExprTree>]) -> Told
     requires { AllByRecursion (WellFormedEntry text.now) entries.now }
     ensures { IfOk result (λ j. j ≡ fold (spec.measured_entry text.now) spec.nothing entries.now) }
 {

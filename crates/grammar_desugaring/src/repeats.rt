@@ -9,7 +9,7 @@ ghost use Rattle.grammar_desugaring.specs.inner.Searching.{repeat_fault, held};
 
 use crate::fault::DesugarFault;
 use crate::words::{name, place};
-use grammar_trees::{Entry, ExprTree, NameAt, least_place};
+use grammar_trees::{ExprTree, NameAt, RecordEntry, least_place};
 use plain::{NoMemory, Text};
 use std::alloc::Global;
 
@@ -45,7 +45,11 @@ pub fn first_duplicate(
 }
 
 /// Returns the keys of a record.
-fn keys_of(alloc: Global, text: &str, entries: &[Entry<ExprTree>]) -> Result<Vec<Key>, NoMemory>
+fn keys_of(
+    alloc: Global,
+    text: &str,
+    entries: &[RecordEntry<ExprTree>],
+) -> Result<Vec<Key>, NoMemory>
     requires { AllByRecursion (WellFormedEntry text.now) entries.now }
     ensures { IfOk result (λ keys. map held keys.items ≡ map (key_of text.now) entries.now) }
 {
@@ -78,7 +82,7 @@ fn names_of<'a>(alloc: Global, keys: &'a [Key]) -> Result<Vec<NameAt<'a>>, NoMem
 pub(crate) fn repeated_key(
     alloc: Global,
     text: &str,
-    entries: &[Entry<ExprTree>],
+    entries: &[RecordEntry<ExprTree>],
 ) -> Result<Option<DesugarFault>, NoMemory>
     requires { AllByRecursion (WellFormedEntry text.now) entries.now }
     ensures { IfOk result (λ fault. fault ≡ least (repeat_faults (map (key_of text.now) entries.now))) }

@@ -5,7 +5,7 @@ use Rattle.grammar_trees.specs.grammar_tokens.declared.token.TokenKind.{TokenKin
 use Rattle.grammar_trees.specs.grammar_tokens.declared.token.TokenKind.TheVariants as k
 use Rattle.grammar_trees.specs.grammar_tokens.declared.tree.PathTree.{PathTree}
 use Rattle.grammar_trees.specs.declared.tree.Access.{Access}
-use Rattle.grammar_trees.specs.declared.tree.Entry.{Entry}
+use Rattle.grammar_trees.specs.declared.tree.RecordEntry.{RecordEntry}
 use Rattle.grammar_trees.specs.declared.tree.KeyTree.{KeyTree}
 use Rattle.grammar_trees.specs.declared.tree.KeyTree.TheVariants.{Word, Quoted}
 use Rattle.grammar_trees.specs.declared.tree.Sign.{Sign}
@@ -134,7 +134,7 @@ alive_key = alive_left word_key quoted_key [] (go (begin_of identifiers k.Ident 
 
 -- ---- what nests
 
-abbrev pub entry_of : KeyTree → ExprTree → Entry ExprTree
+abbrev pub entry_of : KeyTree → ExprTree → RecordEntry ExprTree
 entry_of key x = record { key = key; value = x }
 
 abbrev pub term_of : Sign → ExprTree → Term ExprTree
@@ -182,19 +182,19 @@ module _ (o : Bool) (E : Lang ExprTree) where
 
   -- ---- entries
 
-  abbrev pub entry_end : KeyTree → Lang (Entry ExprTree)
+  abbrev pub entry_end : KeyTree → Lang (RecordEntry ExprTree)
   entry_end key = lang.◌>>◌ (lang.one k.Colon) (lang.◌>>=◌ E (λ x. lang.empty (entry_of key x)))
 
   pub starts_entry : Starts (g.entry o E) keys
   starts_entry = starts_both g.key entry_end keys starts_key
 
-  abbrev pub next_entry : Lang (Entry ExprTree)
+  abbrev pub next_entry : Lang (RecordEntry ExprTree)
   next_entry = lang.◌>>◌ (lang.one k.Comma) (g.entry o E)
 
-  abbrev pub entered : Entry ExprTree → Lang (List (Entry ExprTree))
+  abbrev pub entered : RecordEntry ExprTree → Lang (List (RecordEntry ExprTree))
   entered first = lang.◌>>=◌ (lang.many next_entry) (λ more. lang.empty (first ∷ more))
 
-  pub alive_entered : (first : Entry ExprTree) → Begins (entered first) []
+  pub alive_entered : (first : RecordEntry ExprTree) → Begins (entered first) []
   alive_entered first = go (alive_many next_entry) (λ more. alive_empty (first ∷ more))
 
   pub alive_entries : Begins (g.entries o E) []

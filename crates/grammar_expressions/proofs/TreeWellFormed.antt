@@ -7,7 +7,7 @@ use Rattle.grammar_trees.specs.grammar_tokens.declared.tree.PathTree.{PathTree}
 use Rattle.grammar_trees.specs.grammar_tokens.declared.tree.UidTree.{UidTree}
 use Rattle.grammar_trees.specs.declared.tree.Access.{Access}
 use Rattle.grammar_trees.specs.declared.tree.Comparison.{Comparison}
-use Rattle.grammar_trees.specs.declared.tree.Entry.{Entry}
+use Rattle.grammar_trees.specs.declared.tree.RecordEntry.{RecordEntry}
 use Rattle.grammar_trees.specs.declared.tree.KeyTree.{KeyTree}
 use Rattle.grammar_trees.specs.declared.tree.Term.{Term}
 use Rattle.grammar_trees.specs.declared.tree.ExprTree.{ExprTree}
@@ -45,7 +45,7 @@ module _ (ts : List Token) where
   abbrev pub WellFormedAccess : Access (List ExprTree) → Type 0
   WellFormedAccess x = All (parts_of_access x)
 
-  abbrev pub WellFormedEntry : Entry ExprTree → Type 0
+  abbrev pub WellFormedEntry : RecordEntry ExprTree → Type 0
   WellFormedEntry x = All (parts_of_entry x)
 
   abbrev pub WellFormedTerm : Term ExprTree → Type 0
@@ -93,7 +93,7 @@ module _ (ts : List Token) where
   pub of-Set : (members : List ExprTree) → Trees members → Tree (t.Set members)
   of-Set members all = made (t.Set members) (flat_map parts_of members) (parts-Set members) (of_trees members all)
 
-  pub of-Record : (entries : List (Entry ExprTree)) → AllByRecursion WellFormedEntry entries → Tree (t.Record entries)
+  pub of-Record : (entries : List (RecordEntry ExprTree)) → AllByRecursion WellFormedEntry entries → Tree (t.Record entries)
   of-Record entries all =
       made (t.Record entries) (flat_map parts_of_entry entries) (parts-Record entries) (flat_all Is WellFormedEntry parts_of_entry (λ x s. s) entries all)
 

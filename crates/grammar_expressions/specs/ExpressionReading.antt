@@ -8,7 +8,7 @@ use Rattle.grammar_trees.specs.grammar_tokens.declared.tree.Name.{Name}
 use Rattle.grammar_trees.specs.grammar_tokens.declared.tree.Name.TheVariants as name
 use Rattle.grammar_trees.specs.declared.tree.Access.{Access}
 use Rattle.grammar_trees.specs.declared.tree.Access.TheVariants as access
-use Rattle.grammar_trees.specs.declared.tree.Entry.{Entry}
+use Rattle.grammar_trees.specs.declared.tree.RecordEntry.{RecordEntry}
 use Rattle.grammar_trees.specs.declared.tree.KeyTree.{KeyTree}
 use Rattle.grammar_trees.specs.declared.tree.KeyTree.TheVariants.{Word, Quoted}
 use Rattle.grammar_trees.specs.declared.tree.Term.{Term}
@@ -129,7 +129,7 @@ module _ (may : Bool) (inner : Parser ExprTree) where
     pure found
 
   -- `entry` parses a key, ":" and an expression.
-  unfoldable pub entry : Parser (Entry ExprTree)
+  unfoldable pub entry : Parser (RecordEntry ExprTree)
   entry = do
     name ← key
     token k.Colon
@@ -137,15 +137,15 @@ module _ (may : Bool) (inner : Parser ExprTree) where
     pure (record { key = name; value = x })
 
   -- `next_entry` parses "," and an entry.
-  unfoldable pub next_entry : Parser (Entry ExprTree)
+  unfoldable pub next_entry : Parser (RecordEntry ExprTree)
   next_entry = token k.Comma >> entry
 
   -- `rest_of_entries first` parses the entries after the first.
-  unfoldable pub rest_of_entries : Entry ExprTree → Parser (List (Entry ExprTree))
+  unfoldable pub rest_of_entries : RecordEntry ExprTree → Parser (List (RecordEntry ExprTree))
   rest_of_entries first = many (only k.Comma) next_entry >>= (λ more. pure (first ∷ more))
 
   -- `entries` parses entries with commas between them, or none.
-  unfoldable pub entries : Parser (List (Entry ExprTree))
+  unfoldable pub entries : Parser (List (RecordEntry ExprTree))
   entries = either keys (entry >>= rest_of_entries) (pure [])
 
   -- ---- names: a variable, a Uid and a call begin alike, so they are parsed from their common front, by

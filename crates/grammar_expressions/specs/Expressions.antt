@@ -12,7 +12,7 @@ use Rattle.grammar_trees.specs.declared.tree.Access.{Access}
 use Rattle.grammar_trees.specs.declared.tree.Access.TheVariants as access
 use Rattle.grammar_trees.specs.declared.tree.Comparison.{Comparison}
 use Rattle.grammar_trees.specs.declared.tree.Comparison.TheVariants as comparison
-use Rattle.grammar_trees.specs.declared.tree.Entry.{Entry}
+use Rattle.grammar_trees.specs.declared.tree.RecordEntry.{RecordEntry}
 use Rattle.grammar_trees.specs.declared.tree.KeyTree.{KeyTree}
 use Rattle.grammar_trees.specs.declared.tree.KeyTree.TheVariants.{Word, Quoted}
 use Rattle.grammar_trees.specs.declared.tree.Sign.{Sign}
@@ -170,7 +170,7 @@ module _ (may : Bool) (inner : Lang ExprTree) where
     empty (tree.Set found)
 
   -- Key ":" Expr
-  abbrev pub entry : Lang (Entry ExprTree)
+  abbrev pub entry : Lang (RecordEntry ExprTree)
   entry = do
     name ← key
     one k.Colon
@@ -178,7 +178,7 @@ module _ (may : Bool) (inner : Lang ExprTree) where
     empty (record { key = name; value = x })
 
   -- [ Key ":" Expr { "," Key ":" Expr } ]
-  abbrev pub entries : Lang (List (Entry ExprTree))
+  abbrev pub entries : Lang (List (RecordEntry ExprTree))
   entries = (do first ← entry; more ← many (one k.Comma >> entry); empty (first ∷ more)) or empty []
 
   -- "{" [ Key ":" Expr { "," Key ":" Expr } ] "}"

@@ -10,8 +10,8 @@ ghost use Rattle.grammar_trees.specs.grammar_tokens.declared.fault.StopCause.The
 use crate::symbols::{Symbol, take_symbol};
 use crate::token_sets::TokenSet;
 use grammar_trees::{
-    Access, Cursor, Entry, ExprTree, KeyTree, Name, NameSet, PathTree, StopCause, Token, TokenKind,
-    Variable, read_more, rest_of_name,
+    Access, Cursor, ExprTree, KeyTree, Name, NameSet, PathTree, RecordEntry, StopCause, Token,
+    TokenKind, Variable, read_more, rest_of_name,
 };
 use plain::{Boxed, Items, beside};
 use std::alloc::Global;
@@ -166,7 +166,7 @@ impl<F: Fn(Global, &mut Cursor<'_>, usize) -> Result<ExprTree, StopCause>> Reade
 
     /// Key ":" Expr
     #[tactic(auto, unfolding(crate::specs::ExpressionReading::entry))]
-    fn entry(&self, tokens: &mut Cursor<'_>) -> Result<Entry<ExprTree>, StopCause>
+    fn entry(&self, tokens: &mut Cursor<'_>) -> Result<RecordEntry<ExprTree>, StopCause>
         requires { Nests self.now.levels (F.pre self.now.expr) (F.post self.now.expr) }
         ensures { ParsesTo (spec.entry (is_positive self.now.levels) (spec.expr self.now.levels) tokens.old.rest.now)
             result tokens.new.rest.now }
@@ -174,11 +174,11 @@ impl<F: Fn(Global, &mut Cursor<'_>, usize) -> Result<ExprTree, StopCause>> Reade
         let key = key(tokens)?;
         tokens.take(TokenKind::Colon)?;
         let value = self.inner(tokens)?;
-        Ok(Entry { key, value })
+        Ok(RecordEntry { key, value })
     }
 
     #[tactic(auto, unfolding(crate::specs::ExpressionReading::next_entry))]
-    fn next_entry(&self, tokens: &mut Cursor<'_>) -> Result<Entry<ExprTree>, StopCause>
+    fn next_entry(&self, tokens: &mut Cursor<'_>) -> Result<RecordEntry<ExprTree>, StopCause>
         requires { Nests self.now.levels (F.pre self.now.expr) (F.post self.now.expr) }
         ensures { ParsesTo (spec.next_entry (is_positive self.now.levels)
             (spec.expr self.now.levels) tokens.old.rest.now)
@@ -191,8 +191,8 @@ impl<F: Fn(Global, &mut Cursor<'_>, usize) -> Result<ExprTree, StopCause>> Reade
     fn rest_of_entries(
         &self,
         tokens: &mut Cursor<'_>,
-        first: Entry<ExprTree>,
-    ) -> Result<Items<Entry<ExprTree>>, StopCause>
+        first: RecordEntry<ExprTree>,
+    ) -> Result<Items<RecordEntry<ExprTree>>, StopCause>
         requires { Nests self.now.levels (F.pre self.now.expr) (F.post self.now.expr) }
         ensures { ParsesTo (spec.rest_of_entries (is_positive self.now.levels) (spec.expr self.now.levels)
             first tokens.old.rest.now)
@@ -205,7 +205,7 @@ impl<F: Fn(Global, &mut Cursor<'_>, usize) -> Result<ExprTree, StopCause>> Reade
 
     /// [ Key ":" Expr { "," Key ":" Expr } ]
     #[tactic(auto, unfolding(crate::specs::ExpressionReading::entries))]
-    fn entries(&self, tokens: &mut Cursor<'_>) -> Result<Items<Entry<ExprTree>>, StopCause>
+    fn entries(&self, tokens: &mut Cursor<'_>) -> Result<Items<RecordEntry<ExprTree>>, StopCause>
         requires { Nests self.now.levels (F.pre self.now.expr) (F.post self.now.expr) }
         ensures { ParsesTo (spec.entries (is_positive self.now.levels) (spec.expr self.now.levels) tokens.old.rest.now)
             result tokens.new.rest.now }

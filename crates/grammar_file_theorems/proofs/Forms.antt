@@ -8,7 +8,7 @@ use Rattle.grammar_files.specs.grammar_tokens.declared.tree.UidTree.{UidTree}
 use Rattle.grammar_files.specs.grammar_trees.declared.tree.Access.{Access}
 use Rattle.grammar_files.specs.grammar_trees.declared.tree.Access.TheVariants as access
 use Rattle.grammar_files.specs.grammar_trees.declared.tree.Comparison.{Comparison}
-use Rattle.grammar_files.specs.grammar_trees.declared.tree.Entry.{Entry}
+use Rattle.grammar_files.specs.grammar_trees.declared.tree.RecordEntry.{RecordEntry}
 use Rattle.grammar_files.specs.grammar_trees.declared.tree.KeyTree.{KeyTree}
 use Rattle.grammar_files.specs.grammar_trees.declared.tree.Variable.{Variable}
 use Rattle.grammar_files.specs.grammar_trees.declared.tree.Term.{Term}
@@ -50,7 +50,7 @@ module _ (text part : List ℕ) where
   abbrev pub SameKey : KeyTree → KeyTree → Type 0
   SameKey a b = name_of text a ≡ name_of part b
 
-  abbrev pub SameEntry : Entry ExprTree → Entry ExprTree → Type 0
+  abbrev pub SameEntry : RecordEntry ExprTree → RecordEntry ExprTree → Type 0
   SameEntry a b = SameKey a.key b.key × SameTree a.value b.value
 
   abbrev pub SameTerm : Term ExprTree → Term ExprTree → Type 0
@@ -115,13 +115,13 @@ module _ (text part : List ℕ) where
       (ap (meaning part) (sym (t.rolls-Set ys)) ∙ fold-roll-ExprTree Meaning (core_step part) (tree.Set ys))
       (known.core-Set text xs ∙ ap core.Set (cores xs ys each) ∙ sym (known.core-Set part ys))
 
-  fields : (xs ys : List (Entry ExprTree)) → AllZip SameEntry xs ys → map (field text) (map (in_entry (core_of text)) xs) ≡ map (field part) (map (in_entry (core_of part)) ys)
+  fields : (xs ys : List (RecordEntry ExprTree)) → AllZip SameEntry xs ys → map (field text) (map (in_entry (core_of text)) xs) ≡ map (field part) (map (in_entry (core_of part)) ys)
   fields [] [] h = refl
   fields [] (y ∷ ys) h = absurd h
   fields (x ∷ xs) [] h = absurd h
   fields (x ∷ xs) (y ∷ ys) h = λ i. record { name = h.0.0 i; value = (h.0.1 i).alone } ∷ fields xs ys h.1 i
 
-  pub same-Record : (xs ys : List (Entry ExprTree)) → AllZip SameEntry xs ys → SameTree (t.Record xs) (t.Record ys)
+  pub same-Record : (xs ys : List (RecordEntry ExprTree)) → AllZip SameEntry xs ys → SameTree (t.Record xs) (t.Record ys)
   same-Record xs ys each =
       plain_same _ _ _ _ (ap (meaning text) (sym (t.rolls-Record xs)) ∙ fold-roll-ExprTree Meaning (core_step text) (tree.Record xs))
       (ap (meaning part) (sym (t.rolls-Record ys)) ∙ fold-roll-ExprTree Meaning (core_step part) (tree.Record ys))

@@ -2,7 +2,7 @@
 use Rattle.std.proofs.Common.{◌≡◌, ℕ, suc, ◌≤◌, true, List, [], ◌∷◌, ◌++◌, inl, inr, refl, sym, ◌∙◌, ap, subst, arith, length, take, drop, take-append-drop, Option, Some, None}
 use Rattle.grammar_tokens.specs.declared.token.TokenKind.{TokenKind}
 use Rattle.grammar_tokens.specs.declared.token.TokenKind.TheVariants.{Number}
-use Rattle.grammar_tokens.specs.declared.token.Found.{Found}
+use Rattle.grammar_tokens.specs.declared.token.ScannedToken.{ScannedToken}
 use Rattle.plain.specs.Words.{is_letter, is_digit, is_word_byte, run}
 use Rattle.grammar_tokens.specs.Lexing.{kind_of_word, listed, singles, pairs, IsToken, word, number, single, pair, NoToken}
 use Rattle.grammar_tokens.specs.inner.Reading.{IsFirst, ReportsToken, sized, first_found, mark_of}
@@ -183,7 +183,7 @@ word_at text rest c e l = subst (λ (x : List ℕ). IsFirst (record { kind = kin
 pub number_at : (text rest : List ℕ) (c len : ℕ) → text ≡ c ∷ rest → is_digit c ≡ true → len ≡ run is_digit text → IsFirst (record { kind = Number; len = len }) text
 number_at text rest c len e l f = subst (λ (x : List ℕ). IsFirst (record { kind = Number; len = len }) x) (sym e) (number_tells c rest len l (f ∙ ap (run is_digit) e))
 
-pub mark_at : (text rest : List ℕ) (c : ℕ) (r : Option Found) → text ≡ c ∷ rest → class c ≡ others → r ≡ mark_of text → ReportsToken text r
+pub mark_at : (text rest : List ℕ) (c : ℕ) (r : Option ScannedToken) → text ≡ c ∷ rest → class c ≡ others → r ≡ mark_of text → ReportsToken text r
 mark_at text rest c r e o f = subst (ReportsToken text) (sym f) (subst (λ (x : List ℕ). ReportsToken x (mark_of x)) (sym e) (mark_tells c rest o))
 
 pub word_here : (text rest word : List ℕ) (c len : ℕ) (k : TokenKind) → text ≡ c ∷ rest → is_letter c ≡ true → len ≡ run is_word_byte text → word ≡ take len text → k ≡ kind_of_word word →

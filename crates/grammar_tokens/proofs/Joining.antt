@@ -4,7 +4,7 @@ use Rattle.std.proofs.Math.Seq.{drop-cons}
 use Rattle.std.proofs.lemmas.List.{drop-drop, append-nil}
 use Rattle.std.specs.Str.{IsUtf8}
 use Rattle.grammar_tokens.specs.declared.token.Token.{Token}
-use Rattle.grammar_tokens.specs.declared.token.Found.{Found}
+use Rattle.grammar_tokens.specs.declared.token.ScannedToken.{ScannedToken}
 use Rattle.grammar_tokens.specs.Lexing.{Lex, finish, gap, token, NoGap, NoToken, IsBadAt}
 use Rattle.grammar_tokens.specs.inner.Reading.{IsGapOf, IsFirst}
 use Rattle.grammar_tokens.proofs.GapTells.{Cuts}
@@ -28,7 +28,7 @@ lex_gap text ts at len g h =
     let same = subst (λ (x : List Token). Lex 0 text x (at + length g.w) (drop (at + length g.w) text)) (append-nil ts) placed in
     subst (λ (n : ℕ). Lex 0 text ts (at + n) (drop (at + n) text)) g.long same
 
-pub lex_token : (text : List ℕ) (ts grown : List Token) (at : ℕ) (f : Found) → IsFirst f (drop at text) →
+pub lex_token : (text : List ℕ) (ts grown : List Token) (at : ℕ) (f : ScannedToken) → IsFirst f (drop at text) →
     grown ≡ ts ++ (record { kind = f.kind; start = at; end = at + f.len } ∷ []) → Lex 0 text ts at (drop at text) → Lex 0 text grown (at + f.len) (drop (at + f.len) text)
 lex_token text ts grown at f i e h =
     let one = joined h (token f.kind i.w i.rest i.cut i.longest finish) in
@@ -48,7 +48,7 @@ lex_bad text ts at lt g n h =
       no_token = subst NoToken cut n;
     }
 
-pub token_cuts : (text : List ℕ) (f : Found) → IsUtf8 text → IsFirst f text → Cuts text f.len
+pub token_cuts : (text : List ℕ) (f : ScannedToken) → IsUtf8 text → IsFirst f text → Cuts text f.len
 token_cuts text f u i =
     let low = ends_low f.kind i.w i.longest.is in
     record {

@@ -5,7 +5,7 @@ use Rattle.std.proofs.lemmas.Bool.{cases_Bool, cases_eq}
 use Rattle.plain.specs.Words.{is_letter, is_digit, is_word_byte, run}
 use Rattle.grammar_tokens.specs.declared.token.TokenKind.{TokenKind}
 use Rattle.grammar_tokens.specs.declared.token.TokenKind.TheVariants.{Number, Text, PrincipalSlot, ResourceSlot}
-use Rattle.grammar_tokens.specs.declared.token.Found.{Found}
+use Rattle.grammar_tokens.specs.declared.token.ScannedToken.{ScannedToken}
 use Rattle.grammar_tokens.specs.declared.piece.Piece.{Piece}
 use Rattle.grammar_tokens.specs.Lexing.{kind_of_word, IsEscape, NoToken}
 use Rattle.grammar_tokens.specs.inner.Reading.{kind_with, IsFirst, ReportsToken, mark_of}
@@ -18,7 +18,7 @@ use Rattle.grammar_tokens.proofs.SomeEscape.{some_escape}
 
 -- a longest token begins the text, or no token does
 abbrev pub MayBegin : List ℕ → Type 0
-MayBegin text = ((f : Found) × IsFirst f text) ⊎ NoToken text
+MayBegin text = ((f : ScannedToken) × IsFirst f text) ⊎ NoToken text
 
 -- behind an escape there is less
 escape_long : (p : Piece) (w rest more : List ℕ) (n : ℕ) → IsEscape p w → rest ≡ w ++ more → length rest ≤ suc n → length more ≤ n
@@ -54,7 +54,7 @@ some_slot text rest q = elim (cases_Bool (starts_with nat_eq text (codes "?princ
   ]
 ]
 
-as_told : (text : List ℕ) (o : Option Found) → ReportsToken text o → MayBegin text
+as_told : (text : List ℕ) (o : Option ScannedToken) → ReportsToken text o → MayBegin text
 as_told text None n = inr n
 as_told text (Some f) i = inl (f, i)
 

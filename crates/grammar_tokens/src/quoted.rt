@@ -7,7 +7,7 @@ ghost use Rattle.grammar_tokens.specs.Lexing.{quote, backslash, escaped, is_hex,
 ghost use Rattle.grammar_tokens.specs.inner.Reading.{kind_with, ReportsEscape, ReportsToken};
 
 use crate::piece::{Escape, Piece};
-use crate::token::{Found, TokenKind};
+use crate::token::{ScannedToken, TokenKind};
 
 /// Returns the character that a letter or mark after a backslash means.
 fn letter_meant(byte: u8) -> Option<char>
@@ -148,7 +148,7 @@ fn kind_with(kind: TokenKind, piece: Piece) -> TokenKind
 }
 
 /// Returns the string that a text begins with, at a quote.
-pub(crate) fn quoted(text: &[u8]) -> Option<Found>
+pub(crate) fn quoted(text: &[u8]) -> Option<ScannedToken>
     requires { (rest : List ℕ) × (text.now ≡ quote ∷ rest) }
     ensures { ReportsToken text.now result }
 {
@@ -157,7 +157,7 @@ pub(crate) fn quoted(text: &[u8]) -> Option<Found>
     while at < text.len() {
         let byte = text[at];
         if byte == b'"' {
-            return Some(Found { kind, len: at + 1 });
+            return Some(ScannedToken { kind, len: at + 1 });
         }
         if byte == b'\\' {
             let Some(escape) = escape(&text[at..]) else {

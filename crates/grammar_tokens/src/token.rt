@@ -111,7 +111,7 @@ pub struct Token {
 
 /// A token at the front of a text: its kind, and its length in bytes.
 #[derive(Clone, Copy)]
-pub(crate) struct Found {
+pub(crate) struct ScannedToken {
     pub(crate) kind: TokenKind,
     pub(crate) len: usize,
 }

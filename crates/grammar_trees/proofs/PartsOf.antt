@@ -8,7 +8,7 @@ use Rattle.grammar_tokens.specs.declared.tree.PathTree.{PathTree}
 use Rattle.grammar_tokens.specs.declared.tree.UidTree.{UidTree}
 use Rattle.grammar_trees.specs.declared.tree.Access.{Access}
 use Rattle.grammar_trees.specs.declared.tree.Comparison.{Comparison}
-use Rattle.grammar_trees.specs.declared.tree.Entry.{Entry}
+use Rattle.grammar_trees.specs.declared.tree.RecordEntry.{RecordEntry}
 use Rattle.grammar_trees.specs.declared.tree.KeyTree.{KeyTree}
 use Rattle.grammar_trees.specs.declared.tree.Term.{Term}
 use Rattle.grammar_trees.specs.declared.tree.ExprTree.{ExprTree}
@@ -60,7 +60,7 @@ parts-Set members =
     ap parts_of (sym (t.rolls-Set members)) ∙ fold-roll-ExprTree (List Part) parts_step (tree.Set members)
     ∙ flat_map_map (λ parts. parts) parts_of members
 
-pub parts-Record : (entries : List (Entry ExprTree)) → parts_of (t.Record entries) ≡ flat_map parts_of_entry entries
+pub parts-Record : (entries : List (RecordEntry ExprTree)) → parts_of (t.Record entries) ≡ flat_map parts_of_entry entries
 parts-Record entries =
     ap parts_of (sym (t.rolls-Record entries))
     ∙ fold-roll-ExprTree (List Part) parts_step (tree.Record entries)

@@ -8,7 +8,7 @@ use Rattle.grammar_tokens.specs.declared.tree.PathTree.{PathTree}
 use Rattle.grammar_tokens.specs.declared.tree.UidTree.{UidTree}
 use Rattle.grammar_trees.specs.declared.tree.Access.{Access}
 use Rattle.grammar_trees.specs.declared.tree.Access.TheVariants as access
-use Rattle.grammar_trees.specs.declared.tree.Entry.{Entry}
+use Rattle.grammar_trees.specs.declared.tree.RecordEntry.{RecordEntry}
 use Rattle.grammar_trees.specs.declared.tree.KeyTree.{KeyTree}
 use Rattle.grammar_trees.specs.declared.tree.KeyTree.TheVariants.{Word, Quoted}
 use Rattle.grammar_trees.specs.declared.tree.Term.{Term}
@@ -46,7 +46,7 @@ abbrev pub access_parts : Access (List (List Part)) → List Part
 access_parts (access.Field key) = key_part key ∷ []
 access_parts (access.Method name arguments) = part identifiers name ∷ flat_map (λ parts. parts) arguments
 
-abbrev pub entry_parts : Entry (List Part) → List Part
+abbrev pub entry_parts : RecordEntry (List Part) → List Part
 entry_parts entry = key_part entry.key ∷ entry.value
 
 abbrev pub term_parts : Term (List Part) → List Part
@@ -89,7 +89,7 @@ abbrev pub parts_of_access : Access (List ExprTree) → List Part
 parts_of_access (access.Field key) = key_part key ∷ []
 parts_of_access (access.Method name arguments) = part identifiers name ∷ flat_map parts_of arguments
 
-abbrev pub parts_of_entry : Entry ExprTree → List Part
+abbrev pub parts_of_entry : RecordEntry ExprTree → List Part
 parts_of_entry entry = key_part entry.key ∷ parts_of entry.value
 
 abbrev pub parts_of_term : Term ExprTree → List Part

@@ -16,4 +16,4 @@ pub use grammar_tokens::{
 };
 pub use relations::{Related, relation};
 pub use repeats::{NameAt, least_place};
-pub use tree::{Access, Comparison, Entry, ExprTree, KeyTree, Sign, Term, Variable};
+pub use tree::{Access, Comparison, ExprTree, KeyTree, RecordEntry, Sign, Term, Variable};

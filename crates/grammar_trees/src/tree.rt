@@ -70,7 +70,7 @@ pub struct Term<T> {
 
 /// `key: value` in a record.
 #[derive(Drop)]
-pub struct Entry<T> {
+pub struct RecordEntry<T> {
     pub key: KeyTree,
     pub value: T,
 }
@@ -90,7 +90,7 @@ pub enum ExprTree {
     Call(PathTree, Items<ExprTree>),
     Parentheses(Boxed<ExprTree>),
     Set(Items<ExprTree>),
-    Record(Items<Entry<ExprTree>>),
+    Record(Items<RecordEntry<ExprTree>>),
     /// An expression and one or more accesses.
     Member(Boxed<ExprTree>, Items<Access<Items<ExprTree>>>),
     /// `!`

@@ -9,16 +9,16 @@ use Rattle.httparse.specs.Grammar.{trim_ows}
 use Rattle.http_framing.specs.declared.fields.Announced.{Announced}
 use Rattle.http_framing.specs.declared.fields.Announced.TheVariants.{Size, TooLong, NoNumber}
 
--- A `Pair` is the name and the value of a field.
-abbrev pub Pair : Type 0
-Pair = List ℕ × List ℕ
+-- A `Field` is the name and the value of a field.
+abbrev pub Field : Type 0
+Field = List ℕ × List ℕ
 
 -- `is_named name p` is whether the name of `p` in lower case is `name`.
-abbrev pub is_named : List ℕ → Pair → Bool
+abbrev pub is_named : List ℕ → Field → Bool
 is_named name p = bytes_eq (map to_ascii_lowercase p.0) name
 
 -- `values_named name ps` is the list of the values of the fields of `ps` with this name, in order.
-abbrev pub values_named : List ℕ → List Pair → List (List ℕ)
+abbrev pub values_named : List ℕ → List Field → List (List ℕ)
 values_named name ps = flat_map (λ p. if is_named name p then p.1 ∷ [] else []) ps
 
 -- `is_digits v` is whether `v` is one or more digits.
@@ -45,5 +45,5 @@ abbrev pub lists_close : List ℕ → Bool
 lists_close value = list_any is_close_part (parts_after [] value)
 
 -- `is_close p` is whether the field `p` asks to close the connection.
-abbrev pub is_close : Pair → Bool
+abbrev pub is_close : Field → Bool
 is_close p = is_named (codes "connection") p && lists_close p.1

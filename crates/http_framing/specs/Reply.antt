@@ -5,7 +5,7 @@ use Rattle.std.specs.List.{list_any}
 use Rattle.httparse.specs.Grammar.{ResponseHead, print_response, ReadsResponse, HasNoResponse}
 use Rattle.httparse.specs.Grammar.{NeverHasResponse, MayBecomeResponse, status_code}
 use Rattle.httparse.specs.Spans.{name_and_value, span_bytes}
-use Rattle.http_framing.specs.Fields.{Pair, announced, is_named, values_named}
+use Rattle.http_framing.specs.Fields.{Field, announced, is_named, values_named}
 use Rattle.http_framing.specs.declared.fields.Announced.{Announced}
 use Rattle.http_framing.specs.declared.fields.Announced.TheVariants.{Size, TooLong, NoNumber}
 use Rattle.http_framing.specs.declared.reply_cut.ReplyParts.{ReplyParts}
@@ -21,7 +21,7 @@ length_by (v ∷ w ∷ vs) = NoNumber
 
 -- `reply_length ps` is the length of the body of a reply with the fields `ps`; a transfer coding would define it
 -- otherwise.
-abbrev pub reply_length : List Pair → Announced
+abbrev pub reply_length : List Field → Announced
 reply_length ps =
     if list_any (is_named (codes "transfer-encoding")) ps then NoNumber
     else length_by (values_named (codes "content-length") ps)

@@ -7,7 +7,7 @@ use Rattle.std.specs.List.{list_any}
 use Rattle.httparse.specs.Grammar.{RequestHead, print_request, ReadsRequest, HasNoRequest, NeverHasRequest}
 use Rattle.httparse.specs.Grammar.{MayBecomeRequest}
 use Rattle.httparse.specs.Spans.{span_bytes, name_and_value}
-use Rattle.http_framing.specs.Fields.{Pair, announced, is_close, is_named, values_named}
+use Rattle.http_framing.specs.Fields.{Field, announced, is_close, is_named, values_named}
 use Rattle.http_framing.specs.declared.fields.Announced.{Announced}
 use Rattle.http_framing.specs.declared.fields.Announced.TheVariants.{Size, TooLong, NoNumber}
 use Rattle.http_framing.specs.declared.cut.Framing.{Framing}
@@ -35,13 +35,13 @@ framing_by_lengths method (v ∷ []) = framing_by (announced MAX_BODY v)
 framing_by_lengths method (v ∷ w ∷ vs) = Refused 400
 
 -- `framing method ps` is the length of the body, or the status with which a head with the fields `ps` is rejected.
-abbrev pub framing : List ℕ → List Pair → Framing
+abbrev pub framing : List ℕ → List Field → Framing
 framing method ps =
     if list_any (is_named (codes "transfer-encoding")) ps then Refused 501
     else framing_by_lengths method (values_named (codes "content-length") ps)
 
 -- `pairs h` is the list of the names and values of the fields of the head `h`.
-abbrev pub pairs : RequestHead → List Pair
+abbrev pub pairs : RequestHead → List Field
 pairs h = map name_and_value h.fields
 
 -- `framing_of h` is the framing of the head `h`.
@@ -49,7 +49,7 @@ abbrev pub framing_of : RequestHead → Framing
 framing_of h = framing h.method (pairs h)
 
 -- `closes minor ps` is whether the connection ends after a request of this version with the fields `ps`.
-abbrev pub closes : ℕ → List Pair → Bool
+abbrev pub closes : ℕ → List Field → Bool
 closes minor ps = (minor == 0) || list_any is_close ps
 
 -- `closes_of h` is whether the connection ends after a request with the head `h`.

@@ -3,7 +3,7 @@ ghost use Rattle.std.specs.Prelude.{◌≡◌, ◌≤◌, length, map, take, All
 ghost use Rattle.httparse.specs.Spans.{IsHeaderWithin, IsRequestOf, IsRequestWithin, header_bytes};
 ghost use Rattle.http_framing.specs.Request.{IsCut, closes, framing, framing_by, needs_length};
 
-use crate::fields::{Announced, Found, asks_to_close, has_header, length_of, values_of};
+use crate::fields::{Announced, FieldValue, asks_to_close, has_header, length_of, values_of};
 use crate::limits::{first_bytes, has_too_many, is_cut_off};
 use crate::{MAX_BODY, MAX_FIELDS, MAX_HEAD};
 use http::{Method, StatusCode};
@@ -67,10 +67,10 @@ fn framing_at(buf: &[u8], headers: &[HeaderSpan], method: &[u8]) -> Framing
         return Framing::Refused(StatusCode::NOT_IMPLEMENTED);
     }
     match values_of(buf, headers, b"content-length") {
-        Found::Absent if needs_length(method) => Framing::Refused(StatusCode::LENGTH_REQUIRED),
-        Found::Absent => Framing::Body(0),
-        Found::Once(text) => framing_by(length_of(text, MAX_BODY)),
-        Found::Many => Framing::Refused(StatusCode::BAD_REQUEST),
+        FieldValue::Absent if needs_length(method) => Framing::Refused(StatusCode::LENGTH_REQUIRED),
+        FieldValue::Absent => Framing::Body(0),
+        FieldValue::Once(text) => framing_by(length_of(text, MAX_BODY)),
+        FieldValue::Many => Framing::Refused(StatusCode::BAD_REQUEST),
     }
 }
 

@@ -5,13 +5,13 @@ ghost use Rattle.std.specs.List.{list_any};
 ghost use Rattle.httparse.specs.Grammar.{skip_ows};
 ghost use Rattle.httparse.specs.Spans.{IsHeaderWithin, header_bytes};
 ghost use Rattle.http_framing.specs.Fields.{announced, is_close, is_close_part, is_named, lists_close, values_named};
-ghost use Rattle.http_framing.specs.inner.Found.{IsFound, skip_ows_back};
+ghost use Rattle.http_framing.specs.inner.FieldValue.{IsFieldValue, skip_ows_back};
 
 use httparse::spans::HeaderSpan;
 
 /// The values of a field that is expected once.
 #[derive(Clone, Copy)]
-pub(crate) enum Found<'b> {
+pub(crate) enum FieldValue<'b> {
     Absent,
     Once(&'b [u8]),
     Many,
@@ -35,17 +35,17 @@ pub(crate) fn has_name(buf: &[u8], header: &HeaderSpan, name: &[u8]) -> bool
 }
 
 /// Returns the values of the headers with this name.
-pub(crate) fn values_of<'b>(buf: &'b [u8], headers: &[HeaderSpan], name: &[u8]) -> Found<'b>
+pub(crate) fn values_of<'b>(buf: &'b [u8], headers: &[HeaderSpan], name: &[u8]) -> FieldValue<'b>
     requires within { All (IsHeaderWithin (length buf.now)) headers.now }
     requires lower { map to_ascii_lowercase name.now ≡ name.now }
-    ensures { IsFound result (values_named name.now (map (header_bytes buf.now) headers.now)) }
+    ensures { IsFieldValue result (values_named name.now (map (header_bytes buf.now) headers.now)) }
 {
-    let mut found = Found::Absent;
+    let mut found = FieldValue::Absent;
     for header in headers {
         if has_name(buf, header, name) {
             found = match found {
-                Found::Absent => Found::Once(header.value.of(buf)),
-                _ => Found::Many,
+                FieldValue::Absent => FieldValue::Once(header.value.of(buf)),
+                _ => FieldValue::Many,
             };
         }
     }

@@ -3,7 +3,7 @@ ghost use Rattle.std.specs.Prelude.{◌≡◌, ◌≤◌, length, map, take, All
 ghost use Rattle.httparse.specs.Spans.{IsHeaderWithin, IsResponseOf, IsResponseWithin, header_bytes};
 ghost use Rattle.http_framing.specs.Reply.{IsReplyCut, reply_length};
 
-use crate::fields::{Announced, Found, has_header, length_of, values_of};
+use crate::fields::{Announced, FieldValue, has_header, length_of, values_of};
 use crate::limits::{first_bytes, has_too_many, is_cut_off};
 use crate::{MAX_FIELDS, MAX_HEAD, MAX_REPLY};
 use httparse::Status as Parsed;
@@ -40,7 +40,7 @@ fn length_at(buf: &[u8], headers: &[HeaderSpan]) -> Announced
         return Announced::NoNumber;
     }
     match values_of(buf, headers, b"content-length") {
-        Found::Once(text) => length_of(text, MAX_REPLY),
+        FieldValue::Once(text) => length_of(text, MAX_REPLY),
         _ => Announced::NoNumber,
     }
 }

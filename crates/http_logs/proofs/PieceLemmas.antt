@@ -1,23 +1,9 @@
--- One string, as a writer gives it.
-use Rattle.std.proofs.Common.{◌≡◌, ℕ, List, [], ◌∷◌, ◌++◌, Ok, ap, ap₂, ◌∙◌, append-nil}
+-- Pieces of a line, one behind another.
+use Rattle.std.proofs.Common.{◌≡◌, ℕ, List, [], ◌++◌, ap, ◌∙◌}
 use Rattle.std.proofs.Common.{Bool, true, false, Some, None, refl}
 use Rattle.std.specs.Str.{IsUtf8, is_utf8}
 use Rattle.std.proofs.lemmas.Str.{IsUtf8-from_is_utf8}
 use Rattle.http_logs.specs.LogLines.{text_of}
-use Rattle.std.specs.declared.alloc.AllocError.{AllocError}
-use Rattle.json.specs.Token.{Token, string}
-use Rattle.json.specs.Print.{print, print_from, quoted}
-use Rattle.json.specs.Written.{Written, Writes}
-
-print_string : (s : List ℕ) → print (string s ∷ []) ≡ quoted s
-unfolding print_from
-print_string s = append-nil (quoted s)
-
-pub written_string : {old new : Written} {u : Unit {0}} (line s text : List ℕ) → old.before ≡ line → old.tokens ≡ []
-    → Writes {E = AllocError} (Ok u) old new (string s) → text ≡ new.before ++ print new.tokens → text ≡ line ++ quoted s
-written_string line s text before tokens w is =
-    is ∙ ap₂ (λ (b : List ℕ) (ts : List Token). b ++ print ts) (w.room.0 ∙ before) (w.ok ∙ ap (λ (ts : List Token). ts ++ string s ∷ []) tokens)
-    ∙ ap (λ (t : List ℕ). line ++ t) (print_string s)
 
 -- ---- bytes that are text, or none
 

@@ -1,1 +1,2 @@
 pub mod LogLines
+pub mod OneLine

@@ -3,9 +3,11 @@
 //! Nothing here writes to a file: lines are put into memory, and a stream writes each before its reply.
 #![tactic(auto)]
 
+mod laws;
 mod line;
 mod pieces;
 
+pub use laws::{decisions_tell_who_asked, lines_have_one_line_feed};
 pub use line::{put_head, put_plain_tail, put_tail, put_unread_line};
 
 /// A line without method and target takes no more bytes than these.

@@ -1,17 +1,19 @@
--- The lines that replies have as their bodies. A rule of this product: compact JSON (RFC 8259), keys ascending, each
--- key always there.
+-- Defines the bodies of replies.
+-- Source: RFC 8259; docs/formats.md, of the routes.
+-- Rules of this product: compact JSON with ascending keys, each of which is always present.
 use Rattle.std.specs.Prelude.{ℕ, Bool, List, Option, codes}
 use Rattle.serde_json.specs.Data.{Data, boolean, number, unsigned, string, object, no_members, member}
 use Rattle.serde_json.specs.Written.{compact_text}
 use Rattle.site.specs.site_steps.stamped_store.declared.entry.Stamp.{Stamp}
 use Rattle.answer_lines.specs.Refusals.{error_line}
 
--- {"count":2,"site":"00001"}
+-- `stamp_line s` is a stamp: {"count":2,"site":"00001"}
 unfoldable pub stamp_line : Stamp → List ℕ
 stamp_line s = compact_text (object
     (member (codes "count") (number (unsigned s.count))
     (member (codes "site") (string s.site) no_members)))
 
+-- `put_line s impossible` is the stamp of a put policy, with whether that is impossible:
 -- {"count":1,"impossible":true,"site":"00001"}
 unfoldable pub put_line : Stamp → Bool → List ℕ
 put_line s impossible = compact_text (object
@@ -19,10 +21,11 @@ put_line s impossible = compact_text (object
     (member (codes "impossible") (boolean impossible)
     (member (codes "site") (string s.site) no_members))))
 
--- {"taken":3}
+-- `taken_line count` is the number of applied updates: {"taken":3}
 unfoldable pub taken_line : ℕ → List ℕ
 taken_line count = compact_text (object (member (codes "taken") (number (unsigned count)) no_members))
 
+-- `found_line text s` is the text of a policy with its stamp, the JSON `found_json text s`:
 -- {"count":1,"site":"00001","text":"permit(principal, action, resource);"}
 abbrev pub found_json : List ℕ → Stamp → Data
 found_json text s = object
@@ -33,6 +36,6 @@ found_json text s = object
 unfoldable pub found_line : List ℕ → Stamp → List ℕ
 found_line text s = compact_text (found_json text s)
 
--- {"error":{"code":30,"place":0,"within":null}}
+-- `fault_line code place within` is an error: {"error":{"code":30,"place":0,"within":null}}
 abbrev pub fault_line : ℕ → Option ℕ → Option ℕ → List ℕ
 fault_line code place within = error_line (record { code = code; place = place; within = within })

@@ -1,4 +1,5 @@
--- The reply to each outcome of a request: its status, and its body. A rule of this product.
+-- Defines the reply, a status and a body, to each outcome of a request.
+-- Source: docs/formats.md, of the routes.
 use Rattle.std.specs.Prelude.{◌≡◌, ◌⊎◌, ℕ, List, Option, Some, None, Result, Ok, Err}
 use Rattle.http.specs.declared.status.StatusCode.{StatusCode}
 use Rattle.site.specs.site_steps.stamped_store.declared.entry.Stamp.{Stamp}
@@ -13,46 +14,48 @@ use Rattle.site.specs.site_steps.Faults.{code_of, place_of, within_of}
 use Rattle.http_replies.specs.Statuses.{refusal_status}
 use Rattle.http_replies.specs.Lines.{fault_line, found_line, put_line, stamp_line, taken_line}
 
--- a refusal of the site
+-- `fault_reply f` is the reply to an error of the site.
 abbrev pub fault_reply : SiteFault → StatusCode × List ℕ
 fault_reply f = (refusal_status (code_of f), fault_line (code_of f) (place_of f) (within_of f))
 
--- a status that tells of an error by itself has its digits for the number
+-- `status_reply s` is the reply to an error that has no code: its status stands for the code.
 abbrev pub status_reply : StatusCode → StatusCode × List ℕ
 status_reply s = (s, fault_line s None None)
 
--- to a policy that is put
+-- `put_reply r` is the reply to a put of a policy.
 abbrev pub put_reply : Result Put SiteFault → StatusCode × List ℕ
 put_reply (Ok put) = (200, put_line put.stamp put.impossible)
 put_reply (Err f) = fault_reply f
 
--- to an entity that is put, and to what is taken away
+-- `stamp_reply r` is the reply to a put of an entity, and to a deletion.
 abbrev pub stamp_reply : Result Stamp SiteFault → StatusCode × List ℕ
 stamp_reply (Ok stamp) = (200, stamp_line stamp)
 stamp_reply (Err f) = fault_reply f
 
--- to a message: how many updates were taken; where memory was refused for one, the place of it says how many were
+-- `taken_reply r` is the reply to a message: the number of applied updates. If memory ran out on the way, the error's
+-- place is that number.
 abbrev pub taken_reply : Result Taken SiteFault → StatusCode × List ℕ
 taken_reply (Ok (All count)) = (200, taken_line count)
 taken_reply (Ok (Short count)) = (503, fault_line 1 (Some count) None)
 taken_reply (Err f) = fault_reply f
 
--- to a request that is to be decided
+-- `answer_reply r` is the reply to a request for a decision.
 abbrev pub answer_reply : Result Answer SiteFault → StatusCode × List ℕ
 answer_reply (Ok answer) = (200, answer_line answer)
 answer_reply (Err f) = fault_reply f
 
--- to the question for a policy: its text and its stamp, or that it is not there
+-- `found_reply o` is the reply to a query for a policy: its text and stamp, or the error that it has no text.
 abbrev pub found_reply : Option (List ℕ × Stamp) → StatusCode × List ℕ
 found_reply (Some found) = (200, found_line found.0 found.1)
 found_reply None = fault_reply fault.NotThere
 
--- to the questions for state, summary and delta: the message itself
+-- `message_reply r` is the reply to a query for a state, a summary or a delta: the message.
 abbrev pub message_reply : Result (List ℕ) SiteFault → StatusCode × List ℕ
 message_reply (Ok bytes) = (200, bytes)
 message_reply (Err f) = fault_reply f
 
--- the reply is this one; or it is none of a refusal, and the one that tells want of memory stands in its place
+-- `IsReplyOrNoMemory reply told body` holds if status `told` and `body` are `reply`; or, if `reply` is no error, those
+-- of `NoMemory`.
 abbrev pub IsReplyOrNoMemory : StatusCode × List ℕ → StatusCode → List ℕ → Type 0
 IsReplyOrNoMemory reply told body =
     ((told, body) ≡ reply) ⊎ ((reply.0 ≡ 200) × ((told, body) ≡ fault_reply fault.NoMemory))

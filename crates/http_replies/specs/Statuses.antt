@@ -1,10 +1,11 @@
--- Which status tells which refusal: a rule of this product, by the meanings of the statuses (RFC 9110, section 15; 422
--- by RFC 4918, section 11.2).
+-- Defines the status of each error.
+-- Source: RFC 9110, section 15; RFC 4918, section 11.2 (422).
+-- Rules of this product: which code has which status.
 use Rattle.std.specs.Prelude.{ℕ, ◌||◌, ◌==◌, if◌then◌else◌}
 use Rattle.http.specs.declared.status.StatusCode.{StatusCode}
 
--- the status of the refusal with this number: what is not there, a conflict with what is stored, want of memory, and
--- content that the site refuses
+-- `refusal_status n` is the status of code `n`: 404 for a name without a text, 409 for a conflict with the store, 503
+-- for lack of memory, 422 for content that the site rejects.
 abbrev pub refusal_status : ℕ → StatusCode
 refusal_status n =
     if n == 60 then 404

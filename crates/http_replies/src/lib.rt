@@ -1,6 +1,6 @@
-//! Replies of the service to what becomes of requests: their statuses and their bodies, one line of compact JSON each.
+//! The service's reply to each outcome of a request: a status, and one line of compact JSON.
 //!
-//! Replies to changes, and refusals of any kind, take no memory: they are appended to a text that has room for them.
+//! Replies to changes, and errors of any kind, allocate nothing: they are appended to a text that has room for them.
 #![tactic(auto)]
 
 mod laws;
@@ -23,5 +23,5 @@ pub use site::{
     runs_are_sound, runs_leave_what_they_took, simulate, site_names_are_told, take_bytes,
 };
 
-/// No reply to a change, and no refusal, has a longer body than so many bytes.
+/// The greatest length in bytes of the body of a reply to a change, or of an error.
 pub const LINE_ROOM: usize = 128;

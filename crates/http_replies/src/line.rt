@@ -1,4 +1,4 @@
-//! Lines that take no memory: each is appended to a text that has room for it.
+//! Lines that allocate nothing: each is appended to a text that has room for it.
 ghost use Rattle.std.specs.Prelude.{◌≡◌, ◌≤◌, ◌+◌, ◌++◌, length, vec_len, decimal};
 ghost use Rattle.std.specs.Vec.{vec_capacity};
 ghost use Rattle.http_replies.specs.Lines.{fault_line, put_line, stamp_line, taken_line};
@@ -44,7 +44,7 @@ fn append_boolean(text: &mut Vec<u8>, value: bool)
     }
 }
 
-/// Appends a number's digits, or `null` where there is none.
+/// Appends a number's digits, or `null` for `None`.
 fn append_or_null(text: &mut Vec<u8>, number: Option<u64>)
     requires room { vec_len text.old + 20 ≤ vec_capacity text.old }
     ensures items { text.new.items ≡ text.old.items ++ number_or_null number }
@@ -57,7 +57,7 @@ fn append_or_null(text: &mut Vec<u8>, number: Option<u64>)
     }
 }
 
-/// Appends the end of a line that tells a stamp: the name of the site, as it stands, since it needs no escape.
+/// Appends the end of the line of a stamp: the site's name, which needs no escape.
 fn append_site(text: &mut Vec<u8>, site: &SiteName)
     requires room { vec_len text.old + 43 ≤ vec_capacity text.old }
     ensures items { text.new.items ≡ text.old.items ++ site_end site.now }
@@ -69,7 +69,7 @@ fn append_site(text: &mut Vec<u8>, site: &SiteName)
     append(text, b"\"}");
 }
 
-/// Appends the line of a stamp that was given.
+/// Appends the line of a stamp.
 pub(crate) fn append_stamp(text: &mut Vec<u8>, stamp: Stamp)
     requires room { vec_len text.old + LINE_ROOM ≤ vec_capacity text.old }
     ensures items { text.new.items ≡ text.old.items ++ stamp_line stamp }
@@ -80,7 +80,7 @@ pub(crate) fn append_stamp(text: &mut Vec<u8>, stamp: Stamp)
     append_site(text, &stamp.site);
 }
 
-/// Appends the line of a policy that was put.
+/// Appends the line of a put policy.
 pub(crate) fn append_put(text: &mut Vec<u8>, stamp: Stamp, impossible: bool)
     requires room { vec_len text.old + LINE_ROOM ≤ vec_capacity text.old }
     ensures items { text.new.items ≡ text.old.items ++ put_line stamp impossible }
@@ -93,7 +93,7 @@ pub(crate) fn append_put(text: &mut Vec<u8>, stamp: Stamp, impossible: bool)
     append_site(text, &stamp.site);
 }
 
-/// Appends the line of updates that were taken.
+/// Appends the line of applied updates.
 pub(crate) fn append_taken(text: &mut Vec<u8>, count: usize)
     requires room { vec_len text.old + LINE_ROOM ≤ vec_capacity text.old }
     ensures items { text.new.items ≡ text.old.items ++ taken_line count }
@@ -104,7 +104,7 @@ pub(crate) fn append_taken(text: &mut Vec<u8>, count: usize)
     append(text, b"}");
 }
 
-/// Returns a place, as a number of 64 bits.
+/// Returns a place as a number of 64 bits.
 fn place_number(place: Option<usize>) -> Option<u64>
     ensures { result ≡ place }
 {
@@ -114,7 +114,7 @@ fn place_number(place: Option<usize>) -> Option<u64>
     }
 }
 
-/// Returns the number of a refusal inside, as a number of 64 bits.
+/// Returns the code of an error inside as a number of 64 bits.
 fn within_number(within: Option<u8>) -> Option<u64>
     ensures { result ≡ within }
 {
@@ -124,7 +124,7 @@ fn within_number(within: Option<u8>) -> Option<u64>
     }
 }
 
-/// Appends the line of a refusal.
+/// Appends the line of an error.
 pub(crate) fn append_fault(text: &mut Vec<u8>, code: u16, place: Option<usize>, within: Option<u8>)
     requires room { vec_len text.old + LINE_ROOM ≤ vec_capacity text.old }
     ensures items { text.new.items ≡ text.old.items ++ fault_line code place within }

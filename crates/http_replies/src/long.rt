@@ -1,4 +1,4 @@
-//! Bodies that may want memory. Where it is refused, the text stays as it was.
+//! Bodies that may allocate. If that fails, the text is unchanged.
 ghost use Rattle.std.specs.Prelude.{◌≡◌, ◌≤◌, ◌++◌, IfOk, OnOk, OnErr, vec_len};
 ghost use Rattle.std.specs.Vec.{vec_capacity};
 ghost use Rattle.serde_json.specs.View.{view};
@@ -39,14 +39,14 @@ pub(crate) fn append_answer(
     }
 }
 
-/// Returns the JSON of a policy that was found.
+/// Returns the JSON of a stored policy.
 fn found_value(alloc: Global, policy: &str, stamp: Stamp) -> Result<Value, NoMemory>
     ensures { IfOk result (λ v. view v ≡ found_json policy.now stamp) }
 {
     json!(in alloc; {"count": stamp.count, "site": stamp.site.as_str(), "text": policy})
 }
 
-/// Returns the line of a policy that was found.
+/// Returns the line of a stored policy.
 fn found_line(alloc: Global, policy: &str, stamp: Stamp) -> Result<Vec<u8>, NoMemory>
     ensures { IfOk result (λ b. b.items ≡ found_line policy.now stamp) }
 {
@@ -54,7 +54,7 @@ fn found_line(alloc: Global, policy: &str, stamp: Stamp) -> Result<Vec<u8>, NoMe
     write_json(alloc, &value)
 }
 
-/// Appends the line of a policy that was found.
+/// Appends the line of a stored policy.
 pub(crate) fn append_found(
     alloc: Global,
     text: &mut Vec<u8>,

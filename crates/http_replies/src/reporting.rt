@@ -1,7 +1,7 @@
-//! The reply to each outcome: its body is appended to a text, and its status answered.
+//! The reply to each outcome: its body is appended to a text, and its status returned.
 //!
-//! Each asks for room for a short line. What wants more memory and is refused it says so in that room, so that no reply
-//! is left out; the text keeps its memory.
+//! Each function demands room for a short line. One that needs more memory, and lacks it, says so in that room, so that
+//! there is always a reply; the text keeps its memory.
 ghost use Rattle.std.specs.Prelude.{◌≡◌, ◌≤◌, ◌+◌, ◌++◌, List, ℕ, OnOk, OnErr, option_map, vec_len};
 ghost use Rattle.std.specs.Vec.{vec_capacity};
 ghost use Rattle.http_replies.specs.Replies.{answer_reply, fault_reply, found_reply, message_reply, put_reply};
@@ -17,7 +17,7 @@ use plain::{Items, NoMemory};
 use site::{Put, SiteFault, Stamp, Taken};
 use std::alloc::Global;
 
-/// Tells a refusal of the site, by its number, its place and the number within. Takes no memory.
+/// Appends an error of the site: its code, its place and the code inside. Allocates nothing.
 pub fn report_fault(text: &mut Vec<u8>, fault: SiteFault) -> StatusCode
     requires room { vec_len text.old + LINE_ROOM ≤ vec_capacity text.old }
     ensures status { result ≡ (fault_reply fault).0 }
@@ -28,7 +28,7 @@ pub fn report_fault(text: &mut Vec<u8>, fault: SiteFault) -> StatusCode
     refusal_status(fault.code())
 }
 
-/// Tells an error that is a status alone, as an unknown path (404) or another method (405). Takes no memory.
+/// Appends an error that is a status alone, such as an unknown path (404) or another method (405). Allocates nothing.
 pub fn report_status(text: &mut Vec<u8>, status: StatusCode) -> StatusCode
     requires room { vec_len text.old + LINE_ROOM ≤ vec_capacity text.old }
     ensures status { result ≡ (status_reply status).0 }
@@ -39,7 +39,7 @@ pub fn report_status(text: &mut Vec<u8>, status: StatusCode) -> StatusCode
     status
 }
 
-/// Tells what became of a policy that was to be put: `{"count":1,"impossible":true,"site":"00001"}`. Takes no memory.
+/// Appends the outcome of a put of a policy: `{"count":1,"impossible":true,"site":"00001"}`. Allocates nothing.
 pub fn report_put(text: &mut Vec<u8>, outcome: Result<Put, SiteFault>) -> StatusCode
     requires room { vec_len text.old + LINE_ROOM ≤ vec_capacity text.old }
     ensures status { result ≡ (put_reply outcome).0 }
@@ -55,8 +55,7 @@ pub fn report_put(text: &mut Vec<u8>, outcome: Result<Put, SiteFault>) -> Status
     }
 }
 
-/// Tells what became of an entity that was to be put, or of what was to be taken away: `{"count":2,"site":"00001"}`.
-/// Takes no memory.
+/// Appends the outcome of a put of an entity, or of a deletion: `{"count":2,"site":"00001"}`. Allocates nothing.
 pub fn report_stamp(text: &mut Vec<u8>, outcome: Result<Stamp, SiteFault>) -> StatusCode
     requires room { vec_len text.old + LINE_ROOM ≤ vec_capacity text.old }
     ensures status { result ≡ (stamp_reply outcome).0 }
@@ -72,8 +71,8 @@ pub fn report_stamp(text: &mut Vec<u8>, outcome: Result<Stamp, SiteFault>) -> St
     }
 }
 
-/// Tells what became of a message: `{"taken":3}`, or, where memory was refused for an update, 503 with the number of
-/// those that were taken for the place. Takes no memory.
+/// Appends the outcome of a message: `{"taken":3}`, or, if memory ran out at an update, 503, with the number of applied
+/// updates as its place. Allocates nothing.
 pub fn report_taken(text: &mut Vec<u8>, outcome: Result<Taken, SiteFault>) -> StatusCode
     requires room { vec_len text.old + LINE_ROOM ≤ vec_capacity text.old }
     ensures status { result ≡ (taken_reply outcome).0 }
@@ -93,7 +92,7 @@ pub fn report_taken(text: &mut Vec<u8>, outcome: Result<Taken, SiteFault>) -> St
     }
 }
 
-/// Returns the status of a body that was appended; where memory was refused for it, that is told in its place.
+/// Returns the status of a body that was appended; if memory was lacking for it, appends that error in its place.
 fn status_or_no_memory(text: &mut Vec<u8>, appended: Result<(), NoMemory>) -> StatusCode
     requires room { OnErr appended (vec_len text.old + LINE_ROOM ≤ vec_capacity text.old) }
     ensures ok { OnOk appended ((result ≡ 200) × (text.new.items ≡ text.old.items)) }
@@ -107,7 +106,7 @@ fn status_or_no_memory(text: &mut Vec<u8>, appended: Result<(), NoMemory>) -> St
     }
 }
 
-/// Tells what became of a request that was to be decided:
+/// Appends the outcome of a request for a decision:
 /// `{"cycle":[],"decision":"Allow","errors":[],"reason":["p"]}`.
 pub fn report_answer(
     alloc: Global,
@@ -128,8 +127,8 @@ pub fn report_answer(
     }
 }
 
-/// Tells a policy's text and stamp, `{"count":1,"site":"00001","text":"permit(principal, action, resource);"}`, or that
-/// there is no such policy (60).
+/// Appends a policy's text and stamp, `{"count":1,"site":"00001","text":"permit(principal, action, resource);"}`, or
+/// the error that it has no text (60).
 pub fn report_found(alloc: Global, text: &mut Vec<u8>, found: &Option<(&str, Stamp)>) -> StatusCode
     requires room { vec_len text.old + LINE_ROOM ≤ vec_capacity text.old }
     ensures reply { (body : List ℕ) × (text.new.items ≡ text.old.items ++ body)
@@ -145,7 +144,7 @@ pub fn report_found(alloc: Global, text: &mut Vec<u8>, found: &Option<(&str, Sta
     }
 }
 
-/// Tells a message as it was written, or why it was not.
+/// Appends a message that was written, or the error.
 pub fn report_message(text: &mut Vec<u8>, outcome: &Result<Items<u8>, SiteFault>) -> StatusCode
     requires room { vec_len text.old + LINE_ROOM ≤ vec_capacity text.old }
     ensures reply { (body : List ℕ) × (text.new.items ≡ text.old.items ++ body)

@@ -1,10 +1,10 @@
-//! Statuses of refusals.
+//! Statuses of errors.
 ghost use Rattle.std.specs.Prelude.{◌≡◌};
 ghost use Rattle.http_replies.specs.Statuses.{refusal_status};
 
 use http::StatusCode;
 
-/// Returns the status of the refusal with this number.
+/// Returns the status of a code.
 pub(crate) fn refusal_status(code: u8) -> StatusCode
     ensures { result ≡ refusal_status code }
 {

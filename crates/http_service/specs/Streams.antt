@@ -1,4 +1,4 @@
--- What a stream of requests leaves of a site: what a run of inputs leaves, those that its requests ask for.
+-- Defines what a stream of requests leaves of a site: what the run of their inputs leaves.
 -- Source: RFC 9112, section 9.3.
 use Rattle.std.specs.Prelude.{◌≡◌, ℕ, suc, zero, List, [], ◌∷◌, ◌++◌}
 use Rattle.httparse.specs.Grammar.{RequestHead}
@@ -12,22 +12,21 @@ use Rattle.http_routes.specs.Routes.{route_stated}
 use Rattle.site_calls.specs.Asked.{Asked, gives, rejects, unserved}
 use Rattle.http_service.specs.Asked.{asked}
 
--- the inputs that a request hands to the site: one, or none
+-- `inputs_of a` is the list of the inputs of a request: one or none.
 abbrev pub inputs_of : Asked → List Input
 inputs_of (gives i) = i ∷ []
 inputs_of (rejects f) = []
 inputs_of (unserved s) = []
 
--- bytes are n requests and then rest, which ask for these inputs in their order
+-- `AskFor n bytes rest is` holds if `bytes` are `n` requests and then `rest`, and `is` are their inputs, in order.
 abbrev pub AskFor : ℕ → List ℕ → List ℕ → List Input → Type 0
 AskFor zero bytes rest is = (bytes ≡ rest) × (is ≡ [])
 AskFor (suc n) bytes rest is =
     (head : RequestHead) × (body : List ℕ) × (after : List ℕ) × (more : List Input) × ReadsWhole bytes head body after
     × (is ≡ inputs_of (asked (route_stated head.method head.target) body) ++ more) × AskFor n after rest more
 
--- the first requests of bytes ask for inputs, and the site goes on by a run of these: its store is that of the updates
--- that it had and of those that it took. It may be that no request is served, by a count of 0: then the site is as it
--- was.
+-- `LeavesRun old bytes new` holds if the site `new` is what a run of the inputs of the first `count` requests of
+-- `bytes` leaves of `old`: its store is the join of the updates that it had and those that it applied.
 pub record LeavesRun (old : SiteView) (bytes : List ℕ) (new : SiteView) : Type 0 where
   pub count : ℕ
   pub rest : List ℕ

@@ -9,7 +9,7 @@ ghost use Rattle.site_calls.specs.http_replies.site_steps.SiteViews.{SiteView};
 ghost use Rattle.site_calls.specs.http_replies.site_steps.Inputs.{Input};
 ghost use Rattle.site_calls.specs.http_replies.site_steps.declared.reply.Reply.{Reply};
 ghost use Rattle.site_calls.specs.http_replies.site_steps.schema.Views.{IsStated};
-ghost use Rattle.site_calls.specs.http_replies.site_steps.Right.{IsHarmlessReply};
+ghost use Rattle.site_calls.specs.http_replies.site_steps.Permitted.{IsPermittedReply};
 ghost use Rattle.site_calls.specs.Answers.{Replies};
 ghost use Rattle.site_calls.specs.Asked.{gives};
 ghost use Rattle.site_calls.specs.Reports.{reported};
@@ -17,7 +17,7 @@ ghost use Rattle.http_service.specs.Answered.{IsAlike, answers};
 ghost use Rattle.http_service.specs.Serving.{IsServed};
 ghost use Rattle.http_service.specs.Streams.{AskFor, LeavesRun};
 
-use crate::site_service::Stated;
+use crate::site_service::ViewedSite;
 use http_streams::laws::{begins_answer, one_answer};
 use http_streams::serve::StreamFault;
 use http_streams::{Sink, Source};
@@ -76,8 +76,8 @@ pub fn cuts_make_no_difference()
         → BeginsAnswer (in_memory answers) old2 stream out more new2 }
 {
     requests_have_one_reply();
-    one_answer::<Stated>();
-    begins_answer::<Stated>();
+    one_answer::<ViewedSite>();
+    begins_answer::<ViewedSite>();
 }
 
 /// What a request that is handed to a site is replied tells of no error of type, of attribute or of an extension
@@ -86,7 +86,7 @@ pub fn cuts_make_no_difference()
 pub fn served_answers_are_sound()
     ensures { (old new : SiteView) (input : Input) (status : StatusCode) (line : List ℕ) → IsStated old.schema
         → Replies old (gives input) status line new
-        → (reply : Reply) × IsHarmlessReply reply × ((status, line) ≡ reported reply) }
+        → (reply : Reply) × IsPermittedReply reply × ((status, line) ≡ reported reply) }
 {
     runs_are_sound();
 }

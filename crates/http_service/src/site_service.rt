@@ -30,11 +30,11 @@ impl Answers for SiteService<'_> {
 
 /// A site as laws of streams speak of it: its states are what contracts see of the site. Nothing holds one.
 #[derive(Drop)]
-pub struct Stated {
+pub struct ViewedSite {
     site: Site,
 }
 
-impl Model for Stated {
+impl Model for ViewedSite {
     ghost use Rattle.site_calls.specs.http_replies.site_steps.SiteViews.{SiteView};
     ghost use Rattle.site_calls.specs.http_replies.site_steps.contracts.site.Site as row;
 
@@ -47,7 +47,7 @@ impl Model for Stated {
     ghost invariant = { λ _. Unit {0} };
 }
 
-impl Answers for Stated {
+impl Answers for ViewedSite {
     ghost use Rattle.http_service.specs.Answered.{answers, IsAlike};
 
     ghost answers = { answers };

@@ -1,5 +1,5 @@
--- That a stream has one answer, however it was cut, and what has gone out at a fault.
--- A rule of this product.
+-- Defines the theorems that a stream has one answer, however it is split, and what was sent when a device failed.
+-- Source: RFC 9112, section 9.3.
 use Rattle.std.specs.Prelude.{◌≡◌, ◌≢◌, ◌≤◌, ℕ, ◌⊎◌, Bool, List, [], ◌++◌, length, true}
 use Rattle.httparse.specs.Grammar.{EndsInTarget, NeverHasRequest}
 use Rattle.http_framing.specs.http_texts.ReplyText.{error_line, reply_text}
@@ -7,55 +7,62 @@ use Rattle.http_streams.specs.Stream.{Answering, Ends, Exchanges, Rests, Serves,
 use Rattle.http_framing.specs.declared.TheConstants.{MAX_HEAD}
 use Rattle.http.specs.declared.status.StatusCode.{StatusCode}
 
--- a rest on which a reader may answer either way: it ends inside a target that is no text
+-- `IsCorner rest` holds if the bytes `rest` end inside a target that is not UTF-8: they may be answered by 400 or not
+-- at all, by how they are split.
 pub record IsCorner (rest : List ℕ) : Type 0 where
   pub target : EndsInTarget rest
   pub never : NeverHasRequest rest
   pub short : length rest ≤ MAX_HEAD
 
 module _ {S : Type 0} (answers : Answering S) where
-  -- the answers, but those that memory was refused (503)
+  -- `in_memory` are the answers other than 503.
   abbrev pub in_memory : Answering S
   in_memory old m t b status x new = answers old m t b status x new × (status ≢ 503)
 
-  -- states that are the same have one answer to a request, which leaves states that are the same
+  -- `HasOneAnswer same` holds if states that are the same by `same` have one answer to each request, and are the same
+  -- afterwards.
   abbrev pub HasOneAnswer : (S → S → Type 0) → Type 0
   HasOneAnswer same =
       (old old2 : S) (m t b : List ℕ) (st st2 : StatusCode) (x x2 : List ℕ) (new new2 : S) → same old old2
       → answers old m t b st x new → answers old2 m t b st2 x2 new2 → (st ≡ st2) × (x ≡ x2) × same new new2
 
-  -- the stream was read to its end and answered, or to a reply that ends it
+  -- `AnswersAll old stream out new` holds if `out` answers the stream, to its end or to a reply that ends it.
   abbrev pub AnswersAll : S → List ℕ → List ℕ → S → Type 0
   AnswersAll old stream out new =
       Rests answers old stream out new
       ⊎ ((front : List ℕ) × (rest : List ℕ) × (stream ≡ front ++ rest) × Ends answers old front out new)
 
-  -- the stream ends in the corner: more is out and the reply that refuses it
+  -- `DiffersInCorner old stream out more new` holds if the stream ends in the corner, and `more` is `out` and the reply
+  -- that rejects the rest.
   abbrev pub DiffersInCorner : S → List ℕ → List ℕ → List ℕ → S → Type 0
   DiffersInCorner old stream out more new =
       (n : ℕ) × (rest : List ℕ) × Serves answers n old stream rest out new × IsCorner rest
       × (more ≡ out ++ reply_text true 400 (error_line 400))
 
-  -- two answers to one stream, however it was cut, leave states that are the same, and are equal but in the corner
+  -- `AgreeOn same old old2 stream out more new new2` holds if two answers to one stream leave the same state, and are
+  -- equal unless the stream ends in the corner.
   abbrev pub AgreeOn : (S → S → Type 0) → S → S → List ℕ → List ℕ → List ℕ → S → S → Type 0
   AgreeOn same old old2 stream out more new new2 =
       same new new2
       × ((out ≡ more) ⊎ DiffersInCorner old stream out more new ⊎ DiffersInCorner old2 stream more out new2)
 
-  -- a fault came after some first bytes of the stream: all of them were answered, or a reply broke off
+  -- `StopsIn old stream out new` holds if a device failed after some first bytes of the stream: all of them were
+  -- answered, or a reply was cut.
   abbrev pub StopsIn : S → List ℕ → List ℕ → S → Type 0
   StopsIn old stream out new =
       (front : List ℕ) × (rest : List ℕ) × (stream ≡ front ++ rest)
       × (Rests answers old front out new ⊎ Stops answers old front out new)
 
-  -- out is a beginning of more, or, in the corner, of more and the reply that refuses it
+  -- `BeginsAnswer old stream out more new` holds if `out` is a prefix of `more`, or, in the corner, of `more` and the
+  -- reply that rejects the rest.
   abbrev pub BeginsAnswer : S → List ℕ → List ℕ → List ℕ → S → Type 0
   BeginsAnswer old stream out more new =
       ((back : List ℕ) × (more ≡ out ++ back))
       ⊎ ((n : ℕ) × (rest : List ℕ) × Serves answers n old stream rest more new × IsCorner rest
       × (back : List ℕ) × (out ++ back ≡ more ++ reply_text true 400 (error_line 400)))
 
--- some requests were answered in memory and the next by 503, which stands behind their replies, but for what is unsent
+-- `LacksMemory answers old stream out unsent` holds if `out` are the replies to some requests, none of them 503, then a
+-- 503 to the next, without its last bytes `unsent`, then perhaps more.
 pub record LacksMemory {S : Type 0} (answers : Answering S) (old : S) (stream out unsent : List ℕ) : Type 0 where
   pub count : ℕ
   pub mid : S

@@ -1,10 +1,11 @@
--- How the bytes of a stream came.
+-- Defines how the bytes of a stream were read.
+-- Source: the contract of `std::io::Read`.
 use Rattle.std.specs.Prelude.{◌≡◌, ℕ, ◌<◌, ◌≤◌, Option, List, ◌++◌, length}
 use Rattle.std.specs.Io.KnownBytes.{Consumes}
 use Rattle.http_streams.specs.declared.TheConstants.{MAX_READ}
 
--- Bytes were read, the last of them by one call, which had room for one at least, so that none tells of the end; before
--- it front was read.
+-- `EndsByOneRead old new bytes front` holds if the reader went from `old` to `new` by reading `bytes`, of which all but
+-- `front` came with the last call. That had room for a byte, so reading none means that the stream is at its end.
 module _ {R : Type 0} (left : R → Option (List ℕ)) (reads : R → ℕ → List ℕ → R → Type 0) where
   pub record EndsByOneRead (old new : R) (bytes front : List ℕ) : Type 0 where
     pub between : R

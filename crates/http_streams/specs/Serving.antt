@@ -1,5 +1,6 @@
--- One call that answers a stream: what it read, what it wrote, the states between which it led, and how it ended.
--- Source: RFC 9112, sections 9.3 and 9.6; what a result tells of the devices is a rule of this product.
+-- Defines one call that answers a stream: what it read and wrote, the states before and after, and how it ended.
+-- Source: RFC 9112, sections 9.3 and 9.6.
+-- Rules of this product: what a result says of reader and writer.
 use Rattle.std.specs.Prelude.{◌≡◌, ◌≤◌, ◌^◌, ◌-◌, ◌⊎◌, ℕ, Option, List, length, Result, Ok, Err}
 use Rattle.std.specs.Io.KnownBytes.{Appends, Consumes, IsAtEnd}
 use Rattle.http_devices.specs.Devices.{FailsAtLast}
@@ -8,18 +9,19 @@ use Rattle.http_streams.specs.Stream.{Answering, Ends, KeepsUp, Rests, Stops}
 use Rattle.http_streams.specs.declared.serve.StreamFault.{StreamFault}
 use Rattle.http_streams.specs.declared.serve.StreamFault.TheVariants as fault
 
--- what requests are answered; of a reader the bytes that are left, how often it failed, and its calls; of a writer the
--- bytes that it took, how often it failed, and its calls that failed
+-- Of the service: its answers. Of a reader: the bytes left, the number of its failures, its calls, its failed calls. Of
+-- a writer: the bytes that it took, the number of its failures, its failed calls.
 module _ {S R W : Type 0} (answers : Answering S) (left : R → Option (List ℕ)) (read_failures : R → ℕ)
     (reads : R → ℕ → List ℕ → R → Type 0) (read_fails : R → R → Type 0) (holds : W → Option (List ℕ))
     (write_failures : W → ℕ) (write_fails : W → W → Type 0) where
-  -- Ok: neither device failed, and all that was read is answered. The input is at its end, as the last read told, or
-  -- the last reply ended the stream and nothing was read behind it.
-  -- Read: the last read failed, or 2^64 - 1 bytes came; what came till then is answered.
-  -- NoMemory: neither device failed, and all that was read is answered: memory is asked for before bytes are read.
-  -- Write: the last write failed; some requests are answered, and of one more reply a first part may have gone out. All
-  -- that had come before the last read was answered.
-  -- Log: like Write, but no device failed except the log; that nothing of the last reply went out is in Logs.
+  -- `EndsAs first last before after old new bytes out result` holds of how the call ended, by its result:
+  -- Ok: neither device failed, and all requests in `bytes` are answered. The input is at its end, as the last read
+  -- reported, or the last reply ended the stream and nothing was read after it.
+  -- Read: the last read failed, or 2^64 - 1 bytes were read; all requests in `bytes` are answered.
+  -- NoMemory: neither device failed, and all requests in `bytes` are answered: memory is allocated before a read.
+  -- Write: the last write failed; some requests are answered, and a first part of one more reply may have been sent.
+  -- All requests that were complete before the last read are answered.
+  -- Log: as Write, but only the log failed; that nothing of the last reply was sent is in Logs.
   abbrev pub EndsAs : R → R → W → W → S → S → List ℕ → List ℕ → Result (Unit {0}) StreamFault → Type 0
   EndsAs first last before after old new bytes out (Ok done) =
       ((Rests answers old bytes out new × IsAtEnd (left last) × EndsByOneRead left reads first last bytes bytes)
@@ -39,8 +41,8 @@ module _ {S R W : Type 0} (answers : Answering S) (left : R → Option (List ℕ
       Stops answers old bytes out new × KeepsUp answers left reads old first last bytes out
       × (write_failures after ≡ write_failures before) × (read_failures last ≡ read_failures first)
 
-  -- from the reader first, the writer before and the state old the call led to last, after and new: out was written for
-  -- bytes, which were read, and it ended as its result says
+  -- `IsAnswered first last before after old new result` holds of a call that led from the reader `first`, the writer
+  -- `before`, the state `old` to `last`, `after`, `new`: it read `bytes`, wrote `out`, and ended as `result` says.
   pub record IsAnswered (first last : R) (before after : W) (old new : S) (result : Result (Unit {0}) StreamFault)
       : Type 0 where
     pub bytes : List ℕ

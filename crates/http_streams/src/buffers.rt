@@ -13,7 +13,7 @@ use std::alloc::{AllocError, Global};
 
 /// Why no bytes came. Nothing is read then.
 #[derive(Clone, Copy)]
-pub(crate) enum ReadFault {
+pub(crate) enum FillFault {
     Read,
     NoMemory,
 }
@@ -61,7 +61,7 @@ pub(crate) fn read_more<R: Source>(
     reader: &mut R,
     chunk: &mut [u8],
     buffer: &mut Vec<u8>,
-) -> Result<bool, ReadFault>
+) -> Result<bool, FillFault>
     requires { 0 < length chunk.old }
     ensures ok { IfOk result (λ more. (bytes : List ℕ) × Consumes (R.left reader.old) (R.left reader.new) bytes
         × (buffer.new.items ≡ buffer.old.items ++ bytes) × (IsTrue more → 0 < length bytes)
@@ -71,12 +71,12 @@ pub(crate) fn read_more<R: Source>(
     ensures len { length chunk.new ≡ length chunk.old }
     ensures lost { OnErr result (Keeps (R.left reader.old) (R.left reader.new)
         × (buffer.new.items ≡ buffer.old.items)) }
-    ensures read { result ≡ Err ReadFault.Read
+    ensures read { result ≡ Err FillFault.Read
         → R.fails reader.old reader.new × HasFailed (R.failed reader.old) (R.failed reader.new) }
-    ensures memory { result ≡ Err ReadFault.NoMemory → reader.new ≡ reader.old }
+    ensures memory { result ≡ Err FillFault.NoMemory → reader.new ≡ reader.old }
 {
     let Ok(()) = buffer.reserve(chunk.len()) else {
-        return Err(ReadFault::NoMemory);
+        return Err(FillFault::NoMemory);
     };
     match reader.read(chunk) {
         Ok(0) => Ok(false),
@@ -84,6 +84,6 @@ pub(crate) fn read_more<R: Source>(
             buffer.extend_from_slice(&chunk[..n]).unwrap();
             Ok(true)
         }
-        Err(_) => Err(ReadFault::Read),
+        Err(_) => Err(FillFault::Read),
     }
 }

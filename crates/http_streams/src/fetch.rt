@@ -8,7 +8,7 @@ ghost use Rattle.http_framing.specs.http_texts.RequestText.{request_text};
 ghost use Rattle.http_streams.specs.Reads.{EndsByOneRead};
 
 use crate::MAX_READ;
-use crate::buffers::{ReadFault, drop_front, read_more, room_for_heads, room_for_reads};
+use crate::buffers::{FillFault, drop_front, read_more, room_for_heads, room_for_reads};
 use http_devices::devices::{Sink, Source, write_all};
 use http_framing::reply_cut::{ReplyCut, ReplyParts, cut_reply};
 use http_framing::{Ask, MAX_HEAD, request_text};
@@ -178,8 +178,8 @@ fn read_whole<R: Source>(
         match read_more(reader, chunk, buffer) {
             Ok(true) => {}
             Ok(false) => return Err(FetchFault::Ended),
-            Err(ReadFault::Read) => return Err(FetchFault::Read),
-            Err(ReadFault::NoMemory) => return Err(FetchFault::NoMemory),
+            Err(FillFault::Read) => return Err(FetchFault::Read),
+            Err(FillFault::NoMemory) => return Err(FetchFault::NoMemory),
         }
         if buffer.len() < needed {
             // a whole head told where the reply ends, so it is not read anew with each piece of the body

@@ -14,7 +14,7 @@ ghost use Rattle.http_streams.specs.declared.TheConstants.{REPLY_ROOM};
 
 use crate::MAX_READ;
 use crate::buffers::{
-    ReadFault, drop_front, read_more, room_for_heads, room_for_reads, room_for_replies,
+    FillFault, drop_front, read_more, room_for_heads, room_for_reads, room_for_replies,
 };
 use crate::nowhere::Nowhere;
 use crate::service::Service;
@@ -151,8 +151,8 @@ fn answer_stream<S: Service, R: Source, W: Sink, L: Sink>(
         match read_more(reader, chunk, buffer) {
             Ok(true) => {}
             Ok(false) => return Ok(()),
-            Err(ReadFault::Read) => return Err(StreamFault::Read),
-            Err(ReadFault::NoMemory) => return Err(StreamFault::NoMemory),
+            Err(FillFault::Read) => return Err(StreamFault::Read),
+            Err(FillFault::NoMemory) => return Err(StreamFault::NoMemory),
         }
         if buffer.len() < needed {
             // a whole head told where the request ends, so it is not read anew with each piece of the body

@@ -1,6 +1,6 @@
 //! What an expression gives to whoever hands in a request and stored entities, one by one or as one question.
 use crate::shared::{holds, uid_of};
-use entities::{EntityStore, NoActions, World};
+use entities::{Entities, EntityStore, NoActions};
 use evaluator::{
     BorrowedOrOwned, EvalFault, Lookup, RequestEnv, evaluate, evaluate_in, evaluate_test,
 };
@@ -65,7 +65,7 @@ fn expressions_are_evaluated(rt: HostRuntime) -> Result<(), NoMemory> {
     let alloc = rt.alloc();
     let (expr, request) = both(comparison(alloc), request(alloc))?;
     let store = EntityStore::new(alloc);
-    let world = World::new(alloc, &store, NoActions);
+    let world = Entities::new(alloc, &store, NoActions);
     evaluates(&rt, alloc, &expr, &request, &world);
     Ok(())
 }

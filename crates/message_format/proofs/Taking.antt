@@ -19,7 +19,7 @@ use Rattle.message_format.specs.declared.fault.MessageFault.TheVariants as messa
 use Rattle.message_format.specs.declared.version.MessageVersion.{MessageVersion}
 use Rattle.message_format.specs.Summaries.{IsStamped, judged, stamped_in}
 use Rattle.message_format.specs.declared.bodies.BodyFault.{BodyFault}
-use Rattle.message_format.specs.declared.stated.Stated.{Stated}
+use Rattle.message_format.specs.declared.stated.ReadEntry.{ReadEntry}
 use Rattle.message_format.specs.declared.update.Update.{Update}
 use Rattle.message_format.specs.declared.update.Update.TheVariants.{Policy, Entity}
 use Rattle.plain.specs.Refused.{OrNoMemory}
@@ -55,7 +55,7 @@ pub some_left : {A : Type 0} (xs rest : List A) (i : ℕ) → i < length xs → 
 some_left [] rest i below is none = absurd (omega arith)
 some_left (d ∷ xs) rest i below is none = let more : length rest ≡ length (get_or (d ∷ xs) i d ∷ drop (suc i) (d ∷ xs)) = ap length (is ∙ drop-cons (d ∷ xs) i d below) in absurd (omega arith)
 
-place_is : (es : List Stated) (i : ℕ) → i < length es → 0 + length (map stated_update (take i es)) ≡ i
+place_is : (es : List ReadEntry) (i : ℕ) → i < length es → 0 + length (map stated_update (take i es)) ≡ i
 place_is es i lt = rw length-map (omega (arith, length-take i es))
 
 module _ {P E : Type 0} (Policies : List ℕ → List ℕ → P → Type 0) (Entities : EntityUid → List ℕ → E → Type 0) where
@@ -76,16 +76,16 @@ module _ {P E : Type 0} (Policies : List ℕ → List ℕ → P → Type 0) (Ent
       let same : k + suc (length us) ≡ suc k + length us = omega arith in
       (h.0, push (suc k) us rs u r h.1 (subst (λ n. IsTaken Policies Entities n u r) same one))
 
-  pub taken_more : (es : List Stated) (i : ℕ) (e : Stated) (rs : List (Update P E)) (r : Update P E) → i < length es → e ≡ get_or es i e
+  pub taken_more : (es : List ReadEntry) (i : ℕ) (e : ReadEntry) (rs : List (Update P E)) (r : Update P E) → i < length es → e ≡ get_or es i e
       → AreTaken Policies Entities 0 (map stated_update (take i es)) rs → IsTaken Policies Entities i (stated_update e) r
       → AreTaken Policies Entities 0 (map stated_update (take (i + 1) es)) (rs ++ r ∷ [])
   taken_more es i e rs r lt at before one =
       let pushed = push 0 (map stated_update (take i es)) rs (stated_update e) r before (subst (λ n. IsTaken Policies Entities n (stated_update e) r) (sym (place_is es i lt)) one) in
       rw (take_more es i e lt, map-append, ← at) pushed
 
-  pub taken_all : (es : List Stated) (i : ℕ) (rs : List (Update P E)) → length es ≤ i → AreTaken Policies Entities 0 (map stated_update (take i es)) rs
+  pub taken_all : (es : List ReadEntry) (i : ℕ) (rs : List (Update P E)) → length es ≤ i → AreTaken Policies Entities 0 (map stated_update (take i es)) rs
       → AreTaken Policies Entities 0 (map stated_update es) rs
-  taken_all es i rs le h = subst (λ (l : List Stated). AreTaken Policies Entities 0 (map stated_update l) rs) (take_all i es le) h
+  taken_all es i rs le h = subst (λ (l : List ReadEntry). AreTaken Policies Entities 0 (map stated_update l) rs) (take_all i es le) h
 
   shown_all : (k : ℕ) (us : List PlainUpdate) (rs : List (Update P E)) → AreTaken Policies Entities k us rs → us ≡ plain_updates rs
   shown_all k [] [] h = refl
@@ -128,11 +128,11 @@ module _ {P E : Type 0} (Policies : List ℕ → List ℕ → P → Type 0) (Ent
       let same : k + suc (length us) ≡ suc k + length us = omega arith in
       inr (h.0.passed, valid Policies Entities v r h.0.taken, stops (suc k) us rs u more why h.1 (subst (λ n. IsFaultAt NoPolicies NoEntities n u why) same one))
 
-  pub taken_stops : (es : List Stated) (i : ℕ) (e : Stated) (rs : List (Update P E)) (why : MessageFault) → i < length es → e ≡ get_or es i e
+  pub taken_stops : (es : List ReadEntry) (i : ℕ) (e : ReadEntry) (rs : List (Update P E)) (why : MessageFault) → i < length es → e ≡ get_or es i e
       → AreTaken Policies Entities 0 (map stated_update (take i es)) rs → IsFaultAt NoPolicies NoEntities i (stated_update e) why
       → Stops Policies Entities NoPolicies NoEntities 0 (map stated_update es) why
   taken_stops es i e rs why lt at before one =
-      let cut : es ≡ take i es ++ e ∷ drop (suc i) es = split_at es i e lt ∙ ap (λ (x : Stated). take i es ++ x ∷ drop (suc i) es) (sym at) in
+      let cut : es ≡ take i es ++ e ∷ drop (suc i) es = split_at es i e lt ∙ ap (λ (x : ReadEntry). take i es ++ x ∷ drop (suc i) es) (sym at) in
       let shown : map stated_update es ≡ map stated_update (take i es) ++ stated_update e ∷ map stated_update (drop (suc i) es) =
       ap (map stated_update) cut ∙ map-append stated_update (take i es) (e ∷ drop (suc i) es) in
       subst (λ (l : List PlainUpdate). Stops Policies Entities NoPolicies NoEntities 0 l why) (sym shown)

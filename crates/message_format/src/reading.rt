@@ -12,7 +12,7 @@ ghost use Rattle.message_format.specs.inner.Reading.{stated_update, IsBodyReadAs
 
 use crate::fault::MessageFault;
 use crate::laws::messages_are_raised;
-use crate::stated::{Stated, read_stated};
+use crate::stated::{ReadEntry, read_stated};
 use crate::summary_laws::stamps_read_back;
 use crate::summary_reading::judge_stamp;
 use crate::{Bodies, BodyFault, Update};
@@ -100,14 +100,14 @@ fn read_update<P: Drop, E: Drop, B: Bodies<P, E>>(
     alloc: Global,
     bodies: &B,
     scratch: &mut Scratch,
-    stated: Stated,
+    stated: ReadEntry,
 ) -> Result<Update<P, E>, BodyFault>
     ensures read { IfOk result
         (IsReadAs (B.reads_policy bodies.now) (B.reads_entity bodies.now) (stated_update stated)) }
     ensures refused { IfErr result (OrNoMemory BodyFault.NoMemory
         (IsUnreadable (B.refuses_policy bodies.now) (B.refuses_entity bodies.now) stated.stamped.0 stated.body)) }
 {
-    let Stated { stamped, body } = stated;
+    let ReadEntry { stamped, body } = stated;
     let (name, stamp) = stamped;
     match name {
         Name::Policy(id) => read_policy(alloc, bodies, id, stamp, body),
@@ -132,7 +132,7 @@ fn read_at<P: Drop, E: Drop, B: Bodies<P, E>>(
     bodies: &B,
     scratch: &mut Scratch,
     place: usize,
-    stated: Stated,
+    stated: ReadEntry,
 ) -> Result<Update<P, E>, MessageFault>
     ensures read { IfOk result
         (IsTaken (B.reads_policy bodies.now) (B.reads_entity bodies.now) place (stated_update stated)) }
@@ -152,7 +152,7 @@ fn read_all<P: Drop, E: Drop, B: Bodies<P, E>>(
     alloc: Global,
     bodies: &B,
     scratch: &mut Scratch,
-    entries: Vec<Stated>,
+    entries: Vec<ReadEntry>,
 ) -> Result<Vec<Update<P, E>>, MessageFault>
     ensures read { IfOk result (λ us. AreTaken (B.reads_policy bodies.now) (B.reads_entity bodies.now) 0
         (map stated_update entries.items) us.items) }

@@ -20,7 +20,7 @@ use values::Name;
 
 /// An entry as stated: a name with a stamp, and a body that is nothing or a text.
 #[derive(Drop)]
-pub struct Stated {
+pub struct ReadEntry {
     pub(crate) stamped: (Name, Stamp),
     pub(crate) body: Option<Text>,
 }
@@ -40,7 +40,11 @@ fn read_body(alloc: Global, value: &Value) -> Result<Option<Text>, MessageFault>
 }
 
 #[tactic(auto, unfolding(crate::specs::Messages::entry_in, crate::specs::Messages::entry_by))]
-fn read_entry(alloc: Global, version: MessageVersion, value: &Value) -> Result<Stated, MessageFault>
+fn read_entry(
+    alloc: Global,
+    version: MessageVersion,
+    value: &Value,
+) -> Result<ReadEntry, MessageFault>
     ensures { ReadsAs MessageFault.NoMemory stated_update result (entry_in version (view value.now)) }
 {
     if !only_keys(value, &["body", "count", "name", "site"]) {
@@ -51,14 +55,14 @@ fn read_entry(alloc: Global, version: MessageVersion, value: &Value) -> Result<S
     };
     let body = read_body(alloc, found)?;
     let (body, stamped) = beside(body, read_stamped(alloc, version, value))?;
-    Ok(Stated { stamped, body })
+    Ok(ReadEntry { stamped, body })
 }
 
 fn read_each(
     alloc: Global,
     version: MessageVersion,
     values: &[Value],
-) -> Result<Vec<Stated>, MessageFault>
+) -> Result<Vec<ReadEntry>, MessageFault>
     ensures { ReadsAs MessageFault.NoMemory (λ es. map stated_update es.items) result
         (entries_of (entry_in version) (items_view values.now)) }
 {
@@ -75,7 +79,7 @@ fn read_entries(
     alloc: Global,
     version: MessageVersion,
     value: &Value,
-) -> Result<Vec<Stated>, MessageFault>
+) -> Result<Vec<ReadEntry>, MessageFault>
     ensures { ReadsAs MessageFault.NoMemory (λ es. map stated_update es.items) result
         (entries_in version (view value.now)) }
 {
@@ -97,7 +101,7 @@ fn is_kind(kind: &str) -> bool
 
 /// Returns the updates that a value states.
 #[tactic(auto, unfolding(crate::specs::Messages::updates_in, crate::specs::Messages::updates_by))]
-fn read_value(alloc: Global, label: &str, value: &Value) -> Result<Vec<Stated>, MessageFault>
+fn read_value(alloc: Global, label: &str, value: &Value) -> Result<Vec<ReadEntry>, MessageFault>
     ensures { ReadsAs MessageFault.NoMemory (λ es. map stated_update es.items) result
         (updates_in label.now (view value.now)) }
 {
@@ -129,7 +133,7 @@ pub(crate) fn read_stated(
     scratch: &mut Scratch,
     label: &str,
     bytes: &[u8],
-) -> Result<Vec<Stated>, MessageFault>
+) -> Result<Vec<ReadEntry>, MessageFault>
     ensures { ReadsAs MessageFault.NoMemory (λ es. map stated_update es.items) result
         (updates_stated label.now bytes.now) }
 {

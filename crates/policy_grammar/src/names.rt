@@ -9,6 +9,7 @@ ghost use Rattle.grammar_desugaring.specs.BuiltFrom.{IsBuiltFrom};
 ghost use Rattle.policy_grammar.specs.inner.Parts.{has_id};
 
 use crate::core_of::core_like;
+use crate::held::after;
 use crate::policy::{Policy, Scope};
 use grammar_desugaring::{decode_string, spelling};
 use grammar_policies::{Annotation, PolicyTree};
@@ -102,22 +103,25 @@ fn last_scope(named: &[(String, Policy)]) -> Option<&Scope> {
 
 /// Returns the policies of a file's trees, each with its name, or `NoMemory`. Each shares the type names and the
 /// action's id that are equal in the policy before it.
+///
+/// Each tree is dropped before the next policy is built, which uses its memory again.
 pub(crate) fn named_of(
     alloc: Global,
     text: &str,
     names: Vec<Text>,
-    trees: &[PolicyTree],
+    trees: Vec<PolicyTree>,
 ) -> Result<Vec<(String, Policy)>, NoMemory>
-    requires same { length names.items ≡ length trees.now }
-    requires stands { IsBuiltFrom text.now (λ tokens. AllByRecursion (WellFormedPolicy tokens) trees.now) }
-    requires sound { AllByRecursion (λ tree. condition_faults text.now tree.conditions ≡ []) trees.now }
+    requires same { length names.items ≡ length trees.items }
+    requires stands { IsBuiltFrom text.now (λ tokens. AllByRecursion (WellFormedPolicy tokens) trees.items) }
+    requires sound { AllByRecursion (λ tree. condition_faults text.now tree.conditions ≡ []) trees.items }
     ensures names { IfOk result (λ named. map (λ p. string_bytes p.0) named.items ≡ names.items) }
-    ensures cores { IfOk result (λ named. AreCoresOf text.now trees.now (map (λ p. p.1) named.items)) }
+    ensures cores { IfOk result (λ named. AreCoresOf text.now trees.items (map (λ p. p.1) named.items)) }
 {
     let mut named = Vec::with_capacity(alloc, trees.len())?;
     let mut rest = VecDeque::from_vec(names);
     for tree in trees {
-        let policy = core_like(alloc, text, tree, last_scope(&named))?;
+        let made = core_like(alloc, text, &tree, last_scope(&named));
+        let policy = after(tree, made)?;
         let Some(name) = rest.pop_front() else {
             unreachable!();
         };

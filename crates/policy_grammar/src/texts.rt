@@ -102,19 +102,19 @@ pub fn parse_policy(alloc: Global, text: &str) -> Result<Policy, ReadFault>
 fn policies_of(
     alloc: Global,
     text: &str,
-    trees: &[PolicyTree],
+    trees: Vec<PolicyTree>,
     names: Vec<Text>,
 ) -> Result<Vec<(String, Policy)>, ReadFault>
-    requires named { AreNamesOf text.now trees.now names.items }
-    requires stands { IsBuiltFrom text.now (λ tokens. AllByRecursion (WellFormedPolicy tokens) trees.now) }
+    requires named { AreNamesOf text.now trees.items names.items }
+    requires stands { IsBuiltFrom text.now (λ tokens. AllByRecursion (WellFormedPolicy tokens) trees.items) }
     ensures read { IfOk result
-        (λ named. ArePoliciesOf text.now trees.now
+        (λ named. ArePoliciesOf text.now trees.items
         (map (λ p. string_bytes p.0) named.items) (map (λ p. p.1) named.items)) }
-    ensures refused { IfErr result (OrNoMemory ReadFault.NoMemory (HaveNoPolicies text.now trees.now names.items)) }
+    ensures refused { IfErr result (OrNoMemory ReadFault.NoMemory (HaveNoPolicies text.now trees.items names.items)) }
 {
     least_fault_is_told();
-    let repeat = repeated_name(alloc, text, &names, trees)?;
-    let verdict = judge_policies(alloc, text, trees)?;
+    let repeat = repeated_name(alloc, text, &names, &trees)?;
+    let verdict = judge_policies(alloc, text, &trees)?;
     if let Some(fault) = earlier_of(repeat, verdict.fault) {
         return Err(ReadFault::from(fault));
     }
@@ -150,5 +150,5 @@ pub fn parse_policies(alloc: Global, text: &str) -> Result<Vec<(String, Policy)>
 {
     let trees = policy_trees(alloc, text)?;
     let names = names_of(alloc, text, &trees)?;
-    policies_of(alloc, text, &trees, names)
+    policies_of(alloc, text, trees, names)
 }

@@ -1,10 +1,12 @@
 -- Want of memory among the refusals.
-use Rattle.std.proofs.Common.{◌≡◌, ◌⊎◌, inl, inr, ℕ, zero, suc, List, Option, None, Some, refl}
+use Rattle.std.proofs.Common.{◌≡◌, ◌⊎◌, inl, inr, ℕ, zero, suc, Bool, true, false, List, Option, None, Some, refl}
+use Rattle.explanations.specs.Files.{Files}
 use Rattle.program_drills.specs.http_service.answer_lines.declared.refusal.Refusal.{Refusal}
 use Rattle.program_drills.specs.http_service.answer_lines.Refusals.{no_memory}
 use Rattle.program.specs.Events.{Event}
 use Rattle.program.specs.Reports.{IsRefusalReported, IsMemoryReported}
 use Rattle.program.specs.Courses.{IsRefusedFor, IsLineOrRefusal}
+use Rattle.program.specs.Explained.{IsRefusalText, IsRefusalTold, Explains, IsRefusedWith, IsLineOrRefusedWith}
 
 one_or : (n : ℕ) → (n ≡ 1) ⊎ (n ≡ 1 → ⊥)
 one_or zero = inr (λ e. absurd cc)
@@ -29,6 +31,11 @@ by_parts r (inl c) (inl p) (inl w) = inl (made_of r c p w)
 is_no_memory : (r : Refusal) → (r ≡ no_memory) ⊎ (r ≡ no_memory → ⊥)
 is_no_memory r = by_parts r (one_or r.code) (none_or r.place) (none_or r.within)
 
+due_or : (Refused : Refusal → Type 0) (refusal : Refusal) → (refusal ≡ no_memory) ⊎ (refusal ≡ no_memory → ⊥)
+    → ((refusal ≡ no_memory → ⊥) → Refused refusal) → (refusal ≡ no_memory) ⊎ Refused refusal
+due_or Refused refusal (inl is) due = inl is
+due_or Refused refusal (inr other) due = inr (due other)
+
 module _ {L : Type 0} (Refused : Refusal → Type 0) where
   told_as : (refusal : Refusal) (events : List (Event L)) (end : ℕ) → (refusal ≡ no_memory) ⊎ (refusal ≡ no_memory → ⊥)
       → ((refusal ≡ no_memory → ⊥) → Refused refusal) → IsRefusalReported refusal events end ⊎ IsMemoryReported events end
@@ -47,3 +54,16 @@ module _ {L : Type 0} (Refused : Refusal → Type 0) where
       → (events : List (Event L)) → IsRefusalReported refusal events end ⊎ IsMemoryReported events end
       → IsLineOrRefusal Decided Refused events end
   line_refused Decided refusal end due events told = inr (refused_for refusal end due events told)
+
+  -- and explained behind that, if that is asked for
+  pub refused_with : (wanted : Bool) (files : Files) (refusal : Refusal) (end : ℕ) → ((refusal ≡ no_memory → ⊥) → Refused refusal)
+      → (events : List (Event L)) → Explains wanted (IsRefusalText files refusal.code) (IsRefusalTold refusal) events end
+      → IsRefusedWith wanted files Refused events end
+  refused_with false files refusal end due events told = refused_for refusal end due events told
+  refused_with true files refusal end due events told = (refusal, due_or Refused refusal (is_no_memory refusal) due, told)
+
+  pub line_refused_with : (Decided : List ℕ → Type 0) (wanted : Bool) (files : Files) (refusal : Refusal) (end : ℕ)
+      → ((refusal ≡ no_memory → ⊥) → Refused refusal)
+      → (events : List (Event L)) → Explains wanted (IsRefusalText files refusal.code) (IsRefusalTold refusal) events end
+      → IsLineOrRefusedWith wanted files Decided Refused events end
+  line_refused_with Decided wanted files refusal end due events told = inr (refused_with wanted files refusal end due events told)

@@ -1,5 +1,7 @@
--- What a site begins with. A rule of this product: the schema is judged first; then a message, a state or a delta, is
--- refused whole, or the site takes its updates.
+-- Defines the initial site of a run.
+-- Source: docs/operating.md.
+-- Rules of this product: the schema is checked first; then a message, a state or a delta, is rejected whole, or the
+-- site applies its updates.
 use Rattle.std.specs.Prelude.{◌≡◌, ◌⊎◌, ℕ, List, [], Option, None, Some}
 use Rattle.program_drills.specs.http_service.policy_grammar.declared.policy.Policy.{Policy}
 use Rattle.site_loading.specs.schema.Schemas.{StatedSchema, IsSchemaOf}
@@ -17,29 +19,29 @@ use Rattle.site_loading.specs.site_steps.declared.fault.SiteFault.TheVariants.{M
 use Rattle.program_drills.specs.http_service.site_steps.Runs.{IsNoMessageOf}
 use Rattle.program_drills.specs.http_service.site_steps.sync_messages.Messages.{IsMessageOf}
 
--- the fault of a site as it is told
+-- `site_refusal f` is the error `f` of a site as it is reported.
 abbrev pub site_refusal : SiteFault → Refusal
 site_refusal f = record { code = code_of f; place = place_of f; within = within_of f }
 
--- nothing, or the updates of a message
+-- `BeginsWith s o m` holds if `m` is the store of the updates of the message `o`, which is empty if absent.
 abbrev pub BeginsWith : StatedSchema → Option (List ℕ) → Store → Type 0
 BeginsWith s None m = m ≡ store_of []
 BeginsWith s (Some bytes) m = (us : List (SentUpdate Policy Entity)) × IsMessageOf s bytes us
     × (m ≡ store_of (plain_updates us))
 
--- the site of this name and this schema, with the updates of the state, if there is one
+-- `IsInitialSite schema name state site` holds if `site` has this schema, this name and the updates of `state`.
 pub record IsInitialSite (schema : List ℕ) (name : List ℕ) (state : Option (List ℕ)) (site : SiteView) : Type 0 where
   pub schema_is : IsSchemaOf schema (schema_of site)
   pub name_is : site.name ≡ name
   pub begins : BeginsWith (schema_of site) state (store_in site)
 
--- the state is no message of the schema, for this first fault
+-- `IsStateRefused s o r` holds if a state is given, and `r` is its first error as a message of `s`.
 abbrev pub IsStateRefused : StatedSchema → Option (List ℕ) → Refusal → Type 0
 IsStateRefused s None r = ⊥
 IsStateRefused s (Some bytes) r =
     (f : MessageFault) × IsNoMessageOf s bytes (Message f) × (r ≡ site_refusal (Message f))
 
--- the schema is refused, or the state under it
+-- `IsNotBegun schema state r` holds if `r` rejects the schema, or under it the state.
 abbrev pub IsNotBegun : List ℕ → Option (List ℕ) → Refusal → Type 0
 IsNotBegun schema state r = IsSchemaRefused schema r
     ⊎ ((s : StatedSchema) × IsSchemaOf schema s × IsStateRefused s state r)

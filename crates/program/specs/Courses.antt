@@ -1,5 +1,6 @@
--- How a run goes on, step by step: it reads files, writes one, opens a connection, and tells what came of it.
--- A rule of this product.
+-- Defines the steps of runs: reading files, writing one, opening a connection, reporting the outcome.
+-- Source: docs/operating.md.
+-- Rules of this product: nothing is read after an error.
 use Rattle.std.specs.Prelude.{◌≡◌, ◌⊎◌, ℕ, Bool, true, false, List, [], ◌∷◌, Option, None, Some, Result, Ok, Err}
 use Rattle.program_drills.specs.http_service.answer_lines.declared.refusal.Refusal.{Refusal}
 use Rattle.program.specs.declared.device.FileFault.{FileFault}
@@ -9,30 +10,31 @@ use Rattle.program.specs.declared.device.Stream.TheVariants.{Answers, Faults}
 use Rattle.program.specs.Reports.{ended, IsAnswerReported, IsRefusalReported, IsMemoryReported, IsFileReported}
 use Rattle.program.specs.Reports.{IsFailureReported}
 
--- how a run goes on: what it does from here, and the status that it ends with
+-- A `Course` is a relation between the events of the rest of a run and its status.
 abbrev pub Course : Type 0 → Type 1
 Course L = List (Event L) → ℕ → Type 0
 
--- An example: `drill` reads the files `s` and `t`, a schema's and a script's, and tells the line that they come to, or
--- the refusal: `Reads s (λ schema. Reads t (λ script. IsLineOrRefusal ..))`. Such runs are, with the status at the end:
---   read s (Ok schema) ∷ read t (Ok script) ∷ wrote Answers (ended line) true ∷ [], 0: the line is told
---   the same, but false at the end, 3: standard output failed
---   read s (Ok schema) ∷ read t (Ok script) ∷ wrote Faults (ended (error_line refusal)) true ∷ [], 1: it is refused
+-- An example: `drill` reads the files `s` and `t`, a schema and a script, and prints their lines, or the error:
+-- `Reads s (λ schema. Reads t (λ script. IsLineOrRefusal ..))`. Such runs are, with their status:
+--   read s (Ok schema) ∷ read t (Ok script) ∷ wrote Answers (ended line) true ∷ [], 0: the lines are printed
+--   the same with false, 3: standard output failed
+--   read s (Ok schema) ∷ read t (Ok script) ∷ wrote Faults (ended (error_line refusal)) true ∷ [], 1: rejected
 --   read s (Ok schema) ∷ read t (Err Missing) ∷ wrote Faults "fault: t" and a line feed, true ∷ [], 3: no file `t`
--- Each step takes the first of the events off and hands the rest to what goes on; nothing is read after a fault.
+-- Each step removes the first event and passes the rest to the next step, `goes_on`.
 
 module _ {L : Type 0} where
-  -- what this is refused for is told, or that memory was refused
+  -- `IsRefusedFor Refused`: an error for which `Refused` holds is reported, or lack of memory.
   abbrev pub IsRefusedFor : (Refusal → Type 0) → Course L
   IsRefusedFor Refused events end =
       ((refusal : Refusal) × Refused refusal × IsRefusalReported refusal events end) ⊎ IsMemoryReported events end
 
-  -- a line that is so is told, or the refusal
+  -- `IsLineOrRefusal Decided Refused`: a line for which `Decided` holds is printed, or an error reported.
   abbrev pub IsLineOrRefusal : (List ℕ → Type 0) → (Refusal → Type 0) → Course L
   IsLineOrRefusal Decided Refused events end =
       ((line : List ℕ) × Decided line × IsAnswerReported line events end) ⊎ IsRefusedFor Refused events end
 
-  -- a file was read, and the run goes on with what it held; where it was not, that is told and the run ends
+  -- `Reads name goes_on`: the file is read, and the run goes on with its bytes; if that fails, this is reported and the
+  -- run ends.
   abbrev pub GoesOnWith : List ℕ → (List ℕ → Course L) → Result (List ℕ) FileFault → Course L
   GoesOnWith name goes_on (Ok bytes) = goes_on bytes
   GoesOnWith name goes_on (Err fault) = IsFileReported name fault
@@ -41,12 +43,12 @@ module _ {L : Type 0} where
   Reads name goes_on events end = (came : Result (List ℕ) FileFault) × (rest : List (Event L))
       × (events ≡ read name came ∷ rest) × GoesOnWith name goes_on came rest end
 
-  -- the same with a file that need not be named
+  -- `ReadsIfNamed`: the same of a file whose name may be absent.
   abbrev pub ReadsIfNamed : Option (List ℕ) → (Option (List ℕ) → Course L) → Course L
   ReadsIfNamed None goes_on = goes_on None
   ReadsIfNamed (Some name) goes_on = Reads name (λ bytes. goes_on (Some bytes))
 
-  -- the same with a file that need not be there
+  -- `ReadsIfThere`: the same of a file that may be missing.
   abbrev pub GoesOnIfThere : List ℕ → (Option (List ℕ) → Course L) → Result (List ℕ) FileFault → Course L
   GoesOnIfThere name goes_on (Ok bytes) = goes_on (Some bytes)
   GoesOnIfThere name goes_on (Err file.Missing) = goes_on None
@@ -57,7 +59,8 @@ module _ {L : Type 0} where
   ReadsIfThere name goes_on events end = (came : Result (List ℕ) FileFault) × (rest : List (Event L))
       × (events ≡ read name came ∷ rest) × GoesOnIfThere name goes_on came rest end
 
-  -- a file is written, and the run goes on; where it was not, that is told and the run ends
+  -- `Stores name bytes goes_on`: the file is written, and the run goes on; if that fails, this is reported and the run
+  -- ends.
   abbrev pub GoesOnWritten : List ℕ → Course L → Result (Unit {0}) FileFault → Course L
   GoesOnWritten name goes_on (Ok done) = goes_on
   GoesOnWritten name goes_on (Err fault) = IsFileReported name fault
@@ -66,7 +69,8 @@ module _ {L : Type 0} where
   Stores name bytes goes_on events end = (came : Result (Unit {0}) FileFault) × (rest : List (Event L))
       × (events ≡ stored name bytes came ∷ rest) × GoesOnWritten name goes_on came rest end
 
-  -- a connection is opened, and the run goes on over it; where none could be, that is told and the run ends
+  -- `Connects address goes_on`: a connection is opened, and the run goes on over it; if that fails, this is reported
+  -- and the run ends.
   abbrev pub GoesOnConnected : List ℕ → (L → Course L) → Option L → Course L
   GoesOnConnected address goes_on (Some link) = goes_on link
   GoesOnConnected address goes_on None = IsFailureReported address
@@ -75,8 +79,8 @@ module _ {L : Type 0} where
   Connects address goes_on events end = (came : Option L) × (rest : List (Event L))
       × (events ≡ connected address came ∷ rest) × GoesOnConnected address goes_on came rest end
 
-  -- an address is listened at, for connections of this limit, if one is given, and the run goes on; where it could not
-  -- be, that is told and the run ends
+  -- `Listens address limit goes_on`: the run listens at the address, for connections with this time limit, if one is
+  -- given, and goes on; if that fails, this is reported and the run ends.
   abbrev pub GoesOnListening : List ℕ → Course L → Bool → Course L
   GoesOnListening address goes_on true = goes_on
   GoesOnListening address goes_on false = IsFailureReported address
@@ -85,7 +89,8 @@ module _ {L : Type 0} where
   Listens address limit goes_on events end = (done : Bool) × (rest : List (Event L))
       × (events ≡ listened address limit done ∷ rest) × GoesOnListening address goes_on done rest end
 
-  -- a log is opened, if one is named, and the run goes on with it; where it could not be, that is told and the run ends
+  -- `OpensIfNamed o goes_on`: a log is opened, if one is named, and the run goes on with it; if that fails, this is
+  -- reported and the run ends.
   abbrev pub GoesOnOpened : {G : Type 0} → List ℕ → (Option G → Course L) → Bool → Course L
   GoesOnOpened {G} name goes_on true events end = (log : G) × goes_on (Some log) events end
   GoesOnOpened name goes_on false events end = IsFailureReported name events end
@@ -95,7 +100,7 @@ module _ {L : Type 0} where
   OpensIfNamed (Some name) goes_on events end = (done : Bool) × (rest : List (Event L))
       × (events ≡ opened name done ∷ rest) × GoesOnOpened name goes_on done rest end
 
-  -- a line goes to standard output, and the run goes on; where the stream failed it ends with 3
+  -- `Announces line goes_on`: a line is written to standard output, and the run goes on; if that fails it ends with 3.
   abbrev pub GoesOnAnnounced : Course L → Bool → Course L
   GoesOnAnnounced goes_on true events end = goes_on events end
   GoesOnAnnounced goes_on false events end = (events ≡ []) × (end ≡ 3)
@@ -104,7 +109,7 @@ module _ {L : Type 0} where
   Announces line goes_on events end = (done : Bool) × (rest : List (Event L))
       × (events ≡ wrote Answers (ended line) done ∷ rest) × GoesOnAnnounced goes_on done rest end
 
-  -- where this is so, a line goes to standard error first; the run goes on, whether or not the stream took it
+  -- `WarnsIf b line goes_on`: if `b`, a line is written to standard error first; the run goes on even if that fails.
   abbrev pub WarnsIf : Bool → List ℕ → Course L → Course L
   WarnsIf false line goes_on events end = goes_on events end
   WarnsIf true line goes_on events end = (done : Bool) × (rest : List (Event L))

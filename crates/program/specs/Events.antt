@@ -1,5 +1,5 @@
--- What a run does on the machine that it runs on: files that it reads and writes, what it writes on the two standard
--- streams, connections, each as it stood when it came, and pauses. A rule of this product.
+-- Defines the events of a run: files read and written, output, connections and pauses.
+-- Source: docs/operating.md; the contracts of std's files and streams.
 use Rattle.std.specs.Prelude.{◌≡◌, ℕ, Bool, true, false, List, [], ◌∷◌, Option, Result}
 use Rattle.std.specs.Io.KnownBytes.{Appends}
 use Rattle.program_lines.specs.declared.fault.LineFault.{LineFault}
@@ -8,46 +8,46 @@ use Rattle.program.specs.declared.device.FileFault.{FileFault}
 use Rattle.program.specs.declared.device.Stream.{Stream}
 use Rattle.program.specs.declared.device.Stream.TheVariants.{Answers, Faults}
 
--- one thing that a run does, over connections of this kind
+-- An `Event` is one thing that a run does, over connections of type `L`.
 pub data Event (L : Type 0) : Type 0 where
-  -- a file of this name held these bytes, or was not read
+  -- the file with this name had these bytes, or could not be read
   read : List ℕ → Result (List ℕ) FileFault → Event L
-  -- a file of this name was to hold these bytes, and was written, or not
+  -- these bytes were written into the file with this name, or could not be
   stored : List ℕ → List ℕ → Result (Unit {0}) FileFault → Event L
   -- the log of this name was opened, or could not be
   opened : List ℕ → Bool → Event L
-  -- these bytes were written on a stream, which took them all or failed
+  -- these bytes were written to a stream, all of them, or it failed
   wrote : Stream → List ℕ → Bool → Event L
-  -- the text of a fault of the command line, or the help, was written on a stream, which took it all or failed
+  -- the text of an error of the command line, or the help, was written to a stream, all of it, or it failed
   printed : Stream → LineFault → Bool → Event L
-  -- to this address a connection was opened, this one, or none could be
+  -- this connection to this address was opened, or none could be
   connected : List ℕ → Option L → Event L
-  -- this address was listened at, or could not be; where a limit is given, a read or a write of a connection that comes
-  -- there fails once it has taken so many seconds
+  -- the run began to listen at this address, or could not; if a limit is given, a read or a write of a connection there
+  -- fails after so many seconds
   listened : List ℕ → Option ℕ → Bool → Event L
-  -- a connection came, this one, or failed before it stood
+  -- this connection was accepted, or accepting one failed
   accepted : Option L → Event L
-  -- a connection was let go as this, and nothing goes over it any more
+  -- a connection was closed in this state
   closed : L → Event L
-  -- the serving of the connection that was let go last had ended so
+  -- how serving the connection that was closed last had ended
   served : Result (Unit {0}) StreamFault → Event L
-  -- nothing was done for so many milliseconds
+  -- a pause of so many milliseconds
   paused : ℕ → Event L
 
 module _ {L H : Type 0} (does : H → Event L → H → Type 0) where
-  -- these events, in this order, lead from the old state of the machine to the new one
+  -- `Does events old new` holds if `events`, in order, lead from the state `old` of the machine to `new`.
   abbrev pub Does : List (Event L) → H → H → Type 0
   Does [] old new = new ≡ old
   Does (event ∷ events) old new = (next : H) × does old event next × Does events next new
 
-  -- what was done between two states is as described
+  -- `Runs old new described` holds if some events with `described` lead from `old` to `new`.
   abbrev pub Runs : H → H → (List (Event L) → Type 0) → Type 0
   Runs old new described = (events : List (Event L)) × Does events old new × described events
 
--- What an event does to two writers, of whose bytes as much is said as is known of them: a line is written on its own
--- stream and leaves the other as it is. Nothing is said of what a file holds, what text a fault has, how much a stream
--- took before it failed, or what comes over a connection; nor of the lines of a log on standard output, which has a
--- writer of its own: they stand among what the first writer wrote.
+-- `Changes held told out err event new_out new_err` holds if `event` may lead the two standard streams from `out` and
+-- `err` to `new_out` and `new_err`: a line is written to one, and the other stays. Nothing is said of the content of a
+-- file, the text of an error, how much a stream took before it failed, or what is read from a connection; nor of the
+-- lines of a log on standard output, which has its own writer: they occur among what the first stream got.
 abbrev pub Changes : {L O E : Type 0} → (O → Option (List ℕ)) → (E → Option (List ℕ)) → O → E → Event L → O → E
     → Type 0
 Changes held told out err (read name bytes) new_out new_err = (new_out ≡ out) × (new_err ≡ err)

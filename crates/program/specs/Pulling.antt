@@ -1,5 +1,7 @@
--- What a run is that pulls from another site. A rule of this product: the files are read and the connection is opened
--- before anything is judged, and the state's file is written last, where nothing was refused.
+-- Defines a run of `pull`, which fetches the updates of another site into a file.
+-- Source: docs/operating.md.
+-- Rules of this product: the files are read and the connection is opened before anything is checked; the state's file
+-- is written last, unless anything is rejected.
 use Rattle.std.specs.Prelude.{◌≡◌, ◌≢◌, ◌⊎◌, ℕ, List, ◌∷◌, Option, Result, Ok, Err}
 use Rattle.site_loading.specs.schema.Schemas.{StatedSchema}
 use Rattle.program_lines.specs.declared.line.PullOptions.{PullOptions}
@@ -22,8 +24,8 @@ use Rattle.program.specs.Reports.{IsAnswerReported, IsFailureReported, IsMemoryR
 use Rattle.program.specs.Reports.{taken_report_line}
 use Rattle.program.specs.Courses.{Course, Reads, ReadsIfThere, Connects, Stores}
 
--- what came of a pull is told: the new state is written, and then how many updates came, where there is memory for that
--- line; or the address where the network failed; or why texts or message were refused
+-- `IsPullTold options r`: the new state is written, then the number of updates printed, if there is memory for that
+-- line; or the address is reported at which the network failed; or why a text or the message is rejected.
 abbrev pub IsPullTold : {L : Type 0} → PullOptions → Result Pulled PullFault → Course L
 IsPullTold options (Ok pulled) events end =
     Stores options.state.now pulled.state.items (IsAnswerReported (taken_report_line pulled.taken)) events end
@@ -33,34 +35,38 @@ IsPullTold options (Err (Refused refusal)) events end = IsRefusalReported refusa
     ⊎ IsMemoryReported events end
 
 module _ {R W : Type 0} (reader : Source R) (writer : Sink W) where
-  -- no read failed
+  -- `NoReadFailed link left` holds if no read failed between the states `link` and `left` of a connection.
   abbrev pub NoReadFailed : Link R W → Link R W → Type 0
   NoReadFailed link left = reader.failed left.reader ≡ reader.failed link.reader
 
-  -- no write failed
+  -- `NoWriteFailed link left` holds if no write failed.
   abbrev pub NoWriteFailed : Link R W → Link R W → Type 0
   NoWriteFailed link left = writer.failed left.writer ≡ writer.failed link.writer
 
-  -- over a connection this request was written, and what was read begins with a reply of status 200 and this body
+  -- `IsAsked request link body left` holds if `request` was written, and what was read begins with a reply of status
+  -- 200 and `body`.
   abbrev pub IsAsked : List ℕ → Link R W → List ℕ → Link R W → Type 0
   IsAsked request link body left =
       IsAnswered reader.left reader.reads writer.holds request link.reader left.reader link.writer left.writer 200 body
 
-  -- nothing was read or written; or of the request for what is news to the state a first part was written, or all of it
+  -- `IsNotMoreThanAsked schema state address link left` holds if nothing was read or written, or a first part, or all,
+  -- of the request for the missing entries was written.
   abbrev pub IsNotMoreThanAsked : List ℕ → Option (List ℕ) → List ℕ → Link R W → Link R W → Type 0
   IsNotMoreThanAsked schema state address link left = (left ≡ link)
       ⊎ ((s : StatedSchema) × (m : Store) × IsReady schema state s m
       × IsRequestBegun reader.left writer.holds (request_for address s m) link.reader left.reader link.writer
       left.writer)
 
-  -- the texts are refused, and nothing was read or written; or the request was, and the message that came is refused
+  -- `IsPullRefused schema state address refusal link left` holds if `refusal` rejects the texts, and nothing was read
+  -- or written; or the request was written, and `refusal` rejects the message received.
   abbrev pub IsPullRefused : List ℕ → Option (List ℕ) → List ℕ → Refusal → Link R W → Link R W → Type 0
   IsPullRefused schema state address refusal link left = (IsRefusedFirst schema state refusal × (left ≡ link))
       ⊎ ((s : StatedSchema) × (m : Store) × (body : List ℕ) × IsReady schema state s m
       × IsAsked (request_for address s m) link body left × IsMessageRefused s body refusal)
 
-  -- What came of a pull over a connection: the request for what is news to the state was written, and the message that
-  -- came in reply was joined; or texts or message are refused, or memory was; or no reply of status 200 came.
+  -- `IsPull schema state address link r left` holds if `r` is the outcome of a pull over a connection: the request for
+  -- the missing entries was written, and the message in reply joined; or a text or the message is rejected, or memory
+  -- was lacking; or there was no reply of status 200.
   abbrev pub IsPull : List ℕ → Option (List ℕ) → List ℕ → Link R W → Result Pulled PullFault → Link R W → Type 0
   IsPull schema state address link (Ok pulled) left = (s : StatedSchema) × (m : Store) × (body : List ℕ)
       × IsReady schema state s m × IsAsked (request_for address s m) link body left
@@ -77,13 +83,15 @@ module _ {R W : Type 0} (reader : Source R) (writer : Sink W) where
       × (fault ≢ network.Read → NoReadFailed link left)
       × (fault ≢ network.Write → NoWriteFailed link left)
 
-  -- what is news is pulled over the connection that was opened, which is let go, and what came of it is told
+  -- `IsPulledOver options schema state link`: there is a pull over the connection, it is closed, and the outcome is
+  -- reported.
   abbrev pub IsPulledOver : PullOptions → List ℕ → Option (List ℕ) → Link R W → Course (Link R W)
   IsPulledOver options schema state link events end = (came : Result Pulled PullFault) × (left : Link R W)
       × IsPull schema state options.from.now link came left
       × ((rest : List (Event (Link R W))) × (events ≡ closed left ∷ rest) × IsPullTold options came rest end)
 
-  -- first the schema, then the state, if there is one; then the connection; the site's name changes nothing of it
+  -- `IsPullRun options`: first the schema, then the state, if the file exists; then the connection. The site's name
+  -- makes no difference.
   abbrev pub IsPullRun : PullOptions → Course (Link R W)
   IsPullRun options =
       Reads options.schema.now (λ schema.

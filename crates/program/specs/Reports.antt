@@ -1,5 +1,6 @@
--- What a run writes on which stream, and the status that it ends with. Both are rules of this product; an answer's line
--- and a refusal's line are defined where texts are decided.
+-- Defines what a run writes to which stream, and its status. The lines of answers and errors are defined in
+-- answer_lines.
+-- Source: docs/codes.md, of statuses.
 use Prim.Native.Char.{code}
 use Rattle.std.specs.Prelude.{◌≡◌, ◌⊎◌, ℕ, Bool, List, [], ◌∷◌, ◌++◌, if◌then◌else◌, codes, decimal}
 use Rattle.program_drills.specs.http_service.answer_lines.declared.refusal.Refusal.{Refusal}
@@ -12,67 +13,68 @@ use Rattle.program.specs.declared.device.Stream.{Stream}
 use Rattle.program.specs.declared.device.Stream.TheVariants.{Answers, Faults}
 use Rattle.program.specs.Events.{Event, wrote, printed}
 
--- a line, and its end: a line feed
+-- `ended line` is `line` and a line feed.
 abbrev pub ended : List ℕ → List ℕ
 ended line = line ++ code "\n" ∷ []
 
--- a run that writes ends with this status where the stream took all, and with 3 where it failed
+-- `status_after done status` is `status`, or 3 if the stream failed.
 abbrev pub status_after : Bool → ℕ → ℕ
 status_after done status = if done then status else 3
 
--- {"taken":3}
+-- `taken_report_line count` is the number of applied updates: {"taken":3}
 unfoldable pub taken_report_line : ℕ → List ℕ
 taken_report_line count = codes "{\"taken\":" ++ decimal count ++ codes "}"
 
--- the line that tells of want of memory, letter by letter, since it is written where no memory is left to make it
+-- `no_memory_line` is the error line of lack of memory, which takes no memory to make.
 abbrev pub no_memory_line : List ℕ
 no_memory_line = codes "{\"error\":{\"code\":1,\"place\":null,\"within\":null}}"
 
 module _ {L : Type 0} where
-  -- one line is written on this stream, and the run ends with this status, or with 3
+  -- `IsReported stream line status`: `line` is written to `stream`, and the run ends with `status`, or with 3.
   abbrev pub IsReported : Stream → List ℕ → ℕ → List (Event L) → ℕ → Type 0
   IsReported stream line status events end = (done : Bool)
       × (events ≡ wrote stream (ended line) done ∷ [])
       × (end ≡ status_after done status)
 
-  -- an answer's line goes to standard output, and the run ends with 0
+  -- `IsAnswerReported line`: `line` is written to standard output, and the run ends with 0.
   abbrev pub IsAnswerReported : List ℕ → List (Event L) → ℕ → Type 0
   IsAnswerReported line = IsReported Answers line 0
 
-  -- the lines of policies go to standard output; where there are none, nothing is written; the run ends with 1 where a
-  -- policy is refused
+  -- `AreLinesReported text some_refused`: the lines of policies, if any, are written to standard output, and the run
+  -- ends with 1 if a policy is rejected, else with 0.
   abbrev pub AreLinesReported : List ℕ → Bool → List (Event L) → ℕ → Type 0
   AreLinesReported [] some_refused events end = (events ≡ []) × (end ≡ (if some_refused then 1 else 0))
   AreLinesReported (byte ∷ text) some_refused events end =
       IsReported Answers (byte ∷ text) (if some_refused then 1 else 0) events end
 
-  -- a refusal's line goes to standard error, and the run ends with 1
+  -- `IsRefusalReported refusal`: the error line is written to standard error, and the run ends with 1.
   abbrev pub IsRefusalReported : Refusal → List (Event L) → ℕ → Type 0
   IsRefusalReported refusal = IsReported Faults (error_line refusal) 1
 
-  -- that memory was refused is told as a refusal is, by the line that is made for it or by the one that needs no making
+  -- `IsMemoryReported`: lack of memory is reported as an error, by a line that is made, or that needs no memory.
   abbrev pub IsMemoryReported : List (Event L) → ℕ → Type 0
   IsMemoryReported events end = IsRefusalReported no_memory events end ⊎ IsReported Faults no_memory_line 1 events end
 
-  -- the name of a file that can't be read or written, or the address where the network failed, goes to standard error,
-  -- and the run ends with 3
+  -- `IsFailureReported name`: the name of a file that cannot be read or written, or the address at which the network
+  -- failed, is written to standard error, and the run ends with 3.
   abbrev pub IsFailureReported : List ℕ → List (Event L) → ℕ → Type 0
   IsFailureReported name = IsReported Faults (codes "fault: " ++ name) 3
 
-  -- why a file was not read or written
+  -- `IsFileReported name fault`: why the file was not read or written is reported.
   abbrev pub IsFileReported : List ℕ → FileFault → List (Event L) → ℕ → Type 0
   IsFileReported name file.Missing events end = IsFailureReported name events end
   IsFileReported name file.Failed events end = IsFailureReported name events end
   IsFileReported name file.NoMemory events end = IsMemoryReported events end
 
-  -- the text of a fault of the words is written on this stream, and the run ends with this status, or with 3
+  -- `IsPrinted stream fault status`: the text of an error of the command line is written to `stream`, and the run ends
+  -- with `status`, or with 3.
   abbrev pub IsPrinted : Stream → LineFault → ℕ → List (Event L) → ℕ → Type 0
   IsPrinted stream fault status events end = (done : Bool)
       × (events ≡ printed stream fault done ∷ [])
       × (end ≡ status_after done status)
 
-  -- help goes to standard output, and the run ends with 0; every fault of the words to standard error, and the run ends
-  -- with 2; want of memory is told as it always is
+  -- `IsFaultReported fault`: help is written to standard output, and the run ends with 0; any other error of the
+  -- command line to standard error, and the run ends with 2; lack of memory is reported as everywhere.
   abbrev pub IsFaultReported : LineFault → List (Event L) → ℕ → Type 0
   IsFaultReported (Help error) events end = IsPrinted Answers (Help error) 0 events end
   IsFaultReported (Words error) events end = IsPrinted Faults (Words error) 2 events end

@@ -1,6 +1,7 @@
--- What a run is: which files it reads in which order, what it writes where, and the status that it ends with.
--- A rule of this product; what texts come to is defined where they are checked, decided, merged and pulled.
-use Rattle.std.specs.Prelude.{◌≡◌, ◌⊎◌, ℕ, Bool, List, [], Option, None, Some, option_map}
+-- Defines a run: which files it reads in which order, what it writes where, and its status. What it prints of its
+-- texts is defined where they are checked, decided, merged, drilled and explained.
+-- Source: docs/operating.md.
+use Rattle.std.specs.Prelude.{◌≡◌, ◌⊎◌, ◌&&◌, ℕ, Bool, List, [], Option, None, Some, option_map}
 use Rattle.clap.specs.Words.{Text, fault_of}
 use Rattle.program_drills.specs.http_service.answer_lines.declared.refusal.Refusal.{Refusal}
 use Rattle.site_loading.specs.decision_texts.BareReading.{bare_reading}
@@ -24,70 +25,96 @@ use Rattle.state_exchanges.specs.http_devices.declared.devices.Source.{Ghosts as
 use Rattle.state_exchanges.specs.http_devices.declared.devices.Sink.{Ghosts as Sink}
 use Rattle.program.specs.declared.device.Link.{Link}
 use Rattle.program.specs.Reports.{AreLinesReported, IsFaultReported}
-use Rattle.program.specs.Courses.{Course, Reads, ReadsIfNamed, IsRefusedFor, IsLineOrRefusal}
+use Rattle.program.specs.Courses.{Course, Reads, ReadsIfNamed, IsLineOrRefusal}
+use Rattle.explanations.specs.Files.{Files}
+use Rattle.explanations.specs.Explained.{IsExplained}
+use Rattle.program.specs.Explained.{file_held, schema_files, Explains, IsRefusedWith, IsLineOrRefusedWith}
 use Rattle.program.specs.Exchanging.{IsExchangeRun}
-use Rattle.program.specs.Explaining.{IsExplainRun}
+use Rattle.program.specs.Explaining.{file_named, IsExplainRun}
 use Rattle.program.specs.Loading.{IsLoadRun}
 use Rattle.program.specs.Pulling.{IsPullRun}
 use Rattle.program.specs.Serving.{IsServeRun}
 
--- the line of the answer over three texts, or over four, the schema's among them
+-- `IsDecided schema policies entities request line` holds if `line` is the answer line of three texts, or of four with
+-- a schema.
 abbrev pub IsDecided : Option (List ℕ) → List ℕ → List ℕ → List ℕ → List ℕ → Type 0
 IsDecided None = bare.IsDecided bare_reading
 IsDecided (Some schema) = typed.IsDecided schema
 
--- why there is none
+-- `IsNotDecided` holds of the error if there is no answer.
 abbrev pub IsNotDecided : Option (List ℕ) → List ℕ → List ℕ → List ℕ → Refusal → Type 0
 IsNotDecided None = bare.IsDecisionRefused bare_reading
 IsNotDecided (Some schema) = typed.IsSchemaDecisionRefused schema
 
+-- `decide_files ..` and `check_files ..` are the files that a run explains.
+abbrev pub decide_files : DecideOptions → Option (List ℕ) → List ℕ → List ℕ → List ℕ → Files
+decide_files options schema policies entities request = record {
+  schema = file_named (option_map (λ s. s.now) options.schema) schema;
+  policies = file_held options.policies.now policies;
+  entities = Some (file_held options.entities.now entities);
+  request = Some (file_held options.request.now request);
+}
+
+abbrev pub check_files : CheckOptions → List ℕ → List ℕ → Files
+check_files options schema policies = record {
+  schema = Some (file_held options.schema.now schema);
+  policies = file_held options.policies.now policies;
+  entities = None;
+  request = None;
+}
+
 module _ {L : Type 0} where
-  -- the line of the answer is told
-  abbrev pub IsDecidedOrRefused : Option (List ℕ) → List ℕ → List ℕ → List ℕ → Course L
-  IsDecidedOrRefused schema policies entities request =
-      IsLineOrRefusal (IsDecided schema policies entities request) (IsNotDecided schema policies entities request)
+  -- `IsDecidedOrRefused`: the answer line is printed, or the error reported and, if that is asked for, explained.
+  abbrev pub IsDecidedOrRefused : DecideOptions → Option (List ℕ) → List ℕ → List ℕ → List ℕ → Course L
+  IsDecidedOrRefused options schema policies entities request =
+      IsLineOrRefusedWith options.explain (decide_files options schema policies entities request)
+      (IsDecided schema policies entities request) (IsNotDecided schema policies entities request)
 
-  -- the lines of policies under a schema are told
-  abbrev pub AreChecked : List ℕ → List ℕ → Course L
-  AreChecked schema policies events end =
+  -- `AreChecked`: the lines of policies under a schema are printed, or the error reported; if that is asked for, what
+  -- is rejected is explained.
+  abbrev pub AreChecked : CheckOptions → List ℕ → List ℕ → Course L
+  AreChecked options schema policies events end =
       ((text : List ℕ) × (some_refused : Bool) × checks.IsChecked schema policies text some_refused
-      × AreLinesReported text some_refused events end)
-      ⊎ IsRefusedFor (checks.AreChecksRefused schema policies) events end
+      × Explains (options.explain && some_refused) (IsExplained (check_files options schema policies))
+      (AreLinesReported text some_refused) events end)
+      ⊎ IsRefusedWith options.explain (check_files options schema policies) (checks.AreChecksRefused schema policies)
+      events end
 
-  -- the state that holds what two messages hold is told
-  abbrev pub AreMerged : List ℕ → List ℕ → List ℕ → Course L
-  AreMerged schema first second =
-      IsLineOrRefusal (merges.IsMerged schema first second) (merges.AreRefused schema first second)
+  -- `AreMerged`: the state with the updates of both messages is printed, or the error reported and, if that is asked
+  -- for, explained.
+  abbrev pub AreMerged : MergeOptions → List ℕ → List ℕ → List ℕ → Course L
+  AreMerged options schema first second = IsLineOrRefusedWith options.explain (schema_files options.schema.now schema)
+      (merges.IsMerged schema first second) (merges.AreRefused schema first second)
 
-  -- what a script comes to at so many sites is told
+  -- `IsDrilledOrRefused`: the lines of a script are printed, or the error reported.
   abbrev pub IsDrilledOrRefused : ℕ → List ℕ → List ℕ → Course L
   IsDrilledOrRefused sites schema script =
       IsLineOrRefusal (drills.IsDrilled sites schema script) (drills.IsDrillRefused sites schema script)
 
-  -- the files of these names are read, first the schema, if one is named, then the policies, then the entities, then
-  -- the request; and then what they held is decided
+  -- `IsDecideRun options`: the files are read, first the schema, if one is named, then policies, entities and request,
+  -- and then decided.
   abbrev pub IsDecideRun : DecideOptions → Course L
   IsDecideRun options =
       ReadsIfNamed (option_map (λ s. s.now) options.schema) (λ schema.
       Reads options.policies.now (λ policies.
       Reads options.entities.now (λ entities.
       Reads options.request.now (λ request.
-      IsDecidedOrRefused schema policies entities request))))
+      IsDecidedOrRefused options schema policies entities request))))
 
-  -- first the schema, then the policies
+  -- `IsCheckRun options`: first the schema, then the policies.
   abbrev pub IsCheckRun : CheckOptions → Course L
   IsCheckRun options =
-      Reads options.schema.now (λ schema. Reads options.policies.now (λ policies. AreChecked schema policies))
+      Reads options.schema.now (λ schema. Reads options.policies.now (λ policies. AreChecked options schema policies))
 
-  -- first the schema, then the two states
+  -- `IsMergeRun options`: first the schema, then the two states.
   abbrev pub IsMergeRun : MergeOptions → Course L
   IsMergeRun options =
       Reads options.schema.now (λ schema.
       Reads options.first.now (λ first.
       Reads options.second.now (λ second.
-      AreMerged schema first second)))
+      AreMerged options schema first second)))
 
-  -- first the schema, then the script
+  -- `IsDrillRun options`: first the schema, then the script.
   abbrev pub IsDrillRun : DrillOptions → Course L
   IsDrillRun options =
       Reads options.schema.now (λ schema.
@@ -95,7 +122,7 @@ module _ {L : Type 0} where
       IsDrilledOrRefused options.sites schema script))
 
 module _ {R W G : Type 0} (reader : Source R) (writer : Sink W) (log : Sink G) where
-  -- the command is carried out
+  -- `IsLineRun line` is a run of this command.
   abbrev pub IsLineRun : Line → Course (Link R W)
   IsLineRun (Check options) = IsCheckRun options
   IsLineRun (Decide options) = IsDecideRun options
@@ -107,7 +134,7 @@ module _ {R W G : Type 0} (reader : Source R) (writer : Sink W) (log : Sink G) w
   IsLineRun (Drill options) = IsDrillRun options
   IsLineRun (Explain options) = IsExplainRun options
 
-  -- the words are a command, which is carried out; or they are none, and that is told
+  -- `IsRun words`: the arguments are a command, which is run; or they are not, and that is reported.
   abbrev pub IsRun : List Text → Course (Link R W)
   IsRun words events end =
       ((line : Line) × Says words line × (fault_of site_app words ≡ []) × IsLineRun line events end)

@@ -1,4 +1,5 @@
 pub mod Begun
 pub mod Exchanged
 pub mod Served
+pub mod Telling
 pub mod Ways

@@ -1,14 +1,19 @@
 //! Policies of files that are checked, and requests that are decided by them.
-ghost use Rattle.std.specs.Prelude.{IfOk, IfErr, option_map};
+ghost use Rattle.std.specs.Prelude.{◌≡◌, IfOk, IfErr, option_map};
 ghost use Rattle.std.specs.Process.{exit_status};
 ghost use Rattle.plain.specs.Refused.{OrNoMemory};
 ghost use Rattle.program_drills.specs.http_service.answer_lines.Refusals.{no_memory};
 ghost use Rattle.program.specs.Events.{Runs};
+ghost use Rattle.explanations.specs.Files.{files_of};
 ghost use Rattle.program.specs.Runs.{IsDecided, IsNotDecided, IsDecideRun, IsCheckRun};
+ghost use Rattle.program.specs.Runs.{decide_files, check_files, IsDecidedOrRefused, AreChecked};
 
+use crate::explaining::source_of;
 use crate::host::Host;
 use crate::reading::{lent, read_file, read_if_named};
-use crate::report::{report_answer, report_lines, report_refusal};
+use crate::rejecting::{report_checked, report_rejected};
+use crate::report::report_answer;
+use explanations::{Given, Source};
 use program_drills::Refusal;
 use program_lines::{CheckOptions, DecideOptions};
 use site_loading::{check_texts, decide_texts, decide_under};
@@ -31,6 +36,56 @@ fn decide(
     match schema {
         Some(schema) => decide_under(alloc, schema, policies, entities, request),
         None => decide_texts(alloc, policies, entities, request),
+    }
+}
+
+/// Returns the files of a decision, as they are explained.
+fn decide_given<'n, 't>(
+    options: &DecideOptions<'n>,
+    schema: Option<&'t [u8]>,
+    policies: &'t [u8],
+    entities: &'t [u8],
+    request: &'t [u8],
+) -> Given<'n, 't>
+    ensures { files_of result ≡ decide_files options.now (option_map (λ s. s.now) schema.entry) policies.entry.now
+        entities.entry.now request.entry.now }
+{
+    Given {
+        schema: source_of(options.schema, schema),
+        policies: Source {
+            name: options.policies,
+            text: policies,
+        },
+        entities: Some(Source {
+            name: options.entities,
+            text: entities,
+        }),
+        request: Some(Source {
+            name: options.request,
+            text: request,
+        }),
+    }
+}
+
+/// Decides what files hold, and reports the answer, or why there is none.
+fn decide_held<H: Host>(
+    alloc: Global,
+    host: &mut H,
+    options: &DecideOptions<'_>,
+    schema: Option<&[u8]>,
+    policies: &[u8],
+    entities: &[u8],
+    request: &[u8],
+) -> ExitCode
+    ensures { Runs H.does host.old host.new (λ events. IsDecidedOrRefused options.now
+        (option_map (λ s. s.now) schema.entry) policies.now entities.now request.now events (exit_status result)) }
+{
+    match decide(alloc, schema, policies, entities, request) {
+        Ok(line) => report_answer(host, &line),
+        Err(refusal) => {
+            let given = decide_given(options, schema, policies, entities, request);
+            report_rejected(alloc, host, refusal, options.explain, &given)
+        }
     }
 }
 
@@ -59,9 +114,56 @@ pub(crate) fn run_decide<H: Host>(
         Ok(bytes) => bytes,
         Err(end) => return end,
     };
-    match decide(alloc, lent(&schema), &policies, &entities, &request) {
-        Ok(line) => report_answer(host, &line),
-        Err(refusal) => report_refusal(alloc, host, refusal),
+    decide_held(
+        alloc,
+        host,
+        options,
+        lent(&schema),
+        &policies,
+        &entities,
+        &request,
+    )
+}
+
+/// Returns the files of a check, as they are explained.
+fn check_given<'n, 't>(
+    options: &CheckOptions<'n>,
+    schema: &'t [u8],
+    policies: &'t [u8],
+) -> Given<'n, 't>
+    ensures { files_of result ≡ check_files options.now schema.entry.now policies.entry.now }
+{
+    Given {
+        schema: Some(Source {
+            name: options.schema,
+            text: schema,
+        }),
+        policies: Source {
+            name: options.policies,
+            text: policies,
+        },
+        entities: None,
+        request: None,
+    }
+}
+
+/// Checks what files hold, and reports the lines of the policies, or why there are none.
+fn check_held<H: Host>(
+    alloc: Global,
+    host: &mut H,
+    options: &CheckOptions<'_>,
+    schema: &[u8],
+    policies: &[u8],
+) -> ExitCode
+    ensures { Runs H.does host.old host.new
+        (λ events. AreChecked options.now schema.now policies.now events (exit_status result)) }
+{
+    let given = check_given(options, schema, policies);
+    match check_texts(alloc, schema, policies) {
+        Ok((lines, some_refused)) => {
+            report_checked(alloc, host, &lines, some_refused, options.explain, &given)
+        }
+        Err(refusal) => report_rejected(alloc, host, refusal, options.explain, &given),
     }
 }
 
@@ -81,8 +183,5 @@ pub(crate) fn run_check<H: Host>(
         Ok(bytes) => bytes,
         Err(end) => return end,
     };
-    match check_texts(alloc, &schema, &policies) {
-        Ok((lines, some_refused)) => report_lines(host, &lines, some_refused),
-        Err(refusal) => report_refusal(alloc, host, refusal),
-    }
+    check_held(alloc, host, options, &schema, &policies)
 }

@@ -69,7 +69,10 @@ fn explain_code<H: Host>(alloc: Global, host: &mut H, word: &str) -> ExitCode
 }
 
 /// Returns a text with the name of its file, if both are there.
-fn source_of<'n, 't>(name: Option<&'n str>, text: Option<&'t [u8]>) -> Option<Source<'n, 't>>
+pub(crate) fn source_of<'n, 't>(
+    name: Option<&'n str>,
+    text: Option<&'t [u8]>,
+) -> Option<Source<'n, 't>>
     ensures { option_map file_of result ≡ file_named (option_map (λ s. s.now) name.entry)
         (option_map (λ s. s.now) text.entry) }
 {

@@ -10,6 +10,7 @@ mod explaining;
 mod host;
 mod loads;
 mod reading;
+mod rejecting;
 mod report;
 mod running;
 mod serving;

@@ -3,12 +3,16 @@ ghost use Rattle.std.specs.Prelude.{◌≡◌, option_map, IfOk, IfErr};
 ghost use Rattle.std.specs.Process.{exit_status};
 ghost use Rattle.program_drills.specs.http_service.answer_lines.Refusals.{no_memory};
 ghost use Rattle.program.specs.Events.{Runs};
-ghost use Rattle.program.specs.Loading.{IsLoaded, IsLoadRefused, IsLoadRun};
+ghost use Rattle.explanations.specs.Files.{files_of};
+ghost use Rattle.program.specs.Loading.{IsLoaded, IsLoadRefused, IsLoadRun, IsLoadedOrRefused, load_files};
 
 use crate::begin::begin;
+use crate::explaining::source_of;
 use crate::host::Host;
 use crate::reading::{lent, read_file, read_if_named};
-use crate::report::{report_answer, report_refusal};
+use crate::rejecting::{policies_of, report_rejected};
+use crate::report::report_answer;
+use explanations::{Given, Source};
 use program_drills::Refusal;
 use program_lines::{LoadOptions, SiteName};
 use site_loading::loaded_state;
@@ -36,6 +40,50 @@ fn state_after(
     }
 }
 
+/// Returns the files of a load, as they are explained.
+fn load_given<'n, 't>(
+    options: &LoadOptions<'n>,
+    schema: &'t [u8],
+    policies: Option<&'t [u8]>,
+    entities: Option<&'t [u8]>,
+) -> Given<'n, 't>
+    ensures { files_of result ≡ load_files options.now schema.entry.now (option_map (λ p. p.now) policies.entry)
+        (option_map (λ e. e.now) entities.entry) }
+{
+    Given {
+        schema: Some(Source {
+            name: options.schema,
+            text: schema,
+        }),
+        policies: policies_of(source_of(options.policies, policies)),
+        entities: source_of(options.entities, entities),
+        request: None,
+    }
+}
+
+/// Puts what files hold into a site, and reports its state, or why there is none.
+fn load_held<H: Host>(
+    alloc: Global,
+    host: &mut H,
+    options: &LoadOptions<'_>,
+    schema: &[u8],
+    state: Option<&[u8]>,
+    policies: Option<&[u8]>,
+    entities: Option<&[u8]>,
+) -> ExitCode
+    ensures { Runs H.does host.old host.new (λ events. IsLoadedOrRefused options.now schema.now
+        (option_map (λ s. s.now) state.entry) (option_map (λ p. p.now) policies.entry)
+        (option_map (λ e. e.now) entities.entry) events (exit_status result)) }
+{
+    match state_after(alloc, schema, options.site, state, policies, entities) {
+        Ok(line) => report_answer(host, &line),
+        Err(refusal) => {
+            let given = load_given(options, schema, policies, entities);
+            report_rejected(alloc, host, refusal, options.explain, &given)
+        }
+    }
+}
+
 /// Reads the files, the schema first, then the state to begin with, the policies and the entities, those that are
 /// named; then puts the policies and the entities into the site of this name, and tells its state.
 pub(crate) fn run_load<H: Host>(alloc: Global, host: &mut H, options: &LoadOptions<'_>) -> ExitCode
@@ -57,15 +105,13 @@ pub(crate) fn run_load<H: Host>(alloc: Global, host: &mut H, options: &LoadOptio
         Ok(found) => found,
         Err(end) => return end,
     };
-    match state_after(
+    load_held(
         alloc,
+        host,
+        options,
         &schema,
-        options.site,
         lent(&state),
         lent(&policies),
         lent(&entities),
-    ) {
-        Ok(line) => report_answer(host, &line),
-        Err(refusal) => report_refusal(alloc, host, refusal),
-    }
+    )
 }

@@ -72,7 +72,7 @@ pub(crate) fn report_lines<H: Host>(host: &mut H, lines: &[u8], some_refused: bo
 }
 
 /// Returns a text without the line feed at its end.
-fn without_end(text: &str) -> &str
+pub(crate) fn without_end(text: &str) -> &str
     ensures { IsWithoutEnd text.now result.now }
 {
     match text.strip_suffix("\n") {

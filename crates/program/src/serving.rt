@@ -1,11 +1,11 @@
 //! A site that is served, one connection after another.
-ghost use Rattle.std.specs.Prelude.{◌≡◌, ◌*◌, min};
+ghost use Rattle.std.specs.Prelude.{◌≡◌, ◌*◌, min, option_map};
 ghost use Rattle.std.specs.Process.{exit_status};
 ghost use Rattle.program_lines.specs.stamped_store.Stamping.{has_stamps_of};
 ghost use Rattle.site_loading.specs.site_steps.SiteViews.{store_in};
 ghost use Rattle.program.specs.Events.{Runs};
 ghost use Rattle.program.specs.Courses.{Listens};
-ghost use Rattle.program.specs.Serving.{IsServedAt, IsServedListening, IsServedOver, IsServeRun, most_of};
+ghost use Rattle.program.specs.Serving.{IsServedAt, IsServedFrom, IsServedListening, IsServedOver, IsServeRun, most_of};
 ghost use Rattle.program.specs.Serving.{own_stamps_line, pause_after};
 ghost use Rattle.program.specs.inner.Served.{AreServedOrFewer, IsAwaited, IsFailureNoted, IsNextOrNone};
 ghost use Rattle.program.specs.inner.Served.{IsTried, IsWarned};
@@ -14,7 +14,8 @@ use crate::begin::begin;
 use crate::device::{Link, NetworkFailed, Stream, StreamFailed};
 use crate::host::Host;
 use crate::reading::{lent, read_file, read_if_named};
-use crate::report::{ANSWERED, FAILED, report_failure, report_refusal};
+use crate::rejecting::{report_rejected, schema_given};
+use crate::report::{ANSWERED, FAILED, report_failure};
 use program_drills::{Site, StreamFault, serve, serve_logged};
 use program_lines::{ServeOptions, SiteName};
 use std::alloc::Global;
@@ -227,6 +228,27 @@ fn serve_listening<H: Host>(
     }
 }
 
+/// Begins a site with what files hold and serves it, or reports why it does not begin.
+fn serve_held<H: Host>(
+    alloc: Global,
+    host: &mut H,
+    options: &ServeOptions<'_>,
+    schema: &[u8],
+    state: Option<&[u8]>,
+) -> ExitCode
+    ensures { Runs H.does host.old host.new (λ events.
+        IsServedFrom H.Reader.Source H.Writer.Sink H.Log.Sink options.now schema.now
+        (option_map (λ s. s.now) state.entry) events (exit_status result)) }
+{
+    match begin(alloc, schema, options.site, state) {
+        Ok(site) => serve_begun(alloc, host, options, site),
+        Err(refusal) => {
+            let given = schema_given(options.schema, schema);
+            report_rejected(alloc, host, refusal, options.explain, &given)
+        }
+    }
+}
+
 /// Reads the schema, and then the state, if one is named; then begins the site and serves it.
 pub(crate) fn run_serve<H: Host>(
     alloc: Global,
@@ -244,8 +266,5 @@ pub(crate) fn run_serve<H: Host>(
         Ok(found) => found,
         Err(end) => return end,
     };
-    match begin(alloc, &schema, options.site, lent(&state)) {
-        Ok(site) => serve_begun(alloc, host, options, site),
-        Err(refusal) => report_refusal(alloc, host, refusal),
-    }
+    serve_held(alloc, host, options, &schema, lent(&state))
 }

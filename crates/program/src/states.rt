@@ -3,19 +3,41 @@ ghost use Rattle.std.specs.Prelude.{◌≡◌, ◌⊎◌, IfOk, option_map, stri
 ghost use Rattle.std.specs.Process.{exit_status};
 ghost use Rattle.program.specs.Events.{Runs};
 ghost use Rattle.program.specs.Reports.{taken_report_line, IsAnswerReported, IsMemoryReported};
-ghost use Rattle.program.specs.Runs.{IsMergeRun};
+ghost use Rattle.program.specs.Runs.{AreMerged, IsMergeRun};
 ghost use Rattle.program.specs.Courses.{Stores};
 ghost use Rattle.program.specs.Pulling.{IsPulledOver, IsPullRun, IsPullTold};
 
 use crate::device::{Link, NetworkFailed};
 use crate::host::Host;
 use crate::reading::{lent, read_file, read_if_there};
+use crate::rejecting::{report_rejected, schema_given};
 use crate::report::{report_answer, report_failure, report_file, report_memory, report_refusal};
 use plain::NoMemory;
 use program_lines::{MergeOptions, PullOptions};
 use state_exchanges::{PullFault, Pulled, merge_texts, pull_over};
 use std::alloc::Global;
 use std::process::ExitCode;
+
+/// Merges what files hold, and reports the state, or why there is none.
+fn merge_held<H: Host>(
+    alloc: Global,
+    host: &mut H,
+    options: &MergeOptions<'_>,
+    schema: &[u8],
+    first: &[u8],
+    second: &[u8],
+) -> ExitCode
+    ensures { Runs H.does host.old host.new
+        (λ events. AreMerged options.now schema.now first.now second.now events (exit_status result)) }
+{
+    match merge_texts(alloc, schema, first, second) {
+        Ok(line) => report_answer(host, &line),
+        Err(refusal) => {
+            let given = schema_given(options.schema, schema);
+            report_rejected(alloc, host, refusal, options.explain, &given)
+        }
+    }
+}
 
 /// Reads the schema and the two states, in this order, and then merges them.
 pub(crate) fn run_merge<H: Host>(
@@ -37,10 +59,7 @@ pub(crate) fn run_merge<H: Host>(
         Ok(bytes) => bytes,
         Err(end) => return end,
     };
-    match merge_texts(alloc, &schema, &first, &second) {
-        Ok(line) => report_answer(host, &line),
-        Err(refusal) => report_refusal(alloc, host, refusal),
-    }
+    merge_held(alloc, host, options, &schema, &first, &second)
 }
 
 /// Returns the line that tells how many updates were taken.

@@ -1,6 +1,7 @@
--- What a schema and a script come to at so many sites. Rules of this product: the schema is judged first, then the
--- whole script, and only then is anything played; a line for each event, in their order, then one for each site, with a
--- line end between each two.
+-- Defines what the command `drill` prints of a schema and a script at n sites.
+-- Source: docs/formats.md, of scripts.
+-- Rules of this product: the schema is checked first, then the whole script, and only then is an event executed; there
+-- is a line for each event, in order, then one for each site, joined by line feeds.
 use Rattle.std.specs.Prelude.{◌≡◌, ◌⊎◌, ℕ, List, ◌++◌, map, Some}
 use Rattle.std.specs.List.{AllZip, join_with_byte}
 use Rattle.schema_decisions.specs.answer_lines.declared.refusal.Refusal.{Refusal}
@@ -15,12 +16,12 @@ use Rattle.program_drills.specs.Lines.{line_end}
 use Rattle.program_drills.specs.Scripts.{AreEventsOf, IsScriptRefused}
 use Rattle.program_drills.specs.EventReports.{told, state_told}
 
--- this line is told of an event that was answered so
+-- `IsTold answer line` holds if `line` is printed for an event with this answer.
 abbrev pub IsTold : EventReply → List ℕ → Type 0
 IsTold answer line = told answer ≡ Some line
 
--- The events lead sites that are empty at the start to a world, with these answers; the text tells of them, and of what
--- each site holds at the end.
+-- `IsPlayedOut schema n events text` holds if `text` has the lines of the answers to `events`, from `n` empty sites on,
+-- and of the state of each site at the end.
 pub record IsPlayedOut (schema : StatedSchema) (n : ℕ) (events : List Event) (text : List ℕ) : Type 0 where
   pub answers : List EventReply
   pub sites : List SiteView
@@ -31,7 +32,7 @@ pub record IsPlayedOut (schema : StatedSchema) (n : ℕ) (events : List Event) (
   pub each : AllZip IsTold answers lines
   pub text_is : text ≡ join_with_byte line_end (lines ++ map state_told sites)
 
--- both texts are read, and this is told of what is played
+-- `IsDrilled n schema script text` holds if both texts are accepted, and `text` is what is printed.
 pub record IsDrilled (n : ℕ) (schema script text : List ℕ) : Type 0 where
   pub stated : StatedSchema
   pub schema_is : IsSchemaOf schema stated
@@ -39,7 +40,7 @@ pub record IsDrilled (n : ℕ) (schema script text : List ℕ) : Type 0 where
   pub read : AreEventsOf n script events
   pub out : IsPlayedOut stated n events text
 
--- the schema is refused, or under it the script
+-- `IsDrillRefused n schema script refusal` holds if the schema, or under it the script, is rejected by `refusal`.
 abbrev pub IsDrillRefused : ℕ → List ℕ → List ℕ → Refusal → Type 0
 IsDrillRefused n schema script refusal = IsSchemaRefused schema refusal
     ⊎ ((stated : StatedSchema) × IsSchemaOf schema stated × IsScriptRefused n script refusal)

@@ -1,5 +1,5 @@
--- What is told of an event: the body with which the service replies to what the site answers, or the number of what was
--- made. A rule of this product: compact JSON (RFC 8259).
+-- Defines the line of an event: the body of the reply to it, or the number of the message or summary that it made.
+-- Source: docs/formats.md, of scripts; RFC 8259.
 use Rattle.std.specs.Prelude.{ℕ, List, Option, Some, None, Ok, Err, codes}
 use Rattle.serde_json.specs.Data.{Data, number, object, unsigned, no_members, member}
 use Rattle.serde_json.specs.Written.{compact_text}
@@ -11,21 +11,21 @@ use Rattle.http_service.specs.site.declared.event.EventReply.{EventReply}
 use Rattle.http_service.specs.site.declared.event.EventReply.TheVariants.{Unknown, Replied, Message, Summary}
 use Rattle.http_service.specs.http_replies.message_format.Messages.{state_text}
 
--- {"message":0}
+-- `message_line k` is the line of message `k`, the JSON `message_json k`: {"message":0}
 abbrev pub message_json : ℕ → Data
 message_json k = object (member (codes "message") (number (unsigned k)) no_members)
 
 unfoldable pub message_line : ℕ → List ℕ
 message_line k = compact_text (message_json k)
 
--- {"summary":0}
+-- `summary_line k` is the line of summary `k`, the JSON `summary_json k`: {"summary":0}
 abbrev pub summary_json : ℕ → Data
 summary_json k = object (member (codes "summary") (number (unsigned k)) no_members)
 
 unfoldable pub summary_line : ℕ → List ℕ
 summary_line k = compact_text (summary_json k)
 
--- a site's answer to a command, a request or a message; there are no others to an event
+-- `answer_told r` is the line of the reply `r` to a command, a request or a message. An event has no other reply.
 abbrev pub answer_told : Reply → Option (List ℕ)
 answer_told (reply.Put outcome) = Some (put_reply outcome).1
 answer_told (reply.Stamped outcome) = Some (stamp_reply outcome).1
@@ -34,8 +34,8 @@ answer_told (reply.Answered outcome) = Some (answer_reply outcome).1
 answer_told (reply.Found outcome) = None
 answer_told (reply.Written outcome) = None
 
--- The line of an event. There is none where the message or summary that it names is not there: each is made by a line
--- before it, so that memory was refused for it.
+-- `told r` is the line of an event with the answer `r`. It has none if the message or summary that it names was not
+-- made, for which memory ran out at an earlier line.
 abbrev pub told : EventReply → Option (List ℕ)
 told Unknown = None
 told (Replied answer) = answer_told answer
@@ -44,6 +44,6 @@ told (Message (Err fault)) = Some (fault_reply fault).1
 told (Summary (Ok k)) = Some (summary_line k)
 told (Summary (Err fault)) = Some (fault_reply fault).1
 
--- the line of a site at the end: its state
+-- `state_told site` is the line of a site at the end: its state.
 abbrev pub state_told : SiteView → List ℕ
 state_told site = state_text (schema_of site).label (store_in site)

@@ -1,17 +1,19 @@
--- The lines of a script: each ends with a line feed, the last one perhaps with the text. A line feed at the end opens
--- no further line. (A carriage return before a line feed belongs to the line; JSON takes it for a blank.)
+-- Defines the lines of a script.
+-- Rules of this product: each line ends with a line feed or, the last one, with the text. A carriage return before a
+-- line feed belongs to the line; in JSON it is white space.
 use Rattle.std.specs.Prelude.{ℕ, ◌==◌, List, [], ◌∷◌, if◌then◌else◌}
 use Prim.Native.Char.{code}
 
--- a line feed
+-- `line_end` is a line feed.
 abbrev pub line_end : ℕ
 line_end = code "\n"
 
--- lines, the first of which begins with one more byte
+-- `begun_with b ls` are the lines `ls`, the first with the byte `b` in front.
 abbrev pub begun_with : ℕ → List (List ℕ) → List (List ℕ)
 begun_with b [] = (b ∷ []) ∷ []
 begun_with b (l ∷ ls) = (b ∷ l) ∷ ls
 
+-- `lines bytes` are the lines of `bytes`, without their line feeds.
 abbrev pub lines : List ℕ → List (List ℕ)
 lines [] = []
 lines (b ∷ bs) = if b == line_end then [] ∷ lines bs else begun_with b (lines bs)

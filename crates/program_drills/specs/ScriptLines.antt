@@ -1,5 +1,7 @@
--- What a line of a script says: one JSON object, with the number of a site at `site`, what is done there at `do`, and
--- what this is done with at further keys. A rule of this product. Other keys are ignored.
+-- Defines what a line of a script states.
+-- Source: docs/formats.md, of scripts.
+-- Rules of this product: a line is a JSON object, with the number of a site at `site`, an operation at `do`, and its
+-- arguments at further keys. Other keys are ignored.
 use Rattle.std.specs.Prelude.{◌≡◌, ℕ, ◌+◌, ◌&&◌, List, [], Option, Some, None, option_map, option_and_then}
 use Rattle.std.specs.Prelude.{codes, nat_le, nat_lt, if◌then◌else◌}
 use Rattle.std.specs.Str.{bytes_eq}
@@ -15,7 +17,8 @@ use Rattle.program_drills.specs.declared.made.Made.{Made}
 
 -- ---- what is made
 
--- how many messages and summaries there are after an operation: an offer makes a message, whole or of what is news
+-- `after_operation made d` counts the messages and summaries after the operation `d`: an offer makes a message, a state
+-- or a delta.
 abbrev pub after_operation : Made → Operation → Made
 after_operation made operation.Offer = record { messages = made.messages + 1; summaries = made.summaries }
 after_operation made (operation.OfferDelta k) = record { messages = made.messages + 1; summaries = made.summaries }
@@ -24,47 +27,52 @@ after_operation made _ = made
 
 -- ---- what is asked for
 
--- an operation; or the JSON of an entity to be put, or of a request to be decided, which an operation holds as bytes
+-- An `Asked` is an operation; or the JSON of an entity to put or of a request, which an operation has as bytes.
 pub data Asked : Type 0 where
   plain : Operation → Asked
   put_entity : Data → Asked
   authorize : Data → Asked
 
+-- `after_asked made a` is the same for what a line asks.
 abbrev pub after_asked : Made → Asked → Made
 after_asked made (plain d) = after_operation made d
 after_asked made _ = made
 
--- the number, if it lies in these bounds
+-- `within least most o` is the number `o`, if it is at least `least` and below `most`.
 abbrev pub within : ℕ → ℕ → Option ℕ → Option ℕ
 within least most None = None
 within least most (Some k) = if nat_le least k && nat_lt k most then Some k else None
 
--- the number at a key, from `least` and below `most`: a whole number from 0 to 2^64 - 1, written without a point
+-- `number_in key least most d` is such a number at a key: an integer from 0 to 2^64 - 1, written without a point.
 abbrev pub number_in : List ℕ → ℕ → ℕ → Data → Option ℕ
 number_in key least most d = within least most (option_and_then as_u64 (option_and_then as_number (get key d)))
 
--- a policy is put, where both its id and its text are there; neither is judged here
+-- `policy_put id text` is the put of a policy, if both are present; neither is checked here.
 abbrev pub policy_put : Option (List ℕ) → Option (List ℕ) → Option Asked
 policy_put None text = None
 policy_put (Some id) None = None
 policy_put (Some id) (Some text) = Some (plain (operation.PutPolicy id text))
 
+-- `policy_deleted id` is the deletion of a policy.
 abbrev pub policy_deleted : List ℕ → Asked
 policy_deleted id = plain (operation.DeletePolicy id)
 
--- An entity is taken away. What names no entity is refused by the site as a body is that is no entity's JSON (30), so
--- it is handed on as such a one: no bytes.
+-- `entity_deleted o` is the deletion of the entity `o`. JSON that is not a uid is rejected as the body of a put that is
+-- not JSON (30), so the operation is a put of no bytes.
 abbrev pub entity_deleted : Option EntityUid → Asked
 entity_deleted None = plain (operation.PutEntity [])
 entity_deleted (Some uid) = plain (operation.DeleteEntity uid)
 
+-- `delta_offered k` makes a delta against summary `k`.
 abbrev pub delta_offered : ℕ → Asked
 delta_offered k = plain (operation.OfferDelta k)
 
+-- `delivered k` applies message `k`.
 abbrev pub delivered : ℕ → Asked
 delivered k = plain (operation.Deliver k)
 
--- what a word asks for, with the other members of the line, where so much was made before
+-- `asked_by made word d` is what the operation `word` asks with the other members of the line `d`, if `made` was made
+-- before.
 unfoldable pub asked_by : Made → List ℕ → Data → Option Asked
 asked_by made word d =
     if bytes_eq word (codes "put_policy") then policy_put (text_at (codes "id") d) (text_at (codes "text") d)
@@ -83,32 +91,34 @@ asked_by made word d =
 
 -- ---- a line
 
--- what is asked for, and of which site
+-- A `ScriptLine` is what is asked, and of which site.
 pub record ScriptLine : Type 0 where
   pub site : ℕ
   pub asked : Asked
 
+-- `said_by site asked` is the line of both, if both are present.
 abbrev pub said_by : Option ℕ → Option Asked → Option ScriptLine
 said_by None asked = None
 said_by (Some site) None = None
 said_by (Some site) (Some asked) = Some (record { site = site; asked = asked })
 
--- what a JSON value says of one of n sites, or nothing
+-- `said_in n made d` is what the JSON `d` states for one of `n` sites, if it does.
 unfoldable pub said_in : ℕ → Made → Data → Option ScriptLine
 said_in n made d = said_by (number_in (codes "site") 1 (n + 1) d)
     (option_and_then (λ word. asked_by made word d) (text_at (codes "do") d))
 
--- what a line says
+-- `said_of n made line` is what `line` states, if it does.
 abbrev pub said_of : ℕ → Made → List ℕ → Option ScriptLine
 said_of n made line = option_and_then (said_in n made) (json_of line)
 
 -- ---- as events
 
--- an operation does what is asked for: bytes are JSON, and state this value
+-- `IsOperationOf asked d` holds if the operation `d` is what is asked: bytes are JSON of the same value.
 abbrev pub IsOperationOf : Asked → Operation → Type 0
 IsOperationOf (plain asked) d = d ≡ asked
 IsOperationOf (put_entity json) d = (bytes : List ℕ) × (d ≡ operation.PutEntity bytes) × (json_of bytes ≡ Some json)
 IsOperationOf (authorize json) d = (bytes : List ℕ) × (d ≡ operation.Authorize bytes) × (json_of bytes ≡ Some json)
 
+-- `IsEventOf said e` holds if the event `e` is what a line states.
 abbrev pub IsEventOf : ScriptLine → Event → Type 0
 IsEventOf said e = (e.site ≡ said.site) × IsOperationOf said.asked e.operation

@@ -1,5 +1,7 @@
--- Scripts: one event a line, all of them read before any is played. A rule of this product: a script with a line that
--- says no event is refused (30) with the place of the first such line, counted from 0.
+-- Defines the events of a script.
+-- Source: docs/formats.md, of scripts.
+-- Rules of this product: a script has one event a line; with a line that states none it is rejected (30), with the
+-- index of the first such line, from 0.
 use Rattle.std.specs.Prelude.{◌≡◌, ℕ, suc, List, [], ◌∷◌, Some, Result, Ok, Err}
 use Rattle.std.specs.List.{AllZip}
 use Rattle.json_words.specs.ReadsAs.{◌>>=◌, or_fault}
@@ -10,8 +12,8 @@ use Rattle.program_drills.specs.declared.made.Made.{Made}
 use Rattle.program_drills.specs.Lines.{lines}
 use Rattle.program_drills.specs.ScriptLines.{ScriptLine, said_of, after_asked, IsEventOf}
 
--- What lines say, from the one with this place on, where so much was made before; or the place of the first that says
--- nothing. Each line may name what the lines before it make.
+-- `said_from n made place ls` is what the lines `ls` state, the first of which has the index `place`; or the index of
+-- the first that states nothing. Each line may name what the lines before it make.
 unfoldable pub said_from : ℕ → Made → ℕ → List (List ℕ) → Result (List ScriptLine) ℕ
 said_from n made place [] = Ok []
 said_from n made place (l ∷ ls) = do
@@ -19,20 +21,21 @@ said_from n made place (l ∷ ls) = do
   more ← said_from n (after_asked made said.asked) (suc place) ls
   Ok (said ∷ more)
 
+-- `none_made`: no message and no summary.
 abbrev pub none_made : Made
 none_made = record { messages = 0; summaries = 0 }
 
--- what a script says to n sites
+-- `script_of n script` is what the lines of a script state for `n` sites.
 abbrev pub script_of : ℕ → List ℕ → Result (List ScriptLine) ℕ
 script_of n script = said_from n none_made 0 (lines script)
 
--- these are the events of the script, one for each line
+-- `AreEventsOf n script events` holds if `events` are those of the script, one for each line.
 pub record AreEventsOf (n : ℕ) (script : List ℕ) (events : List Event) : Type 0 where
   pub said : List ScriptLine
   pub is : script_of n script ≡ Ok said
   pub each : AllZip IsEventOf said events
 
--- some line says no event, and this is told of the first one
+-- `IsScriptRefused n script refusal` holds if a line states no event, and `refusal` has the index of the first one.
 pub record IsScriptRefused (n : ℕ) (script : List ℕ) (refusal : Refusal) : Type 0 where
   pub place : ℕ
   pub is : script_of n script ≡ Err place

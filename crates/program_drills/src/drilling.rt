@@ -1,4 +1,4 @@
-//! A schema and a script, played.
+//! Executes a script under a schema.
 ghost use Rattle.std.specs.Prelude.{◌≤◌, ◌≡◌, IfOk, IfErr};
 ghost use Rattle.schema_decisions.specs.answer_lines.Refusals.{no_memory};
 ghost use Rattle.schema_decisions.specs.schema.Views.{schema_view};
@@ -13,7 +13,7 @@ use plain::{NoMemory, Shared};
 use schema_decisions::{Refusal, Schema, schema_in};
 use std::alloc::Global;
 
-/// Plays events at so many sites, and tells what came of them.
+/// Executes events at `sites` sites, and returns their lines.
 fn play(
     alloc: Global,
     schema: &Shared<Schema>,
@@ -27,7 +27,7 @@ fn play(
     world_lines(alloc, &world)
 }
 
-/// Plays a script under a schema.
+/// Executes a script under a parsed schema.
 fn drill_under(
     alloc: Global,
     schema: &Shared<Schema>,
@@ -42,18 +42,23 @@ fn drill_under(
     Ok(play(alloc, schema, count, &events)?)
 }
 
-/// Returns what a script comes to at so many sites of a schema, `00001`, `00002` and so on, which have nothing stored
-/// at first: a line for each event, then the state of each site, with a line end between each two.
+/// Executes a script at `sites` empty sites of a schema, named `00001`, `00002` and so on, and returns its lines: one
+/// for each event, then the state of each site, joined by line feeds.
 ///
-/// A line of the script is a JSON object with the number of a site at `site` and one of these words at `do`, with what
-/// stands behind it here at further keys: `put_policy` (`id`, `text`), `delete_policy` (`id`), `put_entity` (`entity`),
+/// A line of the script is a JSON object with the number of a site at `site` and an operation at `do`, with its
+/// arguments at further keys: `put_policy` (`id`, `text`), `delete_policy` (`id`), `put_entity` (`entity`),
 /// `delete_entity` (`uid`), `authorize` (`request`), `summary`, `offer`, `offer_delta` (`summary`, a number), `deliver`
-/// (`message`, a number). An event is told by the body with which the service replies to it, or its error line; what
-/// was made by its number, from 0.
+/// (`message`, a number). The line of an event is the body of the service's reply, or the error line; of a message or
+/// summary that it makes, the number, from 0.
 ///
-/// Refused, in this order: the schema (20 to 25, without a place); the script (30, with the place of the first line
-/// that says no event or names what is not there by then, from 0), before anything is played. `NoMemory` (1) may come
-/// at any point.
+/// # Errors
+///
+/// In the order checked:
+///
+/// - 20 to 25, without a place: the schema is rejected.
+/// - 30: a line of the script states no event, or names what is not made before; the place is the index of the first
+///   such line, from 0. No event is executed.
+/// - 1, at any point: out of memory.
 pub fn drill_text(
     alloc: Global,
     schema: &[u8],

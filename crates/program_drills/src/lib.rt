@@ -1,4 +1,4 @@
-//! Scripts of events, played at sites of one run: read whole, played, and told line by line.
+//! Scripts of events: parsed whole, executed at the sites of one process, and reported line by line.
 #![tactic(auto)]
 
 mod drilling;

@@ -1,17 +1,17 @@
-//! What the lines of a script have made so far.
+//! Counts the messages and summaries that a script has made.
 ghost use Rattle.std.specs.Prelude.{◌≡◌, ◌<◌, ◌^◌};
 ghost use Rattle.program_drills.specs.ScriptLines.{after_operation};
 
 use http_service::Operation;
 
-/// How many messages and summaries were made.
+/// The number of messages and of summaries made so far.
 #[derive(Clone, Copy)]
 pub(crate) struct Made {
     pub(crate) messages: usize,
     pub(crate) summaries: usize,
 }
 
-/// Returns what is made once this operation is done.
+/// Returns the numbers after an operation.
 pub(crate) fn after_operation(made: Made, operation: &Operation) -> Made
     requires messages { made.messages < 2 ^ 63 }
     requires summaries { made.summaries < 2 ^ 63 }

@@ -1,4 +1,4 @@
-//! What a line of a script says.
+//! Parses a line of a script.
 ghost use Rattle.std.specs.Prelude.{◌≡◌, ◌≤◌, ◌+◌, ◌<◌, IfOk, OnSome, Some, None, option_and_then, option_map, codes};
 ghost use Rattle.serde_json.specs.Data.{depth};
 ghost use Rattle.serde_json.specs.Find.{get};
@@ -19,7 +19,7 @@ use schema_decisions::read_uid;
 use serde_json::Value;
 use std::alloc::Global;
 
-/// Returns the number, if it lies in these bounds.
+/// Returns the number, if it is at least `least` and below `most`.
 fn within(least: u64, most: u64, number: Option<u64>) -> Option<u64>
     ensures { result ≡ within least most number }
 {
@@ -29,7 +29,7 @@ fn within(least: u64, most: u64, number: Option<u64>) -> Option<u64>
     }
 }
 
-/// Returns the number at a key, from `least` and below `most`.
+/// Returns the number at a key, if it is at least `least` and below `most`.
 fn number_in(value: &Value, key: &str, least: usize, most: usize) -> Option<usize>
     ensures { result ≡ number_in key.now least most (view value.now) }
 {
@@ -42,7 +42,7 @@ fn number_in(value: &Value, key: &str, least: usize, most: usize) -> Option<usiz
     }
 }
 
-/// Returns the JSON at a key, as bytes that state it.
+/// Returns the JSON at a key as bytes.
 fn bytes_at(alloc: Global, value: &Value, key: &str) -> Result<Option<Items<u8>>, NoMemory>
     requires { depth (view value.now) ≤ max_depth }
     ensures { IfOk result (AreBytesOf (get key.now (view value.now))) }
@@ -54,7 +54,7 @@ fn bytes_at(alloc: Global, value: &Value, key: &str) -> Result<Option<Items<u8>>
     Ok(Some(Items::from_vec(bytes)))
 }
 
-/// Returns a policy to be put, if its id and its text are there.
+/// Returns the put of a policy, if its id and its text are present.
 fn policy_put(alloc: Global, value: &Value) -> Result<Option<Operation>, NoMemory>
     ensures { IfOk result (IsReadAs
         (policy_put (text_at (codes "id") (view value.now)) (text_at (codes "text") (view value.now)))) }
@@ -70,7 +70,7 @@ fn policy_put(alloc: Global, value: &Value) -> Result<Option<Operation>, NoMemor
     Ok(Some(Operation::PutPolicy(id, text)))
 }
 
-/// Returns a policy to be taken away, if its id is there.
+/// Returns the deletion of a policy, if its id is present.
 fn policy_deleted(alloc: Global, value: &Value) -> Result<Option<Operation>, NoMemory>
     ensures { IfOk result (IsReadAs (option_map policy_deleted (text_at (codes "id") (view value.now)))) }
 {
@@ -81,7 +81,7 @@ fn policy_deleted(alloc: Global, value: &Value) -> Result<Option<Operation>, NoM
     Ok(Some(Operation::DeletePolicy(id)))
 }
 
-/// Returns an entity to be put, if it is there.
+/// Returns the put of an entity, if it is present.
 fn entity_put(alloc: Global, value: &Value) -> Result<Option<Operation>, NoMemory>
     requires { depth (view value.now) ≤ max_depth }
     ensures { IfOk result (IsReadAs (option_map put_entity (get (codes "entity") (view value.now)))) }
@@ -92,7 +92,7 @@ fn entity_put(alloc: Global, value: &Value) -> Result<Option<Operation>, NoMemor
     }
 }
 
-/// Returns an entity to be taken away, if there is something for its uid.
+/// Returns the deletion of an entity, if the uid is present, whatever it is.
 fn entity_deleted(alloc: Global, value: &Value) -> Result<Option<Operation>, NoMemory>
     ensures { IfOk result (IsReadAs
         (option_map (λ uid. entity_deleted (uid_in uid)) (get (codes "uid") (view value.now)))) }
@@ -106,7 +106,7 @@ fn entity_deleted(alloc: Global, value: &Value) -> Result<Option<Operation>, NoM
     }
 }
 
-/// Returns a request to be decided, if it is there.
+/// Returns a request for a decision, if it is present.
 fn authorized(alloc: Global, value: &Value) -> Result<Option<Operation>, NoMemory>
     requires { depth (view value.now) ≤ max_depth }
     ensures { IfOk result (IsReadAs (option_map authorize (get (codes "request") (view value.now)))) }
@@ -117,7 +117,7 @@ fn authorized(alloc: Global, value: &Value) -> Result<Option<Operation>, NoMemor
     }
 }
 
-/// Returns a delta against a summary that was made, if the number of such a one is there.
+/// Returns a delta against a summary, if the number of one that was made is present.
 fn delta_offered(value: &Value, made: Made) -> Option<Operation>
     ensures { IsReadAs (option_map delta_offered (number_in (codes "summary") 0 made.summaries (view value.now)))
         result }
@@ -128,7 +128,7 @@ fn delta_offered(value: &Value, made: Made) -> Option<Operation>
     }
 }
 
-/// Returns a message that was made, if the number of such a one is there.
+/// Returns the delivery of a message, if the number of one that was made is present.
 fn delivered(value: &Value, made: Made) -> Option<Operation>
     ensures { IsReadAs (option_map delivered (number_in (codes "message") 0 made.messages (view value.now))) result }
 {
@@ -138,7 +138,7 @@ fn delivered(value: &Value, made: Made) -> Option<Operation>
     }
 }
 
-/// Returns what a word asks for, with the other members of the line.
+/// Returns the operation of a name, with the other members of the line.
 #[tactic(auto, unfolding(crate::specs::ScriptLines::asked_by))]
 fn asked_by(
     alloc: Global,
@@ -179,7 +179,7 @@ fn asked_by(
     Ok(None)
 }
 
-/// Returns the event that a JSON value says at one of so many sites, if it says one.
+/// Returns the event that a JSON value states for one of `sites` sites, if it does.
 #[tactic(auto, unfolding(crate::specs::ScriptLines::said_in))]
 fn said_in(alloc: Global, count: u16, made: Made, value: &Value) -> Result<Option<Event>, NoMemory>
     requires { depth (view value.now) ≤ max_depth }
@@ -197,7 +197,7 @@ fn said_in(alloc: Global, count: u16, made: Made, value: &Value) -> Result<Optio
     }
 }
 
-/// Returns the event that a line says, if it says one. Fails for memory alone.
+/// Returns the event that a line states, if it does. Fails only if out of memory.
 pub(crate) fn said_of(
     alloc: Global,
     count: u16,

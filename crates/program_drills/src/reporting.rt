@@ -1,4 +1,4 @@
-//! Lines that tell what came of events, and what sites hold.
+//! Writes the lines of events and of sites.
 ghost use Rattle.std.specs.Prelude.{◌≡◌, ℕ, List, [], ◌∷◌, ◌++◌, map, IfOk, OnOk, Some};
 ghost use Rattle.std.specs.List.{AllZip, join_with_byte};
 ghost use Rattle.serde_json.specs.View.{view};
@@ -23,7 +23,7 @@ use std::alloc::Global;
 
 // ---- one line
 
-/// Appends the line of a refusal.
+/// Appends the line of an error.
 fn append_fault(text: &mut Vec<u8>, fault: SiteFault) -> Result<(), NoMemory>
     ensures { OnOk result (text.new.items ≡ text.old.items ++ (fault_reply fault).1) }
 {
@@ -32,7 +32,7 @@ fn append_fault(text: &mut Vec<u8>, fault: SiteFault) -> Result<(), NoMemory>
     Ok(())
 }
 
-/// Appends what became of a policy that was to be put.
+/// Appends the outcome of a put of a policy.
 fn append_put(text: &mut Vec<u8>, outcome: Result<Put, SiteFault>) -> Result<(), NoMemory>
     ensures { OnOk result (text.new.items ≡ text.old.items ++ (put_reply outcome).1) }
 {
@@ -41,7 +41,7 @@ fn append_put(text: &mut Vec<u8>, outcome: Result<Put, SiteFault>) -> Result<(),
     Ok(())
 }
 
-/// Appends what became of an entity that was to be put, or of what was to be taken away.
+/// Appends the outcome of a put of an entity, or of a deletion.
 fn append_stamp(text: &mut Vec<u8>, outcome: Result<Stamp, SiteFault>) -> Result<(), NoMemory>
     ensures { OnOk result (text.new.items ≡ text.old.items ++ (stamp_reply outcome).1) }
 {
@@ -50,7 +50,7 @@ fn append_stamp(text: &mut Vec<u8>, outcome: Result<Stamp, SiteFault>) -> Result
     Ok(())
 }
 
-/// Appends what became of a message that was delivered.
+/// Appends the outcome of a delivered message.
 fn append_taken(text: &mut Vec<u8>, outcome: Result<Taken, SiteFault>) -> Result<(), NoMemory>
     ensures { OnOk result (text.new.items ≡ text.old.items ++ (taken_reply outcome).1) }
 {
@@ -67,7 +67,7 @@ fn append_answer(alloc: Global, text: &mut Vec<u8>, answer: &Answer) -> Result<(
     text.extend_from_slice(line.as_slice())
 }
 
-/// Appends what became of a request.
+/// Appends the outcome of a request.
 fn append_answered(
     alloc: Global,
     text: &mut Vec<u8>,
@@ -141,7 +141,8 @@ fn append_reply(alloc: Global, text: &mut Vec<u8>, reply: &Reply) -> Result<(), 
     }
 }
 
-/// Appends the line of an event. Fails for want of memory alone, also that for which what the event names was not made.
+/// Appends the line of an event. Fails only if out of memory, also if that is why the message or summary that the event
+/// names was not made.
 fn append_event(alloc: Global, text: &mut Vec<u8>, answer: &EventReply) -> Result<(), NoMemory>
     ensures { OnOk result (IsToldOf answer.now text.old.items text.new.items) }
 {
@@ -157,7 +158,7 @@ fn append_event(alloc: Global, text: &mut Vec<u8>, answer: &EventReply) -> Resul
 
 // ---- all lines
 
-/// Appends a line for each event, with its end.
+/// Appends a line for each event, each with a line feed.
 fn append_events(alloc: Global, text: &mut Vec<u8>, answers: &[EventReply]) -> Result<(), NoMemory>
     ensures { OnOk result (AreTold answers.now text.old.items text.new.items) }
 {
@@ -168,7 +169,7 @@ fn append_events(alloc: Global, text: &mut Vec<u8>, answers: &[EventReply]) -> R
     Ok(())
 }
 
-/// Appends the state of a site, with a line's end.
+/// Appends the state of a site and a line feed.
 fn append_state(text: &mut Vec<u8>, site: &Site) -> Result<(), NoMemory>
     ensures { OnOk result (text.new.items ≡ text.old.items ++ (state_told site.now ++ line_end ∷ [])) }
 {
@@ -178,7 +179,7 @@ fn append_state(text: &mut Vec<u8>, site: &Site) -> Result<(), NoMemory>
     Ok(())
 }
 
-/// Appends the state of each site, with a line's end.
+/// Appends the state of each site, each with a line feed.
 fn append_states(text: &mut Vec<u8>, sites: &[Site]) -> Result<(), NoMemory>
     ensures { OnOk result (text.new.items ≡ text.old.items ++ ended (map state_told sites.now)) }
 {
@@ -188,7 +189,7 @@ fn append_states(text: &mut Vec<u8>, sites: &[Site]) -> Result<(), NoMemory>
     Ok(())
 }
 
-/// Returns a line for each event, then the state of each site, with a line end between each two.
+/// Returns a line for each event, then the state of each site, joined by line feeds.
 pub(crate) fn world_lines(alloc: Global, world: &World) -> Result<Vec<u8>, NoMemory>
     ensures { IfOk result (λ text. (lines : List (List ℕ)) × AllZip IsTold world.now.replies.items lines
         × (text.items ≡ join_with_byte line_end (lines ++ map state_told world.now.sites.items))) }

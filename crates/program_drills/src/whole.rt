@@ -1,4 +1,4 @@
-//! Scripts, read line by line.
+//! Parses a script line by line.
 ghost use Rattle.std.specs.Prelude.{◌≡◌, IfOk, IfErr, Some};
 ghost use Rattle.schema_decisions.specs.answer_lines.Refusals.{bad_shape, no_memory};
 ghost use Rattle.program_drills.specs.Scripts.{AreEventsOf, IsScriptRefused};
@@ -10,7 +10,7 @@ use http_service::Event;
 use schema_decisions::Refusal;
 use std::alloc::Global;
 
-/// Returns the refusal of the line at this place.
+/// Returns the error of the line at an index.
 fn unread_line(place: usize) -> Refusal
     ensures { result ≡ bad_shape (Some place) }
 {
@@ -21,9 +21,13 @@ fn unread_line(place: usize) -> Refusal
     }
 }
 
-/// Returns the events of a script, one for each line, at so many sites. A line that says no event refuses it all (30)
-/// with the place of the first such line, counted from 0: one that is no JSON object, lacks what it has to have, or has
-/// the number of a site, a message or a summary that is not there by then.
+/// Returns the events of a script, one for each line, at `sites` sites.
+///
+/// # Errors
+///
+/// - 30: a line states no event: it is not a JSON object, lacks a required member, or has the number of a site, a
+///   message or a summary that does not exist at that point. The place is the index of the first such line, from 0.
+/// - 1, at any point: out of memory.
 pub(crate) fn read_script(alloc: Global, count: u16, script: &[u8]) -> Result<Vec<Event>, Refusal>
     ensures read { IfOk result (λ events. AreEventsOf count script.now events.items) }
     ensures refused { IfErr result (λ r. (r ≡ no_memory → ⊥) → IsScriptRefused count script.now r) }

@@ -1,46 +1,55 @@
--- The commands and their options, in the words of clap's contracts: `subcommand_of` and `fault_of` say what such a
--- command makes of any words. Which commands and options there are is a rule of this product.
+-- Defines the commands and their options, as a value of clap, whose `subcommand_of` and `fault_of` say what it makes of
+-- arguments.
+-- Source: the contracts of the crate clap.
+-- Rules of this product: which commands and options exist.
 use Rattle.std.specs.Prelude.{ℕ, true, Some, codes}
 use Rattle.clap.specs.Words.{App, Rule, Text, new_app, new_rule, with_rule, with_subcommand}
-use Rattle.clap.specs.declared.builder.ArgAction.TheVariants.{Set}
+use Rattle.clap.specs.declared.builder.ArgAction.TheVariants.{Set, SetTrue}
 use Rattle.clap.specs.declared.builder.ValueParser.TheVariants.{Unsigned}
 
--- `--name VALUE`, once
+-- `value_option name` is the option `--name VALUE`, at most once.
 abbrev pub value_option : Text → Rule
 value_option name = record (new_rule name) { long = Some name; value_names = 1; action = Some Set }
 
--- `--name NUMBER`, once, a number within bounds
+-- `number_option name least most` is the option `--name NUMBER`, at most once, with a number from `least` to `most`.
 abbrev pub number_option : Text → ℕ → ℕ → Rule
 number_option name least most = record (value_option name) { parser = Some (Unsigned least most) }
 
--- a file that is named by its place
+-- `value_word name` is an argument without a name, by its position.
 abbrev pub value_word : Text → Rule
 value_word name = record (new_rule name) { value_names = 1; action = Some Set }
 
+-- `demanded rule` makes an option required.
 abbrev pub demanded : Rule → Rule
 demanded rule = record rule { required = true }
 
--- check --schema FILE POLICIES
+-- `explain_flag` is `--explain`, which takes no value.
+abbrev pub explain_flag : Rule
+explain_flag = record (new_rule (codes "explain")) { long = Some (codes "explain"); action = Some SetTrue }
+
+-- check --schema FILE POLICIES [--explain]
 abbrev pub check_app : App
-check_app = with_rule (with_rule (new_app (codes "check")) (demanded (value_option (codes "schema"))))
-    (demanded (value_word (codes "policies")))
+check_app = with_rule (with_rule (with_rule (new_app (codes "check")) (demanded (value_option (codes "schema"))))
+    (demanded (value_word (codes "policies")))) explain_flag
 
--- decide [--schema FILE] --policies FILE --entities FILE --request FILE, the options in any order
+-- decide [--schema FILE] --policies FILE --entities FILE --request FILE [--explain], the options in any order
 abbrev pub decide_app : App
-decide_app = with_rule (with_rule (with_rule (with_rule (new_app (codes "decide")) (value_option (codes "schema")))
-    (demanded (value_option (codes "policies")))) (demanded (value_option (codes "entities"))))
-    (demanded (value_option (codes "request")))
+decide_app = with_rule (with_rule (with_rule (with_rule (with_rule (new_app (codes "decide"))
+    (value_option (codes "schema"))) (demanded (value_option (codes "policies"))))
+    (demanded (value_option (codes "entities")))) (demanded (value_option (codes "request")))) explain_flag
 
--- the name of a site; which texts are one, clap does not judge
+-- `site_option` is `--site NAME`; clap does not check the name.
 abbrev pub site_option : Rule
 site_option = demanded (value_option (codes "site"))
 
 -- serve --schema FILE --site NAME --listen ADDRESS [--state FILE] [--connections NUMBER] [--idle SECONDS] [--log FILE]
+-- [--explain]
 abbrev pub serve_app : App
-serve_app = with_rule (with_rule (with_rule (with_rule (with_rule (with_rule (with_rule (new_app (codes "serve"))
-    (demanded (value_option (codes "schema")))) site_option) (demanded (value_option (codes "listen"))))
-    (value_option (codes "state"))) (number_option (codes "connections") 0 4294967295))
-    (number_option (codes "idle") 1 86400)) (value_option (codes "log"))
+serve_app = with_rule (with_rule (with_rule (with_rule (with_rule (with_rule (with_rule (with_rule
+    (new_app (codes "serve")) (demanded (value_option (codes "schema")))) site_option)
+    (demanded (value_option (codes "listen")))) (value_option (codes "state")))
+    (number_option (codes "connections") 0 4294967295)) (number_option (codes "idle") 1 86400))
+    (value_option (codes "log"))) explain_flag
 
 -- pull --schema FILE --site NAME --from ADDRESS --state FILE
 abbrev pub pull_app : App
@@ -54,10 +63,11 @@ exchange_app = with_rule (with_rule (with_rule (new_app (codes "exchange"))
     (demanded (value_option (codes "schema")))) (demanded (value_option (codes "between"))))
     (demanded (value_option (codes "and")))
 
--- merge --schema FILE FIRST SECOND
+-- merge --schema FILE FIRST SECOND [--explain]
 abbrev pub merge_app : App
-merge_app = with_rule (with_rule (with_rule (new_app (codes "merge")) (demanded (value_option (codes "schema"))))
-    (demanded (value_word (codes "first")))) (demanded (value_word (codes "second")))
+merge_app = with_rule (with_rule (with_rule (with_rule (new_app (codes "merge"))
+    (demanded (value_option (codes "schema")))) (demanded (value_word (codes "first"))))
+    (demanded (value_word (codes "second")))) explain_flag
 
 -- drill --schema FILE --sites NUMBER SCRIPT
 abbrev pub drill_app : App
@@ -69,20 +79,21 @@ abbrev pub explain_app : App
 explain_app = with_rule (with_rule (with_rule (with_rule (new_app (codes "explain")) (value_option (codes "schema")))
     (value_option (codes "entities"))) (value_option (codes "request"))) (demanded (value_word (codes "what")))
 
--- load --schema FILE --site NAME [--policies FILE] [--entities FILE] [--state FILE]
+-- load --schema FILE --site NAME [--policies FILE] [--entities FILE] [--state FILE] [--explain]
 abbrev pub load_app : App
-load_app = with_rule (with_rule (with_rule (with_rule (with_rule (new_app (codes "load"))
+load_app = with_rule (with_rule (with_rule (with_rule (with_rule (with_rule (new_app (codes "load"))
     (demanded (value_option (codes "schema")))) site_option) (value_option (codes "policies")))
-    (value_option (codes "entities"))) (value_option (codes "state"))
+    (value_option (codes "entities"))) (value_option (codes "state"))) explain_flag
 
+-- `asks_for_command a` demands a command.
 abbrev pub asks_for_command : App → App
 asks_for_command a = record a { top = record a.top { subcommand_required = true } }
 
--- and tells its version
+-- `with_version a` adds `--version`.
 abbrev pub with_version : App → App
 with_version a = record a { top = record a.top { has_version = true } }
 
--- all of them
+-- `site_app` is the program with all its commands.
 abbrev pub site_app : App
 site_app = with_subcommand (with_subcommand (with_subcommand (with_subcommand (with_subcommand (with_subcommand
     (with_subcommand (with_subcommand (with_subcommand (with_version (asks_for_command (new_app (codes "cedar_site"))))

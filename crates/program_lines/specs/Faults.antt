@@ -1,5 +1,7 @@
--- Why words are no command: the first fault that a parse of them meets, that help is asked for, a text for a site that
--- is no site's name, or want of memory. That the name is judged after all else is a rule of this product.
+-- Defines why arguments are not a command: the first error of parsing them, a request for help, an invalid site name,
+-- or lack of memory.
+-- Source: the contracts of the crate clap.
+-- Rules of this product: the site name is checked last.
 use Rattle.std.specs.Prelude.{◌≡◌, Bool, true, false, List, [], ⊤}
 use Rattle.clap.specs.Words.{Text, IsAmong, fault_of, kind_of, subcommand_of}
 use Rattle.clap.specs.declared.error.Error.{Error}
@@ -10,22 +12,22 @@ use Rattle.program_lines.specs.declared.fault.LineFault.TheVariants.{Help, Words
 use Rattle.program_lines.specs.Apps.{site_app}
 use Rattle.program_lines.specs.Lines.{IsNoLine, IsOfNoSite}
 
--- help is asked for
+-- `is_help kind` tests for a request for help or for the version.
 abbrev pub is_help : ErrorKind → Bool
 is_help DisplayHelp = true
 is_help DisplayVersion = true
 is_help _ = false
 
--- memory was refused
+-- `is_memory kind` tests for lack of memory.
 abbrev pub is_memory : ErrorKind → Bool
 is_memory OutOfMemory = true
 is_memory _ = false
 
--- the error's kind is one that a parse of the words may meet first
+-- `IsFirstFault words error` holds if parsing `words` may meet `error` first.
 abbrev pub IsFirstFault : List Text → Error → Type 0
 IsFirstFault words error = IsAmong (kind_of error) (fault_of site_app words)
 
--- this is why the words are no command
+-- `IsFaultOf words f` holds if `f` is why `words` are not a command.
 abbrev pub IsFaultOf : List Text → LineFault → Type 0
 IsFaultOf words (Help error) = (is_help (kind_of error) ≡ true) × IsFirstFault words error
 IsFaultOf words (Words error) = (is_help (kind_of error) ≡ false) × IsFirstFault words error

@@ -1,5 +1,6 @@
--- Which command the words are, with what was given for each of its options.
-use Rattle.std.specs.Prelude.{◌≡◌, ◌≤◌, ℕ, List, Option, None, Some, option_map, codes}
+-- Defines which command arguments are, with the value of each of its options.
+-- Source: the contracts of the crate clap; docs/operating.md.
+use Rattle.std.specs.Prelude.{◌≡◌, ◌≤◌, ℕ, Bool, true, false, List, Option, None, Some, option_map, codes}
 use Rattle.std.specs.Str.Parse.{digits_value, without_leading_plus}
 use Rattle.clap.specs.Words.{Row, Text, IsUnsignedIn, first_of, subcommand_of}
 use Rattle.stamped_store.specs.SiteNames.{IsSiteName}
@@ -8,7 +9,7 @@ use Rattle.program_lines.specs.declared.line.Line.TheVariants.{Check, Decide, Lo
 use Rattle.program_lines.specs.declared.line.Line.TheVariants.{Drill, Explain}
 use Rattle.program_lines.specs.Apps.{site_app}
 
--- the word of a command
+-- `word_of line` is the name of a command.
 abbrev pub word_of : Line → Text
 word_of (Check options) = codes "check"
 word_of (Decide options) = codes "decide"
@@ -20,48 +21,59 @@ word_of (Merge options) = codes "merge"
 word_of (Drill options) = codes "drill"
 word_of (Explain options) = codes "explain"
 
--- what was given for this is the text
+-- `IsGiven rows id text` holds if the option `id` has the value `text`.
 abbrev pub IsGiven : List Row → Text → Text → Type 0
 IsGiven rows id text = first_of id rows ≡ Some text
 
--- what was given for the site is the text, which is a site's name
+-- `IsGivenSite rows site` holds if the site's option has the value `site`, a valid site name.
 abbrev pub IsGivenSite : List Row → Text → Type 0
 IsGivenSite rows site = IsGiven rows (codes "site") site × IsSiteName site
 
--- what was given for the site is no site's name
+-- `IsGivenNoSite rows` holds if the site's option has a value that is not a site name.
 abbrev pub IsGivenNoSite : List Row → Type 0
 IsGivenNoSite rows = (text : Text) × IsGiven rows (codes "site") text × (IsSiteName text → ⊥)
 
--- the text is this number in decimal digits, perhaps behind a plus, and it lies in these bounds
+-- `IsNumberIn least most text number` holds if `text` is `number` in decimal digits, perhaps after a plus, and it is
+-- from `least` to `most`.
 abbrev pub IsNumberIn : ℕ → ℕ → Text → ℕ → Type 0
 IsNumberIn least most text number =
     IsUnsignedIn least most text × (number ≡ digits_value 10 (without_leading_plus text))
 
--- what was given for this is the number, in these bounds
+-- `IsGivenNumber rows id least most number` holds if the option `id` has such a number as its value.
 abbrev pub IsGivenNumber : List Row → Text → ℕ → ℕ → ℕ → Type 0
 IsGivenNumber rows id least most number =
     (text : Text) × IsGiven rows id text × IsNumberIn least most text number
 
--- and where nothing was given there is none
+-- `MayBeGivenNumber rows id least most o` is the same, with `None` for an absent option.
 abbrev pub MayBeGivenNumber : List Row → Text → ℕ → ℕ → Option ℕ → Type 0
 MayBeGivenNumber rows id least most None = first_of id rows ≡ None
 MayBeGivenNumber rows id least most (Some number) = IsGivenNumber rows id least most number
 
--- these are the texts, names and numbers of its options
+-- `IsFlag rows id b` holds if `b` says whether the flag `id` was given: clap gives it the value `true` then, and else
+-- `false`.
+abbrev pub IsFlag : List Row → Text → Bool → Type 0
+IsFlag rows id true = IsGiven rows id (codes "true")
+IsFlag rows id false = IsGiven rows id (codes "true") → ⊥
+
+-- `HasTexts rows line` holds if the options of `line` have the values of `rows`.
 abbrev pub HasTexts : List Row → Line → Type 0
 HasTexts rows (Check options) =
-    IsGiven rows (codes "schema") options.schema.now × IsGiven rows (codes "policies") options.policies.now
+    IsGiven rows (codes "schema") options.schema.now
+    × IsGiven rows (codes "policies") options.policies.now
+    × IsFlag rows (codes "explain") options.explain
 HasTexts rows (Decide options) =
     (first_of (codes "schema") rows ≡ option_map (λ s. s.now) options.schema)
     × IsGiven rows (codes "policies") options.policies.now
     × IsGiven rows (codes "entities") options.entities.now
     × IsGiven rows (codes "request") options.request.now
+    × IsFlag rows (codes "explain") options.explain
 HasTexts rows (Load options) =
     IsGiven rows (codes "schema") options.schema.now
     × IsGivenSite rows options.site
     × (first_of (codes "policies") rows ≡ option_map (λ s. s.now) options.policies)
     × (first_of (codes "entities") rows ≡ option_map (λ s. s.now) options.entities)
     × (first_of (codes "state") rows ≡ option_map (λ s. s.now) options.state)
+    × IsFlag rows (codes "explain") options.explain
 HasTexts rows (Serve options) =
     IsGiven rows (codes "schema") options.schema.now
     × IsGivenSite rows options.site
@@ -70,6 +82,7 @@ HasTexts rows (Serve options) =
     × MayBeGivenNumber rows (codes "connections") 0 4294967295 options.connections
     × MayBeGivenNumber rows (codes "idle") 1 86400 options.idle
     × (first_of (codes "log") rows ≡ option_map (λ s. s.now) options.log)
+    × IsFlag rows (codes "explain") options.explain
 HasTexts rows (Pull options) =
     IsGiven rows (codes "schema") options.schema.now
     × IsGivenSite rows options.site
@@ -83,6 +96,7 @@ HasTexts rows (Merge options) =
     IsGiven rows (codes "schema") options.schema.now
     × IsGiven rows (codes "first") options.first.now
     × IsGiven rows (codes "second") options.second.now
+    × IsFlag rows (codes "explain") options.explain
 HasTexts rows (Drill options) =
     IsGiven rows (codes "schema") options.schema.now
     × IsGivenNumber rows (codes "sites") 1 64 options.sites
@@ -93,29 +107,29 @@ HasTexts rows (Explain options) =
     × (first_of (codes "entities") rows ≡ option_map (λ s. s.now) options.entities)
     × (first_of (codes "request") rows ≡ option_map (λ s. s.now) options.request)
 
--- a script is played at 1 to 64 sites
+-- `HasSites line` holds if a script is executed at 1 to 64 sites.
 abbrev pub HasSites : Line → Type 0
 HasSites (Drill options) = (1 ≤ options.sites) × (options.sites ≤ 64)
 HasSites _ = Unit {0}
 
--- the command of this word, with these options
+-- `IsLineOf word rows line` holds if `line` is the command `word` with the options `rows`.
 abbrev pub IsLineOf : Text → List Row → Line → Type 0
 IsLineOf word rows line = (word_of line ≡ word) × HasTexts rows line
 
--- this command was named, with these texts as its options
+-- `IsNamed line named` holds if clap found this command with these options.
 abbrev pub IsNamed : Line → Option (Text × List Row) → Type 0
 IsNamed line None = ⊥
 IsNamed line (Some named) = IsLineOf named.0 named.1 line
 
--- no command was named with all of its options
+-- `IsNoLine named` holds if clap found no command with all required options.
 abbrev pub IsNoLine : Option (Text × List Row) → Type 0
 IsNoLine named = (line : Line) → IsNamed line named → ⊥
 
--- a command was named, with a text for its site that is no site's name
+-- `IsOfNoSite named` holds if clap found a command with an invalid site name.
 abbrev pub IsOfNoSite : Option (Text × List Row) → Type 0
 IsOfNoSite None = ⊥
 IsOfNoSite (Some named) = IsGivenNoSite named.1
 
--- the words are this command
+-- `Says words line` holds if the arguments `words` are the command `line`.
 abbrev pub Says : List Text → Line → Type 0
 Says words line = IsNamed line (subcommand_of site_app words)

@@ -2,6 +2,7 @@
 ghost use Rattle.std.specs.Prelude.{◌≡◌, false, IfOk, codes};
 ghost use Rattle.clap.specs.Words.{App, Rule, rule_of, new_app, with_rule, with_subcommand};
 ghost use Rattle.program_lines.specs.Apps.{value_option, value_word, number_option, demanded, site_option, site_app};
+ghost use Rattle.program_lines.specs.Apps.{explain_flag};
 ghost use Rattle.program_lines.specs.Apps.{check_app, decide_app, load_app, serve_app, pull_app};
 ghost use Rattle.program_lines.specs.Apps.{exchange_app, merge_app, drill_app, explain_app};
 ghost use Rattle.program_lines.specs.Apps.{asks_for_command, with_version};
@@ -12,13 +13,13 @@ use clap::{Arg, ArgAction, Command};
 use plain::{NoMemory, beside, both};
 use std::alloc::Global;
 
-/// The greatest number of connections that can be asked for.
+/// The greatest value of `--connections`.
 pub(crate) const MOST_CONNECTIONS: u64 = 4_294_967_295;
 
-/// The most seconds that a connection may be idle: a day.
+/// The greatest value of `--idle`, in seconds: a day.
 pub(crate) const MOST_IDLE: u64 = 86_400;
 
-/// The greatest number of sites that a script can be played at.
+/// The greatest value of `--sites`.
 pub(crate) const MOST_SITES: u64 = 64;
 
 /// Returns a command with no options yet, whose help ends with an example.
@@ -67,7 +68,7 @@ fn value_option<'a>(alloc: Global, name: &'a str, value: &'a str, help: &'a str)
         .action(ArgAction::Set)
 }
 
-/// Returns an option with a number within bounds, called by this name in the help.
+/// Returns an option with a number within bounds, whose value has this name in the help.
 fn number_option<'a>(
     alloc: Global,
     name: &'a str,
@@ -82,7 +83,7 @@ fn number_option<'a>(
     value_option(alloc, name, value, help).value_parser(ValueParser::unsigned(least, most))
 }
 
-/// Returns the command with one more option that has a value, demanded.
+/// Returns the command with one more required option that has a value.
 fn with_needed<'a>(
     alloc: Global,
     command: Result<Command<'a>, NoMemory>,
@@ -97,7 +98,7 @@ fn with_needed<'a>(
     with(command, option)
 }
 
-/// Returns the command with the name of a site, demanded.
+/// Returns the command with the required option `--site`.
 fn with_site<'a>(
     alloc: Global,
     command: Result<Command<'a>, NoMemory>,
@@ -108,7 +109,7 @@ fn with_site<'a>(
     with_needed(alloc, command, "site", "NAME", help)
 }
 
-/// Returns the command with the schema, demanded.
+/// Returns the command with the required option `--schema`.
 fn with_schema<'a>(
     alloc: Global,
     command: Result<Command<'a>, NoMemory>,
@@ -119,7 +120,7 @@ fn with_schema<'a>(
     with_needed(alloc, command, "schema", "FILE", "The schema, as JSON")
 }
 
-/// Returns the command with one more file that is named by its place, demanded.
+/// Returns the command with one more required argument, given by its position.
 fn with_word<'a>(
     alloc: Global,
     command: Result<Command<'a>, NoMemory>,
@@ -138,6 +139,20 @@ fn with_word<'a>(
     with(command, word)
 }
 
+/// Returns the command with the flag that asks for explanations.
+fn with_explain<'a>(
+    alloc: Global,
+    command: Result<Command<'a>, NoMemory>,
+) -> Result<Command<'a>, NoMemory>
+    ensures { (app : App) → IfOk command.entry (IsApp app) → IfOk result (IsApp (with_rule app explain_flag)) }
+{
+    let flag = Arg::new(alloc, "explain")
+        .long("explain")
+        .help("Also explains, on standard error, what is rejected")
+        .action(ArgAction::SetTrue);
+    with(command, flag)
+}
+
 fn check_command<'a>(alloc: Global) -> Result<Command<'a>, NoMemory>
     ensures { IfOk result (IsApp check_app) }
 {
@@ -145,13 +160,9 @@ fn check_command<'a>(alloc: Global) -> Result<Command<'a>, NoMemory>
     let example = "Example:\n  cedar_site check --schema schema.json policies.cedar";
     let command = bare(alloc, "check", about, example);
     let command = with_schema(alloc, command);
-    with_word(
-        alloc,
-        command,
-        "policies",
-        "POLICIES",
-        "The policies, as text",
-    )
+    let policies = "The policies, as text";
+    let command = with_word(alloc, command, "policies", "POLICIES", policies);
+    with_explain(alloc, command)
 }
 
 fn decide_command<'a>(alloc: Global) -> Result<Command<'a>, NoMemory>
@@ -168,7 +179,8 @@ fn decide_command<'a>(alloc: Global) -> Result<Command<'a>, NoMemory>
     let command = with(command, schema);
     let command = with_needed(alloc, command, "policies", "FILE", "The policies, as text");
     let command = with_needed(alloc, command, "entities", "FILE", entities);
-    with_needed(alloc, command, "request", "FILE", request)
+    let command = with_needed(alloc, command, "request", "FILE", request);
+    with_explain(alloc, command)
 }
 
 fn load_command<'a>(alloc: Global) -> Result<Command<'a>, NoMemory>
@@ -189,7 +201,8 @@ fn load_command<'a>(alloc: Global) -> Result<Command<'a>, NoMemory>
     let entities = value_option(alloc, "entities", "FILE", entities);
     let command = with(command, entities);
     let state = value_option(alloc, "state", "FILE", begin);
-    with(command, state)
+    let command = with(command, state);
+    with_explain(alloc, command)
 }
 
 fn serve_command<'a>(alloc: Global) -> Result<Command<'a>, NoMemory>
@@ -216,7 +229,8 @@ fn serve_command<'a>(alloc: Global) -> Result<Command<'a>, NoMemory>
     let idle = number_option(alloc, "idle", "SECONDS", 1, MOST_IDLE, limit);
     let command = with(command, idle);
     let log = value_option(alloc, "log", "FILE", lines);
-    with(command, log)
+    let command = with(command, log);
+    with_explain(alloc, command)
 }
 
 fn pull_command<'a>(alloc: Global) -> Result<Command<'a>, NoMemory>
@@ -257,7 +271,8 @@ fn merge_command<'a>(alloc: Global) -> Result<Command<'a>, NoMemory>
     let command = bare(alloc, "merge", about, example);
     let command = with_schema(alloc, command);
     let command = with_word(alloc, command, "first", "FIRST", "A state or a delta");
-    with_word(alloc, command, "second", "SECOND", "Another one")
+    let command = with_word(alloc, command, "second", "SECOND", "Another one");
+    with_explain(alloc, command)
 }
 
 fn drill_command<'a>(alloc: Global) -> Result<Command<'a>, NoMemory>
@@ -292,10 +307,10 @@ fn explain_command<'a>(alloc: Global) -> Result<Command<'a>, NoMemory>
     with_word(alloc, command, "what", "WHAT", what)
 }
 
-/// What `--version` tells behind the program's name: that of the Cedar language whose policies it reads.
+/// What `--version` prints after the program's name: the version of the Cedar language.
 const VERSION: &str = "4.0";
 
-/// Returns the program's command, which asks for a subcommand and tells its version.
+/// Returns the program's command, which demands a subcommand and prints its version.
 fn top_command<'a>(alloc: Global) -> Result<Command<'a>, NoMemory>
     ensures { IfOk result (IsApp (with_version (asks_for_command (new_app (codes "cedar_site"))))) }
 {

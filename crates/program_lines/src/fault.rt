@@ -1,4 +1,4 @@
-//! Why words are no command.
+//! Errors of the command line.
 ghost use Rattle.std.specs.Prelude.{◌≡◌};
 ghost use Rattle.program_lines.specs.Faults.{is_help, is_memory};
 ghost use Rattle.program_lines.specs.inner.Sorting.{sorted};
@@ -7,25 +7,25 @@ use clap::error::ErrorKind;
 use plain::NoMemory;
 use thiserror::Error;
 
-/// Why the words ask for nothing. Each shows itself as the text that is to be printed.
+/// Why arguments are not a command. Its `Display` is the text to print.
 #[derive(Drop, Debug, Error)]
 pub enum LineFault {
-    /// Help was asked for.
+    /// Help, or the version, is requested.
     #[error(transparent)]
     Help(clap::Error),
-    /// The words are no command line.
+    /// The arguments are not a command line.
     #[error(transparent)]
     Words(clap::Error),
-    /// What `--site` was given is no site's name. Nothing else is wrong with the words.
+    /// The value of `--site` is not a site name. Nothing else is wrong.
     #[error("error: the value of '--site' is no site's name: 1 to 32 ASCII letters, digits, '-', '_' or '.'\n")]
     Site,
-    /// The words were taken, and yet have no command or lack an option: no words do that.
+    /// clap accepted the arguments, but a command or an option is missing: this does not occur.
     #[error("error: an option is missing\n")]
     Incomplete,
-    /// A word is not UTF-8. `line_of` never says so: its words are texts.
+    /// An argument is not UTF-8. `line_of` never returns this: its arguments are texts.
     #[error("error: a word of the command line is not UTF-8\n")]
     NotText,
-    /// Memory was refused.
+    /// Out of memory.
     #[error("error: out of memory\n")]
     NoMemory,
 }
@@ -40,21 +40,21 @@ impl From<NoMemory> for LineFault {
     }
 }
 
-/// Returns whether help is asked for.
+/// Returns whether help or the version is requested.
 fn is_help(kind: ErrorKind) -> bool
     ensures { result ≡ is_help kind }
 {
     matches!(kind, ErrorKind::DisplayHelp | ErrorKind::DisplayVersion)
 }
 
-/// Returns whether memory was refused.
+/// Returns whether memory was lacking.
 fn is_memory(kind: ErrorKind) -> bool
     ensures { result ≡ is_memory kind }
 {
     matches!(kind, ErrorKind::OutOfMemory)
 }
 
-/// Returns what an error of clap's is: help, want of memory, or a fault of the words.
+/// Returns what an error of clap means: help, lack of memory, or an error of the arguments.
 pub(crate) fn sorted(error: clap::Error) -> LineFault
     ensures { result ≡ sorted error }
 {

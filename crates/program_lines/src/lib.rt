@@ -1,4 +1,4 @@
-//! The command line: its words, as a command with all that it demands.
+//! The command line: from arguments to a command with its options.
 #![tactic(auto)]
 
 mod app;

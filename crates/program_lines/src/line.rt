@@ -10,29 +10,35 @@ ghost use Rattle.program_lines.specs.inner.Sorting.{IsLackOf};
 
 use crate::app::command;
 use crate::fault::{LineFault, sorted};
-use crate::options::{connections_in, has_no_site, idle_in, option_text, site_in, sites_in};
+use crate::options::{
+    connections_in, flag_in, has_no_site, idle_in, option_text, site_in, sites_in,
+};
 use clap::ArgMatches;
 use stamped_store::SiteName;
 use std::alloc::Global;
 
-/// What `check` is given: the names of a schema's file and of one with policies.
+/// The options of `check`: the names of a schema's file and of a file of policies, and whether what is rejected is
+/// explained.
 #[derive(Clone, Copy)]
 pub struct CheckOptions<'a> {
     pub schema: &'a str,
     pub policies: &'a str,
+    pub explain: bool,
 }
 
-/// What `decide` is given: the names of three files, and perhaps of a schema's.
+/// The options of `decide`: the names of three files, perhaps of a schema's file, and whether what is rejected is
+/// explained.
 #[derive(Clone, Copy)]
 pub struct DecideOptions<'a> {
     pub schema: Option<&'a str>,
     pub policies: &'a str,
     pub entities: &'a str,
     pub request: &'a str,
+    pub explain: bool,
 }
 
-/// What `load` is given: the name of a schema's file, a site's name, and perhaps the names of files with policies, with
-/// entities, and with a state to begin with.
+/// The options of `load`: the name of a schema's file, a site's name, perhaps the names of files with policies, with
+/// entities, and with an initial state, and whether what is rejected is explained.
 #[derive(Clone, Copy)]
 pub struct LoadOptions<'a> {
     pub schema: &'a str,
@@ -40,11 +46,12 @@ pub struct LoadOptions<'a> {
     pub policies: Option<&'a str>,
     pub entities: Option<&'a str>,
     pub state: Option<&'a str>,
+    pub explain: bool,
 }
 
-/// What `serve` is given: the name of a schema's file, a site's name, an address, perhaps the name of a file with a
-/// state to begin with, perhaps how many connections there are to be, perhaps how many seconds each may be idle, 1
-/// to 86,400, and perhaps the name of the file that gets a line of each reply.
+/// The options of `serve`: the name of a schema's file, a site's name, an address, and perhaps the name of a file with
+/// an initial state, the number of connections, the seconds that each may be idle (1 to 86,400), and the name of the
+/// log; and whether what is rejected is explained.
 #[derive(Clone, Copy)]
 pub struct ServeOptions<'a> {
     pub schema: &'a str,
@@ -54,10 +61,11 @@ pub struct ServeOptions<'a> {
     pub connections: Option<u32>,
     pub idle: Option<u32>,
     pub log: Option<&'a str>,
+    pub explain: bool,
 }
 
-/// What `pull` is given: the name of a schema's file, a site's name, an address, and the name of the file with the
-/// site's state. The site's name is for the record alone: nothing is stamped.
+/// The options of `pull`: the name of a schema's file, a site's name, an address, and the name of the file with the
+/// state. The site's name makes no difference: nothing is stamped.
 #[derive(Clone, Copy)]
 pub struct PullOptions<'a> {
     pub schema: &'a str,
@@ -66,7 +74,7 @@ pub struct PullOptions<'a> {
     pub state: &'a str,
 }
 
-/// What `exchange` is given: the name of a schema's file, and the addresses of two sites.
+/// The options of `exchange`: the name of a schema's file, and the addresses of two sites.
 #[derive(Clone, Copy)]
 pub struct ExchangeOptions<'a> {
     pub schema: &'a str,
@@ -74,15 +82,17 @@ pub struct ExchangeOptions<'a> {
     pub and: &'a str,
 }
 
-/// What `merge` is given: the names of a schema's file and of two states.
+/// The options of `merge`: the names of a schema's file and of the files of two states, and whether what is rejected is
+/// explained.
 #[derive(Clone, Copy)]
 pub struct MergeOptions<'a> {
     pub schema: &'a str,
     pub first: &'a str,
     pub second: &'a str,
+    pub explain: bool,
 }
 
-/// What `drill` is given: the name of a schema's file, how many sites there are to be, 1 to 64, and the script's name.
+/// The options of `drill`: the name of a schema's file, the number of sites (1 to 64), and the name of the script.
 #[derive(Clone, Copy)]
 pub struct DrillOptions<'a> {
     pub schema: &'a str,
@@ -100,37 +110,37 @@ pub struct ExplainOptions<'a> {
     pub request: Option<&'a str>,
 }
 
-/// What the words ask for. Each option that a command demands is there, as a field of its own.
+/// A command, with each required option as a field.
 #[derive(Clone, Copy)]
 pub enum Line<'a> {
-    /// Tell what each policy of a file comes to under a schema.
+    /// Validate each policy of a file under a schema.
     Check(CheckOptions<'a>),
     /// Decide one request.
     Decide(DecideOptions<'a>),
-    /// Put files into a site and tell its state.
+    /// Put files into a site and print its state.
     Load(LoadOptions<'a>),
     /// Serve a site at an address.
     Serve(ServeOptions<'a>),
-    /// Take from the site at an address what a state lacks, which is then written.
+    /// Fetch the entries that a state lacks from the site at an address, and write the new state.
     Pull(PullOptions<'a>),
-    /// Exchange what two sites lack.
+    /// Bring two sites up to date.
     Exchange(ExchangeOptions<'a>),
     /// Merge two states.
     Merge(MergeOptions<'a>),
-    /// Play a script at so many sites.
+    /// Execute a script.
     Drill(DrillOptions<'a>),
     /// Explain a code, or what is rejected of files.
     Explain(ExplainOptions<'a>),
 }
 
-/// Returns the name of the command that was met, and its options.
+/// Returns the name of the command that clap found, and its options.
 fn met<'m, 'a>(matches: &'m ArgMatches<'a>) -> Option<(&'a str, &'m ArgMatches<'a>)>
     ensures { option_map (λ p. (p.0.now, rows_of (found_of p.1.now))) result ≡ subcommand_rows_of matches.now }
 {
     matches.subcommand()
 }
 
-/// `check`, if it has both of its files.
+/// Returns `check`, if it has both files.
 fn check_in<'a>(options: &ArgMatches<'a>) -> Option<Line<'a>>
     ensures { MatchOption result (IsNone (IsLineOf (codes "check") (rows_of (found_of options.now))))
         (IsLineOf (codes "check") (rows_of (found_of options.now))) }
@@ -141,10 +151,15 @@ fn check_in<'a>(options: &ArgMatches<'a>) -> Option<Line<'a>>
     let Some(policies) = option_text(options, "policies") else {
         return None;
     };
-    Some(Line::Check(CheckOptions { schema, policies }))
+    let explain = flag_in(options, "explain");
+    Some(Line::Check(CheckOptions {
+        schema,
+        policies,
+        explain,
+    }))
 }
 
-/// `decide`, if it has each of the files that it demands.
+/// Returns `decide`, if it has each required file.
 fn decide_in<'a>(options: &ArgMatches<'a>) -> Option<Line<'a>>
     ensures { MatchOption result (IsNone (IsLineOf (codes "decide") (rows_of (found_of options.now))))
         (IsLineOf (codes "decide") (rows_of (found_of options.now))) }
@@ -159,15 +174,17 @@ fn decide_in<'a>(options: &ArgMatches<'a>) -> Option<Line<'a>>
     let Some(request) = option_text(options, "request") else {
         return None;
     };
+    let explain = flag_in(options, "explain");
     Some(Line::Decide(DecideOptions {
         schema,
         policies,
         entities,
         request,
+        explain,
     }))
 }
 
-/// `load`, if it has what it demands, a site's name among it.
+/// Returns `load`, if it has each required option and a valid site name.
 fn load_in<'a>(options: &ArgMatches<'a>) -> Option<Line<'a>>
     ensures { MatchOption result (IsNone (IsLineOf (codes "load") (rows_of (found_of options.now))))
         (IsLineOf (codes "load") (rows_of (found_of options.now))) }
@@ -181,17 +198,18 @@ fn load_in<'a>(options: &ArgMatches<'a>) -> Option<Line<'a>>
     let policies = option_text(options, "policies");
     let entities = option_text(options, "entities");
     let state = option_text(options, "state");
+    let explain = flag_in(options, "explain");
     Some(Line::Load(LoadOptions {
         schema,
         site,
         policies,
         entities,
         state,
+        explain,
     }))
 }
 
-/// `serve`, if it has each of the options that it demands, a site's name among them, and its numbers lie in their
-/// bounds.
+/// Returns `serve`, if it has each required option, a valid site name, and numbers within their bounds.
 fn serve_in<'a>(options: &ArgMatches<'a>) -> Option<Line<'a>>
     ensures { MatchOption result (IsNone (IsLineOf (codes "serve") (rows_of (found_of options.now))))
         (IsLineOf (codes "serve") (rows_of (found_of options.now))) }
@@ -213,6 +231,7 @@ fn serve_in<'a>(options: &ArgMatches<'a>) -> Option<Line<'a>>
     };
     let state = option_text(options, "state");
     let log = option_text(options, "log");
+    let explain = flag_in(options, "explain");
     Some(Line::Serve(ServeOptions {
         schema,
         site,
@@ -221,10 +240,11 @@ fn serve_in<'a>(options: &ArgMatches<'a>) -> Option<Line<'a>>
         connections,
         idle,
         log,
+        explain,
     }))
 }
 
-/// `pull`, if it has each of its options, a site's name among them.
+/// Returns `pull`, if it has each option and a valid site name.
 fn pull_in<'a>(options: &ArgMatches<'a>) -> Option<Line<'a>>
     ensures { MatchOption result (IsNone (IsLineOf (codes "pull") (rows_of (found_of options.now))))
         (IsLineOf (codes "pull") (rows_of (found_of options.now))) }
@@ -249,7 +269,7 @@ fn pull_in<'a>(options: &ArgMatches<'a>) -> Option<Line<'a>>
     }))
 }
 
-/// `exchange`, if it has its schema and both addresses.
+/// Returns `exchange`, if it has its schema and both addresses.
 fn exchange_in<'a>(options: &ArgMatches<'a>) -> Option<Line<'a>>
     ensures { MatchOption result (IsNone (IsLineOf (codes "exchange") (rows_of (found_of options.now))))
         (IsLineOf (codes "exchange") (rows_of (found_of options.now))) }
@@ -270,7 +290,7 @@ fn exchange_in<'a>(options: &ArgMatches<'a>) -> Option<Line<'a>>
     }))
 }
 
-/// `merge`, if it has each of its files.
+/// Returns `merge`, if it has each file.
 fn merge_in<'a>(options: &ArgMatches<'a>) -> Option<Line<'a>>
     ensures { MatchOption result (IsNone (IsLineOf (codes "merge") (rows_of (found_of options.now))))
         (IsLineOf (codes "merge") (rows_of (found_of options.now))) }
@@ -284,14 +304,16 @@ fn merge_in<'a>(options: &ArgMatches<'a>) -> Option<Line<'a>>
     let Some(second) = option_text(options, "second") else {
         return None;
     };
+    let explain = flag_in(options, "explain");
     Some(Line::Merge(MergeOptions {
         schema,
         first,
         second,
+        explain,
     }))
 }
 
-/// `drill`, if it has both of its files, and its number of sites lies in its bounds.
+/// Returns `drill`, if it has both files, and a number of sites within its bounds.
 fn drill_in<'a>(options: &ArgMatches<'a>) -> Option<Line<'a>>
     ensures { MatchOption result (IsNone (IsLineOf (codes "drill") (rows_of (found_of options.now))))
         (IsLineOf (codes "drill") (rows_of (found_of options.now))) }
@@ -312,7 +334,7 @@ fn drill_in<'a>(options: &ArgMatches<'a>) -> Option<Line<'a>>
     }))
 }
 
-/// `explain`, if it has what is to be explained.
+/// Returns `explain`, if it has its code or file.
 fn explain_in<'a>(options: &ArgMatches<'a>) -> Option<Line<'a>>
     ensures { MatchOption result (IsNone (IsLineOf (codes "explain") (rows_of (found_of options.now))))
         (IsLineOf (codes "explain") (rows_of (found_of options.now))) }
@@ -366,7 +388,7 @@ fn named_line<'a>(name: &str, options: &ArgMatches<'a>) -> Option<Line<'a>>
     None
 }
 
-/// Returns the command that was met, if it has all of its options.
+/// Returns the command that clap found, if it has all required options.
 fn line_in<'a>(matches: &ArgMatches<'a>) -> Option<Line<'a>>
     ensures { MatchOption result (IsNoLine (subcommand_rows_of matches.now))
         (λ line. IsNamed line (subcommand_rows_of matches.now)) }
@@ -377,7 +399,7 @@ fn line_in<'a>(matches: &ArgMatches<'a>) -> Option<Line<'a>>
     }
 }
 
-/// Returns whether a command was met with a text for its site that is no site's name.
+/// Returns whether clap found a command with an invalid site name.
 fn is_of_no_site(matches: &ArgMatches<'_>) -> bool
     ensures { IsTrue result ↔ IsOfNoSite (subcommand_rows_of matches.now) }
 {
@@ -387,7 +409,7 @@ fn is_of_no_site(matches: &ArgMatches<'_>) -> bool
     }
 }
 
-/// Why a command that was met lacks some of what it demands.
+/// Returns why the command that clap found is incomplete.
 fn lack_of(matches: &ArgMatches<'_>) -> LineFault
     ensures { IsLackOf (subcommand_rows_of matches.now) result }
 {
@@ -398,12 +420,14 @@ fn lack_of(matches: &ArgMatches<'_>) -> LineFault
     }
 }
 
-/// Returns the command that the words give, the first of which is the program's own name.
+/// Returns the command of the arguments, the first of which is the program's name.
 ///
-/// It has every option that it demands, `--site` with a site's name (1 to 32 bytes, each an ASCII letter, a digit, `-`,
-/// `_` or `.`), taken as it stands, `--sites` from 1 to 64, and, where they are given, `--connections` from 0 to
-/// 4,294,967,295 and `--idle` from 1 to 86,400. Words that are no command answer why; that `--site` has another text is
-/// told after every other fault.
+/// It has every required option: `--site` with a site name (1 to 32 bytes, each an ASCII letter, a digit, `-`, `_` or
+/// `.`), `--sites` from 1 to 64, and, if given, `--connections` from 0 to 4,294,967,295 and `--idle` from 1 to 86,400.
+///
+/// # Errors
+///
+/// Why the arguments are not a command. An invalid site name is reported only if nothing else is wrong.
 pub fn line_of<'a>(alloc: Global, words: &'a [String]) -> Result<Line<'a>, LineFault>
     ensures ok { IfOk result (Says (map string_bytes words.entry.now)) }
     ensures sites { IfOk result HasSites }

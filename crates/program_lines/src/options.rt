@@ -1,21 +1,32 @@
-//! What was given for each option.
+//! The values of options.
 ghost use Rattle.std.specs.Prelude.{◌≡◌, ◌↔◌, IsTrue, Some, None, MatchOption, option_map, codes};
 ghost use Rattle.clap.specs.Words.{first_of, found_of, rows_of};
 ghost use Rattle.program_lines.specs.Lines.{IsNumberIn, IsGivenNumber, MayBeGivenNumber, IsGivenSite, IsGivenNoSite};
+ghost use Rattle.program_lines.specs.Lines.{IsFlag};
 ghost use Rattle.program_lines.specs.inner.Lacking.{IsNone};
 
 use crate::app::{MOST_CONNECTIONS, MOST_IDLE, MOST_SITES};
 use clap::ArgMatches;
 use stamped_store::{SiteName, is_site_name};
 
-/// Returns the text that an option was given.
+/// Returns the text of an option.
 pub(crate) fn option_text<'a>(options: &ArgMatches<'a>, name: &str) -> Option<&'a str>
     ensures { option_map (λ s. s.now) result ≡ first_of name.now (rows_of (found_of options.now)) }
 {
     options.get_str(name)
 }
 
-/// Returns the number that a text is, if it lies in these bounds: decimal digits, perhaps behind a plus.
+/// Returns whether a flag was given.
+pub(crate) fn flag_in(options: &ArgMatches<'_>, name: &str) -> bool
+    ensures { IsFlag (rows_of (found_of options.now)) name.now result }
+{
+    let Some(text) = option_text(options, name) else {
+        return false;
+    };
+    text == "true"
+}
+
+/// Returns the number of a text, decimal digits perhaps after a plus, if it is within bounds.
 fn number_in(text: &str, least: u64, most: u64) -> Option<u64>
     ensures { MatchOption result (IsNone (IsNumberIn least most text.now)) (IsNumberIn least most text.now) }
 {
@@ -36,7 +47,7 @@ pub(crate) fn site_in(options: &ArgMatches<'_>) -> Option<SiteName>
     SiteName::parse(text)
 }
 
-/// Returns whether what was given for the site is no site's name.
+/// Returns whether the site's option has an invalid site name.
 pub(crate) fn has_no_site(options: &ArgMatches<'_>) -> bool
     ensures { IsTrue result ↔ IsGivenNoSite (rows_of (found_of options.now)) }
 {
@@ -46,7 +57,7 @@ pub(crate) fn has_no_site(options: &ArgMatches<'_>) -> bool
     !is_site_name(text)
 }
 
-/// Returns how many connections are asked for, if any number was given; `None` where what was given is no such number.
+/// Returns the number of connections, if given; `None` if the value is not such a number.
 pub(crate) fn connections_in(options: &ArgMatches<'_>) -> Option<Option<u32>>
     ensures { MatchOption result
         (IsNone (MayBeGivenNumber (rows_of (found_of options.now)) (codes "connections") 0 4294967295))
@@ -61,8 +72,7 @@ pub(crate) fn connections_in(options: &ArgMatches<'_>) -> Option<Option<u32>>
     }
 }
 
-/// Returns how many seconds a connection may be idle, if any number was given; `None` where what was given is no such
-/// number.
+/// Returns the seconds that a connection may be idle, if given; `None` if the value is not such a number.
 pub(crate) fn idle_in(options: &ArgMatches<'_>) -> Option<Option<u32>>
     ensures { MatchOption result
         (IsNone (MayBeGivenNumber (rows_of (found_of options.now)) (codes "idle") 1 86400))
@@ -77,7 +87,7 @@ pub(crate) fn idle_in(options: &ArgMatches<'_>) -> Option<Option<u32>>
     }
 }
 
-/// Returns how many sites there are to be; `None` where what was given is no such number.
+/// Returns the number of sites; `None` if the value is not such a number.
 pub(crate) fn sites_in(options: &ArgMatches<'_>) -> Option<u16>
     ensures { MatchOption result
         (IsNone (IsGivenNumber (rows_of (found_of options.now)) (codes "sites") 1 64))

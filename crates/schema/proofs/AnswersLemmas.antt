@@ -12,7 +12,7 @@ use Rattle.ancestor_search.specs.Hierarchy.{IsAncestor, IsAscending, IsAllAbove}
 use Rattle.schema_types.specs.Cedar.{Cedar}
 use Rattle.schema_types.specs.CedarViews.{cedar_view}
 use Rattle.schema_types.specs.declared.cedar.CedarType.{CedarType}
-use Rattle.schema_names.specs.Qualifying.{FoundEntityType, FoundSchema}
+use Rattle.schema_names.specs.Qualifying.{ResolvedEntityType, ResolvedSchema}
 use Rattle.schema.specs.declared.parts.Place.{Place}
 use Rattle.schema.specs.declared.parts.Environment.{Environment}
 use Rattle.schema.specs.declared.parts.EntityDecl.{EntityDecl}
@@ -58,7 +58,7 @@ is_none (Some x) e h = absurd cc
 
 -- ---- shapes
 
-module _ (s : FoundSchema) (shapes : BTreeMap (List ℕ) EntityDecl) (are : AreShapes s.commons s.entity_types shapes) where
+module _ (s : ResolvedSchema) (shapes : BTreeMap (List ℕ) EntityDecl) (are : AreShapes s.commons s.entity_types shapes) where
   pub shape_found : (n : List ℕ) (t : Cedar) → shape_in shapes n ≡ Some t → IsShape s n t
   shape_found n t e =
       let at = from_map (λ d. cedar_view d.shape) (get text_cmp shapes n) t e in
@@ -67,12 +67,12 @@ module _ (s : FoundSchema) (shapes : BTreeMap (List ℕ) EntityDecl) (are : AreS
         | inr none ↦ not_none at.0 none
       ]
 
-  pub shape_there : (e : FoundEntityType) → Contains s.entity_types e → IsSome (shape_in shapes e.name)
+  pub shape_there : (e : ResolvedEntityType) → Contains s.entity_types e → IsSome (shape_in shapes e.name)
   shape_there e h = map_some (λ d. cedar_view d.shape) (get text_cmp shapes e.name) (are.all e.name (e, h, refl))
 
 -- ---- actions
 
-module _ (s : FoundSchema) (members : BTreeMap EntityUid (List EntityUid)) (are : AreMembers (action_parents s) s.actions members) where
+module _ (s : ResolvedSchema) (members : BTreeMap EntityUid (List EntityUid)) (are : AreMembers (action_parents s) s.actions members) where
   pub members_found : (u : EntityUid) (us : List EntityUid) → get uid_cmp members u ≡ Some us → IsAction s u × (us ≡ action_parents s u)
   members_found u us e = elim (are.sound u us e) [
     | inl m ↦ ((m.0, m.1, m.2.0), m.2.1)
@@ -89,7 +89,7 @@ module _ (s : FoundSchema) (members : BTreeMap EntityUid (List EntityUid)) (are 
 
 -- ---- actions above actions
 
-module _ (s : FoundSchema) (called : AreNamed s) (h : Hierarchies) (are : AreHierarchiesOf s h) where
+module _ (s : ResolvedSchema) (called : AreNamed s) (h : Hierarchies) (are : AreHierarchiesOf s h) where
   abbrev at : EntityUid → Option ℕ
   at u = get uid_cmp h.above.numbers u
 
@@ -143,7 +143,7 @@ module _ (s : FoundSchema) (called : AreNamed s) (h : Hierarchies) (are : AreHie
 
 -- ---- types above types
 
-module _ (s : FoundSchema) (own : NamesItsEntityTypes s) (t : TypeNumbers) (are : AreNumbers (type_parents s) s.entity_types t) where
+module _ (s : ResolvedSchema) (own : NamesItsEntityTypes s) (t : TypeNumbers) (are : AreNumbers (type_parents s) s.entity_types t) where
   abbrev IsBelow : List ℕ → List ℕ → Type 0
   IsBelow child parent = IsAncestor (type_parents s) (type_uid parent) (type_uid child)
 
@@ -170,7 +170,7 @@ places_are : (es : List (Place × CedarType)) → map (λ e. e.place) (map envir
 places_are [] = refl
 places_are (e ∷ es) = ap (λ (ps : List Place). e.0 ∷ ps) (places_are es)
 
-module _ (s : FoundSchema) (places : Places) (are : ArePlaces s.commons s.actions places) (ordered : IsOrdered place_cmp places) where
+module _ (s : ResolvedSchema) (places : Places) (are : ArePlaces s.commons s.actions places) (ordered : IsOrdered place_cmp places) where
   environment_at : (p : Place) (c : CedarType) → get place_cmp places p ≡ Some c → IsEnvironment s (environment_view (environment_of (p, c)))
   environment_at p c e = elim (are.sound p c e) [
     | inl m ↦
@@ -197,7 +197,7 @@ module _ (s : FoundSchema) (places : Places) (are : ArePlaces s.commons s.action
 
 -- ---- all together
 
-made_answers : (s : FoundSchema) → NamesItsEntityTypes s → AreNamed s → (label : List ℕ) (t : Types) (h : Hierarchies) → AreTypesOf s.commons s t → AreHierarchiesOf s h
+made_answers : (s : ResolvedSchema) → NamesItsEntityTypes s → AreNamed s → (label : List ℕ) (t : Types) (h : Hierarchies) → AreTypesOf s.commons s t → AreHierarchiesOf s h
     → Answers s (schema_view (kept label t.environments h.actions t.shapes h.members h.above.numbers h.above.spans h.types.numbers h.types.spans))
 made_answers s own called label t h types hierarchies = record {
   shapes = shape_found s t.shapes types.shapes;
@@ -215,7 +215,7 @@ made_answers s own called label t h types hierarchies = record {
 }
 
 -- what was made is the schema that the bytes state
-pub made_schema : (bytes : List ℕ) (s : FoundSchema) → StatesNamed bytes s → NamesItsEntityTypes s → IsSound s → (label : List ℕ) → label ≡ encode_lower (sha256 bytes) → (t : Types) (h : Hierarchies)
+pub made_schema : (bytes : List ℕ) (s : ResolvedSchema) → StatesNamed bytes s → NamesItsEntityTypes s → IsSound s → (label : List ℕ) → label ≡ encode_lower (sha256 bytes) → (t : Types) (h : Hierarchies)
     → AreTypesOf s.commons s t → AreHierarchiesOf s h → IsSchemaOf bytes (schema_view (kept label t.environments h.actions t.shapes h.members h.above.numbers h.above.spans h.types.numbers h.types.spans))
 made_schema bytes s states own sound label is t h types hierarchies = record {
   named = s;

@@ -21,7 +21,7 @@ use Rattle.schema_types.specs.Qualified.{Qualified}
 use Rattle.schema_types.specs.Cedar.{Cedar, record_of, no_fields}
 use Rattle.schema_types.specs.Law.{TypesStandForOneOrSomeForNone}
 use Rattle.schema_types.specs.declared.fault.SchemaFault.{SchemaFault}
-use Rattle.schema_names.specs.Qualifying.{FoundEntityType, FoundUse, FoundAction, FoundSchema}
+use Rattle.schema_names.specs.Qualifying.{ResolvedEntityType, ResolvedUse, ResolvedAction, ResolvedSchema}
 use Rattle.schema_names.specs.Naming.{StatesNamed}
 use Rattle.schema_names.specs.Laws as names
 use Rattle.schema.specs.declared.parts.Place.{Place}
@@ -80,32 +80,32 @@ grid_to action context (q ∷ ps) rs p r h i = by (Contains-cases q ps p h) (λ 
         (subst (λ (x : List ℕ). Contains (map (environment action context x) rs) (environment action context p r)) (sym same) (map_to (environment action context p) rs r i))
     by (inr later) rest = Contains-append_right (map (environment action context q) rs) (grid action context ps rs) (environment action context p r) (rest later)
 
-module _ (s : FoundSchema) (sound : IsSound s) where
+module _ (s : ResolvedSchema) (sound : IsSound s) where
   record_made : (o : Option Qualified) → ((r : Qualified) → o ≡ Some r → names.IsShapeOrContext s r) → (t : Cedar) × IsRecordOf s.commons o t
   record_made None is = (record_of no_fields, refl)
   record_made (Some r) is = let w = sound.is_written r (schemas.shape_or_context r (is r refl)) in (w.0, w.1)
 
   -- environments of these actions, and each of their places
-  abbrev Environments : List FoundAction → Type 0
+  abbrev Environments : List ResolvedAction → Type 0
   Environments us =
       (es : List EnvironmentOf) × ((e : EnvironmentOf) → Contains es e → IsEnvironment s e)
-      × ((a : FoundAction) → Contains us a → (u : FoundUse) → a.applies_to ≡ Some u → (p r : List ℕ) → Contains u.principals p → Contains u.resources r
+      × ((a : ResolvedAction) → Contains us a → (u : ResolvedUse) → a.applies_to ≡ Some u → (p r : List ℕ) → Contains u.principals p → Contains u.resources r
       → (e : EnvironmentOf) × Contains es e × (e.place ≡ place_of a.uid p r))
 
   -- those of one action
-  abbrev OfAction : FoundAction → Type 0
+  abbrev OfAction : ResolvedAction → Type 0
   OfAction a =
       (es : List EnvironmentOf) × ((e : EnvironmentOf) → Contains es e → IsEnvironment s e)
-      × ((u : FoundUse) → a.applies_to ≡ Some u → (p r : List ℕ) → Contains u.principals p → Contains u.resources r
+      × ((u : ResolvedUse) → a.applies_to ≡ Some u → (p r : List ℕ) → Contains u.principals p → Contains u.resources r
       → (e : EnvironmentOf) × Contains es e × (e.place ≡ place_of a.uid p r))
 
-  no_use : (u : FoundUse) {G : Type 0} → None ≡ Some u → G
+  no_use : (u : ResolvedUse) {G : Type 0} → None ≡ Some u → G
   no_use u e = absurd cc
 
-  use_same : (u v : FoundUse) → Some u ≡ Some v → u ≡ v
+  use_same : (u v : ResolvedUse) → Some u ≡ Some v → u ≡ v
   use_same u v e = cc
 
-  of_action : (a : FoundAction) → Contains s.actions a → (o : Option FoundUse) → a.applies_to ≡ o → OfAction a
+  of_action : (a : ResolvedAction) → Contains s.actions a → (o : Option ResolvedUse) → a.applies_to ≡ o → OfAction a
   unfolding environment
   of_action a here None is = ([], (λ e h. Contains-none e h), (λ u e p r h i. no_use u (sym is ∙ e)))
   of_action a here (Some u) is =
@@ -118,14 +118,14 @@ module _ (s : FoundSchema) (sound : IsSound s) where
         (λ v e p r h i.
             let same = use_same u v (sym is ∙ e) in
             at made.0 p r
-            (subst (λ (x : FoundUse). Contains x.principals p) (sym same) h)
-            (subst (λ (x : FoundUse). Contains x.resources r) (sym same) i)),
+            (subst (λ (x : ResolvedUse). Contains x.principals p) (sym same) h)
+            (subst (λ (x : ResolvedUse). Contains x.resources r) (sym same) i)),
       )
     where
       at : (t : Cedar) (p r : List ℕ) → Contains u.principals p → Contains u.resources r → (e : EnvironmentOf) × Contains (grid a.uid t u.principals u.resources) e × (e.place ≡ place_of a.uid p r)
       at t p r h i = (environment a.uid t p r, grid_to a.uid t u.principals u.resources p r h i, refl)
 
-  both_environments : (a : FoundAction) (us : List FoundAction) → OfAction a → Environments us → Environments (a ∷ us)
+  both_environments : (a : ResolvedAction) (us : List ResolvedAction) → OfAction a → Environments us → Environments (a ∷ us)
   both_environments a us one rest = (
     one.0 ++ rest.0,
     (λ e h. elim (Contains-append_cases one.0 rest.0 e h) [
@@ -134,33 +134,33 @@ module _ (s : FoundSchema) (sound : IsSound s) where
     ]),
     (λ b h u e p r i j. elim (Contains-cases a us b h) [
       | inl same ↦
-          let x = one.2 u (ap (λ (y : FoundAction). y.applies_to) same ∙ e) p r i j in
-          (x.0, Contains-append_left one.0 rest.0 x.0 x.1, x.2 ∙ ap (λ (y : FoundAction). place_of y.uid p r) same)
+          let x = one.2 u (ap (λ (y : ResolvedAction). y.applies_to) same ∙ e) p r i j in
+          (x.0, Contains-append_left one.0 rest.0 x.0 x.1, x.2 ∙ ap (λ (y : ResolvedAction). place_of y.uid p r) same)
       | inr later ↦ let x = rest.2 b later u e p r i j in (x.0, Contains-append_right one.0 rest.0 x.0 x.1, x.2)
     ]),
   )
 
-  environments_of : (us : List FoundAction) → ((a : FoundAction) → Contains us a → Contains s.actions a) → Environments us
+  environments_of : (us : List ResolvedAction) → ((a : ResolvedAction) → Contains us a → Contains s.actions a) → Environments us
   environments_of [] inside = ([], (λ e h. Contains-none e h), (λ a h u e p r i j. Contains-none a h))
   environments_of (a ∷ us) inside =
       both_environments a us (of_action a (inside a (Contains-here a us)) a.applies_to refl) (environments_of us (λ b h. inside b (Contains-there a us b h)))
 
   -- ---- shapes
 
-  abbrev Shapes : List FoundEntityType → Type 0
-  Shapes es = (e : FoundEntityType) → Contains es e → (t : Cedar) × IsRecordOf s.commons e.shape t
+  abbrev Shapes : List ResolvedEntityType → Type 0
+  Shapes es = (e : ResolvedEntityType) → Contains es e → (t : Cedar) × IsRecordOf s.commons e.shape t
 
-  shape_at : (es : List FoundEntityType) → Shapes es → List ℕ → Option Cedar
+  shape_at : (es : List ResolvedEntityType) → Shapes es → List ℕ → Option Cedar
   shape_at [] made n = None
   shape_at (e ∷ es) made n = cond (is_eq (text_cmp n e.name)) (Some (made e (Contains-here e es)).0) (shape_at es (λ x h. made x (Contains-there e es x h)) n)
 
   cedar_same : (t u : Cedar) → Some t ≡ Some u → t ≡ u
   cedar_same t u e = cc
 
-  abbrev Shape : List FoundEntityType → List ℕ → Cedar → Type 0
-  Shape es n t = (e : FoundEntityType) × Contains es e × (e.name ≡ n) × IsRecordOf s.commons e.shape t
+  abbrev Shape : List ResolvedEntityType → List ℕ → Cedar → Type 0
+  Shape es n t = (e : ResolvedEntityType) × Contains es e × (e.name ≡ n) × IsRecordOf s.commons e.shape t
 
-  shape_found : (es : List FoundEntityType) (made : Shapes es) (n : List ℕ) (t : Cedar) → shape_at es made n ≡ Some t → Shape es n t
+  shape_found : (es : List ResolvedEntityType) (made : Shapes es) (n : List ℕ) (t : Cedar) → shape_at es made n ≡ Some t → Shape es n t
   unfolding shape_at
   shape_found [] made n t h = absurd cc
   shape_found (e ∷ es) made n t h = by (is_eq (text_cmp n e.name)) refl (shape_found es (λ x i. made x (Contains-there e es x i)) n t) h
@@ -174,7 +174,7 @@ module _ (s : FoundSchema) (sound : IsSound s) where
           (e, Contains-here e es, sym (tells_apart text_cmp-IsAntisymmetric n e.name is), subst (λ (x : Cedar). IsRecordOf s.commons e.shape x) (cedar_same (made e (Contains-here e es)).0 t found) (made e (Contains-here e es)).1)
       by false is rest found = more (rest found)
 
-  shape_there : (es : List FoundEntityType) (made : Shapes es) (e : FoundEntityType) → Contains es e → IsSome (shape_at es made e.name)
+  shape_there : (es : List ResolvedEntityType) (made : Shapes es) (e : ResolvedEntityType) → Contains es e → IsSome (shape_at es made e.name)
   unfolding shape_at
   shape_there [] made e h = Contains-none e h
   shape_there (x ∷ es) made e h = by (is_eq (text_cmp e.name x.name)) refl (Contains-cases x es e h) (λ later. shape_there es (λ y i. made y (Contains-there x es y i)) e later)
@@ -189,7 +189,7 @@ module _ (s : FoundSchema) (sound : IsSound s) where
       by : (b : Bool) → is_eq (text_cmp e.name x.name) ≡ b → (x ≡ e) ⊎ Contains es e → (Contains es e → IsSome (shape_at es (λ y i. made y (Contains-there x es y i)) e.name))
           → IsSome (cond b (Some (made x (Contains-here x es)).0) (shape_at es (λ y i. made y (Contains-there x es y i)) e.name))
       by true is where_it_is rest = refl
-      by false is (inl same) rest = clash (is_eq (text_cmp e.name x.name)) is (tied x.name e.name (ap (λ (y : FoundEntityType). y.name) same))
+      by false is (inl same) rest = clash (is_eq (text_cmp e.name x.name)) is (tied x.name e.name (ap (λ (y : ResolvedEntityType). y.name) same))
       by false is (inr later) rest = rest later
 
   -- ---- the schema
@@ -299,7 +299,7 @@ module _ (s : FoundSchema) (sound : IsSound s) where
 pub some_outcome : names.SomeOutcome → names.FilesDeclareOnce → names.FilesNameTheirOwn → TypesStandForOneOrSomeForNone → PathsAreDecided → SomeOutcome
 some_outcome some once own ends decided bytes = by (some bytes)
   where
-    told : (s : FoundSchema) → StatesNamed bytes s → IsSound s ⊎ ((f : SchemaFault) × IsUnsound s f) → SchemaOrRefusal bytes
+    told : (s : ResolvedSchema) → StatesNamed bytes s → IsSound s ⊎ ((f : SchemaFault) × IsUnsound s f) → SchemaOrRefusal bytes
     told s states (inl sound) = outcomes.states (built s sound decided bytes) (built_schema s sound decided bytes states)
     told s states (inr (f, unsound)) = outcomes.refused f (schemas.unsound s f states unsound)
 

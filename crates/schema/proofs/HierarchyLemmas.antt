@@ -6,19 +6,19 @@ use Rattle.values.specs.declared.entity_uid.EntityUid.{EntityUid}
 use Rattle.values.specs.Names.{uid_cmp}
 use Rattle.ancestor_search.specs.Hierarchy.{Parents, Path, IsAncestor, no_parents, with_parents}
 use Rattle.ancestor_search.specs.Deciding.{Contains-here, Contains-there, Contains-cases, Contains-none, same_uid}
-use Rattle.schema_names.specs.Qualifying.{FoundEntityType, FoundAction, FoundSchema}
+use Rattle.schema_names.specs.Qualifying.{ResolvedEntityType, ResolvedAction, ResolvedSchema}
 use Rattle.schema_names.specs.Laws.{IsEntityType, NamesItsEntityTypes}
 use Rattle.schema.specs.Schemas.{type_uid, with_types, with_actions, type_parents}
 
 -- ---- who has parents
 
-declared_at : (e : FoundEntityType) (old : List EntityUid) (u a : EntityUid) (b : Bool) → is_eq (uid_cmp (type_uid e.name) u) ≡ b
+declared_at : (e : ResolvedEntityType) (old : List EntityUid) (u a : EntityUid) (b : Bool) → is_eq (uid_cmp (type_uid e.name) u) ≡ b
     → Contains (cond b (map type_uid e.parents) old) a → (type_uid e.name ≡ u) ⊎ Contains old a
 declared_at e old u a true same h = inl (same_uid (type_uid e.name) u same)
 declared_at e old u a false apart h = inr h
 
-pub has_parent : (parents : Parents) (es : List FoundEntityType) (u a : EntityUid) → Contains (with_types parents es u) a
-    → ((e : FoundEntityType) × Contains es e × (type_uid e.name ≡ u)) ⊎ Contains (parents u) a
+pub has_parent : (parents : Parents) (es : List ResolvedEntityType) (u a : EntityUid) → Contains (with_types parents es u) a
+    → ((e : ResolvedEntityType) × Contains es e × (type_uid e.name ≡ u)) ⊎ Contains (parents u) a
 has_parent parents [] u a h = inr h
 has_parent parents (e ∷ es) u a h = elim (has_parent (with_parents parents (type_uid e.name) (map type_uid e.parents)) es u a h) [
   | inl found ↦ inl (found.0, Contains-there e es found.0 found.1, found.2)
@@ -33,7 +33,7 @@ first_edge parents b [] a h = (a, h)
 first_edge parents b (c ∷ cs) a h = (c, h.0)
 
 -- what has something above it is declared
-pub is_declared : (es : List FoundEntityType) (b a : EntityUid) → IsAncestor (with_types no_parents es) a b → (e : FoundEntityType) × Contains es e × (type_uid e.name ≡ b)
+pub is_declared : (es : List ResolvedEntityType) (b a : EntityUid) → IsAncestor (with_types no_parents es) a b → (e : ResolvedEntityType) × Contains es e × (type_uid e.name ≡ b)
 is_declared es b a h =
     let edge = first_edge (with_types no_parents es) b h.0 a h.1 in
     elim (has_parent no_parents es b edge.0 edge.1) [
@@ -42,11 +42,11 @@ is_declared es b a h =
     ]
 
 -- an edge is one that is stated
-edge_at : (e : FoundEntityType) (old : List EntityUid) (a : EntityUid) (b : Bool) → Contains (cond b (map type_uid e.parents) old) a → Contains (map type_uid e.parents) a ⊎ Contains old a
+edge_at : (e : ResolvedEntityType) (old : List EntityUid) (a : EntityUid) (b : Bool) → Contains (cond b (map type_uid e.parents) old) a → Contains (map type_uid e.parents) a ⊎ Contains old a
 edge_at e old a true h = inl h
 edge_at e old a false h = inr h
 
-edge_from : (parents : Parents) (es : List FoundEntityType) (u a : EntityUid) → Contains (with_types parents es u) a → ((e : FoundEntityType) × Contains es e × Contains (map type_uid e.parents) a) ⊎ Contains (parents u) a
+edge_from : (parents : Parents) (es : List ResolvedEntityType) (u a : EntityUid) → Contains (with_types parents es u) a → ((e : ResolvedEntityType) × Contains es e × Contains (map type_uid e.parents) a) ⊎ Contains (parents u) a
 edge_from parents [] u a h = inr h
 edge_from parents (e ∷ es) u a h = elim (edge_from (with_parents parents (type_uid e.name) (map type_uid e.parents)) es u a h) [
   | inl found ↦ inl (found.0, Contains-there e es found.0 found.1, found.2)
@@ -56,18 +56,18 @@ edge_from parents (e ∷ es) u a h = elim (edge_from (with_parents parents (type
   ]
 ]
 
-pub type_edge : (es : List FoundEntityType) (u a : EntityUid) → Contains (with_types no_parents es u) a → (e : FoundEntityType) × Contains es e × Contains (map type_uid e.parents) a
+pub type_edge : (es : List ResolvedEntityType) (u a : EntityUid) → Contains (with_types no_parents es u) a → (e : ResolvedEntityType) × Contains es e × Contains (map type_uid e.parents) a
 type_edge es u a h = elim (edge_from no_parents es u a h) [
   | inl found ↦ found
   | inr none ↦ Contains-none a none
 ]
 
 -- and so it is of actions
-action_edge_at : (x : FoundAction) (old : List EntityUid) (a : EntityUid) (b : Bool) → Contains (cond b x.parents old) a → Contains x.parents a ⊎ Contains old a
+action_edge_at : (x : ResolvedAction) (old : List EntityUid) (a : EntityUid) (b : Bool) → Contains (cond b x.parents old) a → Contains x.parents a ⊎ Contains old a
 action_edge_at x old a true h = inl h
 action_edge_at x old a false h = inr h
 
-action_edge_from : (parents : Parents) (xs : List FoundAction) (u a : EntityUid) → Contains (with_actions parents xs u) a → ((x : FoundAction) × Contains xs x × Contains x.parents a) ⊎ Contains (parents u) a
+action_edge_from : (parents : Parents) (xs : List ResolvedAction) (u a : EntityUid) → Contains (with_actions parents xs u) a → ((x : ResolvedAction) × Contains xs x × Contains x.parents a) ⊎ Contains (parents u) a
 action_edge_from parents [] u a h = inr h
 action_edge_from parents (x ∷ xs) u a h = elim (action_edge_from (with_parents parents x.uid x.parents) xs u a h) [
   | inl found ↦ inl (found.0, Contains-there x xs found.0 found.1, found.2)
@@ -77,7 +77,7 @@ action_edge_from parents (x ∷ xs) u a h = elim (action_edge_from (with_parents
   ]
 ]
 
-pub action_edge : (xs : List FoundAction) (u a : EntityUid) → Contains (with_actions no_parents xs u) a → (x : FoundAction) × Contains xs x × Contains x.parents a
+pub action_edge : (xs : List ResolvedAction) (u a : EntityUid) → Contains (with_actions no_parents xs u) a → (x : ResolvedAction) × Contains xs x × Contains x.parents a
 action_edge xs u a h = elim (action_edge_from no_parents xs u a h) [
   | inl found ↦ found
   | inr none ↦ Contains-none a none
@@ -96,8 +96,8 @@ pub last_edge : (parents : Parents) (b : EntityUid) (through : List EntityUid) (
 last_edge parents b [] a h = (b, h)
 last_edge parents b (c ∷ cs) a h = last_edge parents c cs a h.1
 
-module _ (s : FoundSchema) (own : NamesItsEntityTypes s) where
-  parent_declared : (e : FoundEntityType) (above : List ℕ) → Contains s.entity_types e → (x : List ℕ) × Contains e.parents x × (type_uid x ≡ type_uid above) → IsEntityType s above
+module _ (s : ResolvedSchema) (own : NamesItsEntityTypes s) where
+  parent_declared : (e : ResolvedEntityType) (above : List ℕ) → Contains s.entity_types e → (x : List ℕ) × Contains e.parents x × (type_uid x ≡ type_uid above) → IsEntityType s above
   parent_declared e above here (x, there, same) = subst (λ (q : List ℕ). IsEntityType s q) (ap (λ (u : EntityUid). u.type_name) same) (own.parents e here x there)
 
   pub above_declared : (child above : List ℕ) → IsAncestor (type_parents s) (type_uid above) (type_uid child) → IsEntityType s above
@@ -106,7 +106,7 @@ module _ (s : FoundSchema) (own : NamesItsEntityTypes s) where
       let e = type_edge s.entity_types edge.0 (type_uid above) edge.1 in
       parent_declared e.0 above e.1 (contains_map type_uid e.0.parents (type_uid above) e.2)
 
-pub below_declared : (s : FoundSchema) (child above : List ℕ) → IsAncestor (type_parents s) (type_uid above) (type_uid child) → IsEntityType s child
+pub below_declared : (s : ResolvedSchema) (child above : List ℕ) → IsAncestor (type_parents s) (type_uid above) (type_uid child) → IsEntityType s child
 below_declared s child above h =
     let e = is_declared s.entity_types (type_uid child) (type_uid above) h in
     (e.0, e.1, ap (λ (u : EntityUid). u.type_name) e.2)

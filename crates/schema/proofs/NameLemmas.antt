@@ -23,11 +23,11 @@ use Rattle.schema_types.specs.Raw.{Raw}
 use Rattle.schema_types.specs.Qualified.{Qualified}
 use Rattle.schema_types.specs.Optional.{optional}
 use Rattle.schema_names.specs.schema_file.declared.stated.StatedParent.{StatedParent}
-use Rattle.schema_names.specs.schema_file.Stated.{EntityTypeOf, ActionOf, NamespaceOf, members_in, ident}
-use Rattle.schema_names.specs.schema_file.Stated.{entity_type_name, entity_type_of, names_in, type_in, namespace_name}
-use Rattle.schema_names.specs.schema_file.Stated.{namespace_of, commons_in, entity_types_in, actions_in}
-use Rattle.schema_names.specs.schema_file.Stated.{entity_types_of, namespaces_of, stated}
-use Rattle.schema_names.specs.Qualifying.{FoundUse, FoundAction, FoundEntityType, FoundSchema, all_of, scope_in}
+use Rattle.schema_names.specs.schema_file.FileForm.{EntityTypeOf, ActionOf, NamespaceOf, members_in, ident}
+use Rattle.schema_names.specs.schema_file.FileForm.{entity_type_name, entity_type_of, names_in, type_in, namespace_name}
+use Rattle.schema_names.specs.schema_file.FileForm.{namespace_of, commons_in, entity_types_in, actions_in}
+use Rattle.schema_names.specs.schema_file.FileForm.{entity_types_of, namespaces_of, stated}
+use Rattle.schema_names.specs.Qualifying.{ResolvedUse, ResolvedAction, ResolvedEntityType, ResolvedSchema, all_of, scope_in}
 use Rattle.schema_names.specs.Qualifying.{is_action_in, actions_declared, type_named, entity_types_named, use_named}
 use Rattle.schema_names.specs.Qualifying.{action_meant, action_meant_at, parent_named, parents_named}
 use Rattle.schema_names.specs.Qualifying.{qualified_entity_type, qualified_action, qualified_commons}
@@ -231,42 +231,42 @@ stated_words d ns h n there e c =
 
 -- ---- a namespace with each name found
 
-record IsFound (s : Scope) (is_action : EntityUid → Bool) (n : NamespaceOf) (part : FoundSchema) : Type 0 where
+record IsFound (s : Scope) (is_action : EntityUid → Bool) (n : NamespaceOf) (part : ResolvedSchema) : Type 0 where
   entity_types : qualified_entity_types s n.name n.entity_types ≡ Ok part.entity_types
   actions : qualified_actions s is_action n.name n.actions ≡ Ok part.actions
 
-is_found : (s : Scope) (is_action : EntityUid → Bool) (n : NamespaceOf) (part : FoundSchema) → qualified_namespace s is_action n ≡ Ok part → IsFound s is_action n part
+is_found : (s : Scope) (is_action : EntityUid → Bool) (n : NamespaceOf) (part : ResolvedSchema) → qualified_namespace s is_action n ≡ Ok part → IsFound s is_action n part
 unfolding qualified_namespace
 is_found s is_action n part h =
-    let one = bound (qualified_commons s n.name n.commons) (λ (commons : List (List ℕ × Qualified)). qualified_entity_types s n.name n.entity_types >>= λ (types : List FoundEntityType). qualified_actions s is_action n.name n.actions >>= λ (actions : List FoundAction). Ok (record { commons = commons; entity_types = types; actions = actions })) part h in
-    let two = bound (qualified_entity_types s n.name n.entity_types) (λ (types : List FoundEntityType). qualified_actions s is_action n.name n.actions >>= λ (actions : List FoundAction). Ok (record { commons = one.0; entity_types = types; actions = actions })) part one.2 in
-    let three = bound (qualified_actions s is_action n.name n.actions) (λ (actions : List FoundAction). Ok (record { commons = one.0; entity_types = two.0; actions = actions })) part two.2 in
-    let made : FoundSchema = record { commons = one.0; entity_types = two.0; actions = three.0 } in
+    let one = bound (qualified_commons s n.name n.commons) (λ (commons : List (List ℕ × Qualified)). qualified_entity_types s n.name n.entity_types >>= λ (types : List ResolvedEntityType). qualified_actions s is_action n.name n.actions >>= λ (actions : List ResolvedAction). Ok (record { commons = commons; entity_types = types; actions = actions })) part h in
+    let two = bound (qualified_entity_types s n.name n.entity_types) (λ (types : List ResolvedEntityType). qualified_actions s is_action n.name n.actions >>= λ (actions : List ResolvedAction). Ok (record { commons = one.0; entity_types = types; actions = actions })) part one.2 in
+    let three = bound (qualified_actions s is_action n.name n.actions) (λ (actions : List ResolvedAction). Ok (record { commons = one.0; entity_types = two.0; actions = actions })) part two.2 in
+    let made : ResolvedSchema = record { commons = one.0; entity_types = two.0; actions = three.0 } in
     let same : made ≡ part = cc (three.2) in
-    subst (λ (p : FoundSchema). IsFound s is_action n p) same (record { entity_types = two.1; actions = three.1 })
+    subst (λ (p : ResolvedSchema). IsFound s is_action n p) same (record { entity_types = two.1; actions = three.1 })
 
-entity_type_found : (s : Scope) (own : Option (List ℕ)) (e : EntityTypeOf) (f : FoundEntityType) → qualified_entity_type s own e ≡ Ok f → f.name ≡ full_name own e.name
+entity_type_found : (s : Scope) (own : Option (List ℕ)) (e : EntityTypeOf) (f : ResolvedEntityType) → qualified_entity_type s own e ≡ Ok f → f.name ≡ full_name own e.name
 unfolding qualified_entity_type
 entity_type_found s own e f h =
     let one = bound (entity_types_named s own e.parents) (λ (parents : List (List ℕ)). type_named s own e.shape >>= λ (shape : Option Qualified). Ok (record { name = full_name own e.name; parents = parents; shape = shape })) f h in
     let two = bound (type_named s own e.shape) (λ (shape : Option Qualified). Ok (record { name = full_name own e.name; parents = one.0; shape = shape })) f one.2 in
-    let made : FoundEntityType = record { name = full_name own e.name; parents = one.0; shape = two.0 } in
+    let made : ResolvedEntityType = record { name = full_name own e.name; parents = one.0; shape = two.0 } in
     let same : made ≡ f = cc (two.2) in
-    ap (λ (x : FoundEntityType). x.name) (sym same)
+    ap (λ (x : ResolvedEntityType). x.name) (sym same)
 
 -- an action as it was stated: its uid, and its parents
-record IsStated (is_action : EntityUid → Bool) (own : Option (List ℕ)) (a : ActionOf) (f : FoundAction) : Type 0 where
+record IsStated (is_action : EntityUid → Bool) (own : Option (List ℕ)) (a : ActionOf) (f : ResolvedAction) : Type 0 where
   uid : f.uid ≡ action_uid (action_type own) a.id
   parents : parents_named is_action own a.parents ≡ Ok f.parents
 
-action_found : (s : Scope) (is_action : EntityUid → Bool) (own : Option (List ℕ)) (a : ActionOf) (f : FoundAction) → qualified_action s is_action own a ≡ Ok f → IsStated is_action own a f
+action_found : (s : Scope) (is_action : EntityUid → Bool) (own : Option (List ℕ)) (a : ActionOf) (f : ResolvedAction) → qualified_action s is_action own a ≡ Ok f → IsStated is_action own a f
 unfolding qualified_action
 action_found s is_action own a f h =
-    let one = bound (parents_named is_action own a.parents) (λ (parents : List EntityUid). use_named s own a.applies_to >>= λ (applies_to : Option FoundUse). Ok (record { uid = action_uid (action_type own) a.id; parents = parents; applies_to = applies_to })) f h in
-    let two = bound (use_named s own a.applies_to) (λ (applies_to : Option FoundUse). Ok (record { uid = action_uid (action_type own) a.id; parents = one.0; applies_to = applies_to })) f one.2 in
-    let made : FoundAction = record { uid = action_uid (action_type own) a.id; parents = one.0; applies_to = two.0 } in
+    let one = bound (parents_named is_action own a.parents) (λ (parents : List EntityUid). use_named s own a.applies_to >>= λ (applies_to : Option ResolvedUse). Ok (record { uid = action_uid (action_type own) a.id; parents = parents; applies_to = applies_to })) f h in
+    let two = bound (use_named s own a.applies_to) (λ (applies_to : Option ResolvedUse). Ok (record { uid = action_uid (action_type own) a.id; parents = one.0; applies_to = applies_to })) f one.2 in
+    let made : ResolvedAction = record { uid = action_uid (action_type own) a.id; parents = one.0; applies_to = two.0 } in
     let same : made ≡ f = cc (two.2) in
-    subst (λ (x : FoundAction). IsStated is_action own a x) same (record { uid = refl; parents = one.1 })
+    subst (λ (x : ResolvedAction). IsStated is_action own a x) same (record { uid = refl; parents = one.1 })
 
 -- ---- a parent that is named is declared
 
@@ -303,29 +303,29 @@ parent_is is_action own p u h = meant_at is_action own p.type_name p.id u (some_
 
 -- ---- the whole file
 
-pub record AreNamed (s : FoundSchema) : Type 0 where
-  pub actions : (a : FoundAction) → Contains s.actions a → IsActionType a.uid.type_name
-  pub parents : (a : FoundAction) → Contains s.actions a → (w : EntityUid) → Contains a.parents w → IsAction s w
-  pub entity_types : (e : FoundEntityType) → Contains s.entity_types e → IsActionType e.name → ⊥
+pub record AreNamed (s : ResolvedSchema) : Type 0 where
+  pub actions : (a : ResolvedAction) → Contains s.actions a → IsActionType a.uid.type_name
+  pub parents : (a : ResolvedAction) → Contains s.actions a → (w : EntityUid) → Contains a.parents w → IsAction s w
+  pub entity_types : (e : ResolvedEntityType) → Contains s.entity_types e → IsActionType e.name → ⊥
 
-module _ (ns : List NamespaceOf) (parts : List FoundSchema) (all : qualified_namespaces (scope_in ns) (is_action_in ns) ns ≡ Ok parts) where
-  part_from : (p : FoundSchema) → Contains parts p → (n : NamespaceOf) × Contains ns n × IsFound (scope_in ns) (is_action_in ns) n p
+module _ (ns : List NamespaceOf) (parts : List ResolvedSchema) (all : qualified_namespaces (scope_in ns) (is_action_in ns) ns ≡ Ok parts) where
+  part_from : (p : ResolvedSchema) → Contains parts p → (n : NamespaceOf) × Contains ns n × IsFound (scope_in ns) (is_action_in ns) n p
   unfolding qualified_namespaces
   part_from p c =
       let from = each_from (λ i n. qualified_namespace (scope_in ns) (is_action_in ns) n) 0 ns parts all p c in
       (from.1, from.2, is_found (scope_in ns) (is_action_in ns) from.1 p from.3)
 
-  part_to : (n : NamespaceOf) → Contains ns n → (p : FoundSchema) × Contains parts p × IsFound (scope_in ns) (is_action_in ns) n p
+  part_to : (n : NamespaceOf) → Contains ns n → (p : ResolvedSchema) × Contains parts p × IsFound (scope_in ns) (is_action_in ns) n p
   unfolding qualified_namespaces
   part_to n c =
       let to = each_to (λ i x. qualified_namespace (scope_in ns) (is_action_in ns) x) 0 ns parts all n c in
       (to.1, to.2, is_found (scope_in ns) (is_action_in ns) n to.1 to.3)
 
   -- an action of the file, with its namespace
-  action_from : (f : FoundAction) → Contains (together parts).actions f → (n : NamespaceOf) × (a : ActionOf) × IsStated (is_action_in ns) n.name a f
+  action_from : (f : ResolvedAction) → Contains (together parts).actions f → (n : NamespaceOf) × (a : ActionOf) × IsStated (is_action_in ns) n.name a f
   unfolding qualified_actions
   action_from f c =
-      let at = from_all (λ (p : FoundSchema). p.actions) parts f c in
+      let at = from_all (λ (p : ResolvedSchema). p.actions) parts f c in
       let n = part_from at.0 at.1 in
       let from = each_from (λ i x. qualified_action (scope_in ns) (is_action_in ns) n.0.name x) 0 n.0.actions at.0.actions n.2.actions f at.2 in
       (n.0, from.1, action_found (scope_in ns) (is_action_in ns) n.0.name from.1 f from.3)
@@ -338,7 +338,7 @@ module _ (ns : List NamespaceOf) (parts : List FoundSchema) (all : qualified_nam
       let p = part_to at.0 at.1 in
       let to = each_to (λ i x. qualified_action (scope_in ns) (is_action_in ns) at.0.name x) 0 at.0.actions p.0.actions p.2.actions a.0 a.1 in
       let is = action_found (scope_in ns) (is_action_in ns) at.0.name a.0 to.1 to.3 in
-      (to.1, to_all (λ (q : FoundSchema). q.actions) parts p.0 to.1 p.1 to.2, is.uid ∙ a.2)
+      (to.1, to_all (λ (q : ResolvedSchema). q.actions) parts p.0 to.1 p.1 to.2, is.uid ∙ a.2)
 
   declared_by : (u : EntityUid) → is_action_in ns u ≡ true → IsAction (together parts) u
   declared_by u h =
@@ -346,10 +346,10 @@ module _ (ns : List NamespaceOf) (parts : List FoundSchema) (all : qualified_nam
       declared_at u (subst (λ (x : EntityUid). Contains (actions_declared ns) x) (same_uid at.0 u at.2) at.1)
 
   entity_type_apart : ((n : NamespaceOf) → Contains ns n → (e : EntityTypeOf) → Contains n.entity_types e → IsTypeWord e.name)
-      → (f : FoundEntityType) → Contains (together parts).entity_types f → IsActionType f.name → ⊥
+      → (f : ResolvedEntityType) → Contains (together parts).entity_types f → IsActionType f.name → ⊥
   unfolding qualified_entity_types
   entity_type_apart words f c action =
-      let at = from_all (λ (p : FoundSchema). p.entity_types) parts f c in
+      let at = from_all (λ (p : ResolvedSchema). p.entity_types) parts f c in
       let n = part_from at.0 at.1 in
       let from = each_from (λ i x. qualified_entity_type (scope_in ns) n.0.name x) 0 n.0.entity_types at.0.entity_types n.2.entity_types f at.2 in
       let word = words n.0 n.1 from.1 from.2 in
@@ -369,9 +369,9 @@ module _ (ns : List NamespaceOf) (parts : List FoundSchema) (all : qualified_nam
     entity_types = entity_type_apart words;
   }
 
-pub names_of : (bytes : List ℕ) (s : FoundSchema) → StatesNamed bytes s → AreNamed s
+pub names_of : (bytes : List ℕ) (s : ResolvedSchema) → StatesNamed bytes s → AreNamed s
 unfolding qualified
 names_of bytes s is =
-    let a = bound (qualified_namespaces (scope_in is.namespaces) (is_action_in is.namespaces) is.namespaces) (λ (parts : List FoundSchema). Ok (together parts)) s is.named.found in
+    let a = bound (qualified_namespaces (scope_in is.namespaces) (is_action_in is.namespaces) is.namespaces) (λ (parts : List ResolvedSchema). Ok (together parts)) s is.named.found in
     let same : together a.0 ≡ s = cc (a.2) in
     subst AreNamed same (are_named is.namespaces a.0 a.1 (stated_words is.value is.namespaces is.shape))

@@ -19,7 +19,7 @@ use Rattle.values.specs.declared.entity_uid.EntityUid.{EntityUid}
 use Rattle.values.specs.Names.{uid_cmp, text_cmp, uid_cmp-IsAntisymmetric}
 use Rattle.ancestor_search.specs.Hierarchy.{Parents, Path, IsAncestor, IsAllAbove, names}
 use Rattle.ancestor_search.specs.Deciding.{Contains-here, Contains-there, Contains-cases, Contains-none}
-use Rattle.schema_names.specs.Qualifying.{FoundEntityType}
+use Rattle.schema_names.specs.Qualifying.{ResolvedEntityType}
 use Rattle.schema.specs.LookUps.{has_number_at}
 use Rattle.schema.specs.declared.numbering.Numbered.{Numbered}
 use Rattle.schema.specs.declared.type_numbers.TypeNumbers.{TypeNumbers}
@@ -341,10 +341,10 @@ names_end us i found whole le h = sym (append-nil (names found)) ∙ sym (ap (λ
 
 -- ---- entity types
 
-module _ (parents : Parents) (es : List FoundEntityType) (at : Numbers) (t : TypeNumbers) (all : NumbersAll (type_points es) at) (are : AreAbove parents at t.spans)
+module _ (parents : Parents) (es : List ResolvedEntityType) (at : Numbers) (t : TypeNumbers) (all : NumbersAll (type_points es) at) (are : AreAbove parents at t.spans)
     (named : AreNames at (type_points es) t.numbers) where
   point : (u : EntityUid) (n : List ℕ) → Contains (type_points es) u → u.type_name ≡ n → u ≡ type_uid n
-  point u n h e = let m = contains_map (λ (x : FoundEntityType). type_uid x.name) es u h in sym m.2 ∙ ap type_uid (ap (λ (v : EntityUid). v.type_name) m.2 ∙ e)
+  point u n h e = let m = contains_map (λ (x : ResolvedEntityType). type_uid x.name) es u h in sym m.2 ∙ ap type_uid (ap (λ (v : EntityUid). v.type_name) m.2 ∙ e)
 
   number_at : (n : List ℕ) (i : ℕ) → get text_cmp t.numbers n ≡ Some i → at (type_uid n) ≡ Some i
   number_at n i e = elim (named.sound n i e) [
@@ -352,15 +352,15 @@ module _ (parents : Parents) (es : List FoundEntityType) (at : Numbers) (t : Typ
     | inr none ↦ none_some none
   ]
 
-  type_there : (e : FoundEntityType) → Contains es e → IsSome (get text_cmp t.numbers e.name)
+  type_there : (e : ResolvedEntityType) → Contains es e → IsSome (get text_cmp t.numbers e.name)
   type_there e h =
       let here = inside es e h in
       named.all e.name (type_uid e.name, here, (refl, all (type_uid e.name) here))
     where
-      inside : (xs : List FoundEntityType) (x : FoundEntityType) → Contains xs x → Contains (type_points xs) (type_uid x.name)
+      inside : (xs : List ResolvedEntityType) (x : ResolvedEntityType) → Contains xs x → Contains (type_points xs) (type_uid x.name)
       inside [] x h = Contains-none x h
       inside (y ∷ ys) x h = elim (Contains-cases y ys x h) [
-        | inl same ↦ subst (λ (z : FoundEntityType). Contains (type_uid z.name ∷ type_points ys) (type_uid x.name)) (sym same) (Contains-here (type_uid x.name) (type_points ys))
+        | inl same ↦ subst (λ (z : ResolvedEntityType). Contains (type_uid z.name ∷ type_points ys) (type_uid x.name)) (sym same) (Contains-here (type_uid x.name) (type_points ys))
         | inr later ↦ Contains-there (type_uid y.name) (type_points ys) (type_uid x.name) (inside ys x later)
       ]
 

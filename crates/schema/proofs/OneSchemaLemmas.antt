@@ -15,7 +15,7 @@ use Rattle.schema_types.specs.Qualified.{Qualified}
 use Rattle.schema_types.specs.Cedar.{Cedar}
 use Rattle.schema_types.specs.Law.{OneWritten}
 use Rattle.schema_names.specs.schema_file.Once.{AreApart}
-use Rattle.schema_names.specs.Qualifying.{FoundEntityType, FoundUse, FoundAction, FoundSchema}
+use Rattle.schema_names.specs.Qualifying.{ResolvedEntityType, ResolvedUse, ResolvedAction, ResolvedSchema}
 use Rattle.schema_names.specs.Laws as names
 use Rattle.schema_names.specs.Laws.{DeclaresOnce}
 use Rattle.schema.specs.declared.parts.Place.{Place}
@@ -130,20 +130,20 @@ unfolding IsStrictlySortedBy
 in_order [] h = h
 in_order (e ∷ es) h = (all_below e.place es h.0, in_order es h.1)
 
-module _ (one : OneWritten) (lists : AscendingListsAreOne) (s : FoundSchema) (once : DeclaresOnce s) where
+module _ (one : OneWritten) (lists : AscendingListsAreOne) (s : ResolvedSchema) (once : DeclaresOnce s) where
   record_same : (o : Option Qualified) (t u : Cedar) → IsRecordOf s.commons o t → IsRecordOf s.commons o u → t ≡ u
   record_same None t u a b = a ∙ sym b
   record_same (Some r) t u a b = one s.commons once.commons r t u a b
 
-  use_same : (p : Place) (x y : FoundUse) → Applies s p x → Applies s p y → x ≡ y
+  use_same : (p : Place) (x y : ResolvedUse) → Applies s p x → Applies s p y → x ≡ y
   use_same p x y a b =
-      let action = apart_same (λ (z : FoundAction). z.uid) s.actions once.actions a.action b.action a.declared b.declared (a.is ∙ sym b.is) in
-      some_same x y (sym a.applies ∙ ap (λ (z : FoundAction). z.applies_to) action ∙ b.applies)
+      let action = apart_same (λ (z : ResolvedAction). z.uid) s.actions once.actions a.action b.action a.declared b.declared (a.is ∙ sym b.is) in
+      some_same x y (sym a.applies ∙ ap (λ (z : ResolvedAction). z.applies_to) action ∙ b.applies)
 
   environment_same : (e f : EnvironmentOf) → e.place ≡ f.place → IsEnvironment s e → IsEnvironment s f → e ≡ f
   environment_same e f at (x, a, is) (y, b, is') =
       let uses = use_same f.place x y (subst (λ (p : Place). Applies s p x) at a) b in
-      let contexts = record_same y.context e.context f.context (subst (λ (z : FoundUse). IsRecordOf s.commons z.context e.context) uses is) is' in
+      let contexts = record_same y.context e.context f.context (subst (λ (z : ResolvedUse). IsRecordOf s.commons z.context e.context) uses is) is' in
       λ i. record { place = at i; context = contexts i }
 
   there : (fs : List EnvironmentOf) → ((e : EnvironmentOf) → Contains fs e → IsEnvironment s e) → ((p : Place) → IsPlace s p → Contains (map (λ e. e.place) fs) p)
@@ -171,8 +171,8 @@ module _ (one : OneWritten) (lists : AscendingListsAreOne) (s : FoundSchema) (on
     shape_same n (Some t) (Some u) e f =
         let x = a.shapes n t e in
         let y = b.shapes n u f in
-        let same = apart_same (λ (z : FoundEntityType). z.name) s.entity_types once.entity_types x.0 y.0 x.1 y.1 (x.2 ∙ sym y.2) in
-        ap (λ (z : Cedar). Some z) (record_same y.0.shape t u (subst (λ (z : FoundEntityType). IsRecordOf s.commons z.shape t) same x.3) y.3)
+        let same = apart_same (λ (z : ResolvedEntityType). z.name) s.entity_types once.entity_types x.0 y.0 x.1 y.1 (x.2 ∙ sym y.2) in
+        ap (λ (z : Cedar). Some z) (record_same y.0.shape t u (subst (λ (z : ResolvedEntityType). IsRecordOf s.commons z.shape t) same x.3) y.3)
 
     member_of_same : (u : EntityUid) (o p : Option (List EntityUid)) → v.member_of u ≡ o → w.member_of u ≡ p → o ≡ p
     member_of_same u None None e f = refl
@@ -214,4 +214,4 @@ module _ (one : OneWritten) (lists : AscendingListsAreOne) (s : FoundSchema) (on
 pub one_schema : OneWritten → names.FilesDeclareOnce → AscendingListsAreOne → names.OneFile → OneSchema
 one_schema one once lists file bytes v w a b =
     let same = file bytes a.named b.named a.states b.states in
-    one_answer one lists b.named (once bytes b.named b.states) v w (subst (λ (s : FoundSchema). Answers s v) same a.answers) b.answers (a.label ∙ sym b.label)
+    one_answer one lists b.named (once bytes b.named b.states) v w (subst (λ (s : ResolvedSchema). Answers s v) same a.answers) b.answers (a.label ∙ sym b.label)

@@ -4,14 +4,14 @@ use Rattle.schema_types.specs.Qualified.{common}
 use Rattle.schema_types.specs.Cedar.{Cedar, IsTooLarge}
 use Rattle.schema_types.specs.Law.{OneWritten}
 use Rattle.schema_types.specs.declared.fault.SchemaFault.{SchemaFault}
-use Rattle.schema_names.specs.Qualifying.{FoundSchema}
+use Rattle.schema_names.specs.Qualifying.{ResolvedSchema}
 use Rattle.schema_names.specs.Laws as names
 use Rattle.schema_names.specs.Laws.{DeclaresOnce}
 use Rattle.schema.specs.Schemas as schemas
 use Rattle.schema.specs.Schemas.{StatedSchema, IsSound, IsUnsound, IsSchemaOf, RefusedFor}
 use Rattle.schema.specs.Outcomes.{NotBoth, OneRefusal}
 
-sound_or_not : OneWritten → (s : FoundSchema) → DeclaresOnce s → IsSound s → (f : SchemaFault) → IsUnsound s f → ⊥
+sound_or_not : OneWritten → (s : ResolvedSchema) → DeclaresOnce s → IsSound s → (f : SchemaFault) → IsUnsound s f → ⊥
 sound_or_not one s once sound _ (schemas.type_cycle endless) =
     let at = sound.is_written (common endless.name) (schemas.common endless.name endless.type endless.declared) in
     endless.stands_for_none at.0 at.1
@@ -23,12 +23,12 @@ sound_or_not one s once sound _ (schemas.too_large ends no_cycle large) =
 schema_or_not : OneWritten → names.FilesDeclareOnce → names.OneFile → names.NotBoth → (bytes : List ℕ) (v : StatedSchema) (f : SchemaFault) → IsSchemaOf bytes v → RefusedFor bytes f → ⊥
 schema_or_not one once file both bytes v _ is (schemas.naming f refused) = both bytes is.named f is.states refused
 schema_or_not one once file both bytes v _ is (schemas.unsound s f states unsound) =
-    sound_or_not one is.named (once bytes is.named is.states) is.sound f (subst (λ (t : FoundSchema). IsUnsound t f) (file bytes s is.named states is.states) unsound)
+    sound_or_not one is.named (once bytes is.named is.states) is.sound f (subst (λ (t : ResolvedSchema). IsUnsound t f) (file bytes s is.named states is.states) unsound)
 
 pub never_both : OneWritten → names.FilesDeclareOnce → names.OneFile → names.NotBoth → NotBoth
 never_both one once file both bytes v f is refused = schema_or_not one once file both bytes v f is refused
 
-one_cause : (s : FoundSchema) (f g : SchemaFault) → IsUnsound s f → IsUnsound s g → f ≡ g
+one_cause : (s : ResolvedSchema) (f g : SchemaFault) → IsUnsound s f → IsUnsound s g → f ≡ g
 one_cause s _ _ (schemas.type_cycle a) (schemas.type_cycle b) = refl
 one_cause s _ _ (schemas.type_cycle a) (schemas.action_cycle ends b) = absurd (ends a)
 one_cause s _ _ (schemas.type_cycle a) (schemas.too_large ends no_cycle b) = absurd (ends a)
@@ -44,7 +44,7 @@ cause_of file both once bytes _ _ (schemas.naming f a) (schemas.naming g b) = on
 cause_of file both once bytes _ _ (schemas.naming f a) (schemas.unsound s g states b) = absurd (both bytes s f states a)
 cause_of file both once bytes _ _ (schemas.unsound s f states a) (schemas.naming g b) = absurd (both bytes s g states b)
 cause_of file both once bytes _ _ (schemas.unsound s f states a) (schemas.unsound t g states' b) =
-    one_cause t f g (subst (λ (x : FoundSchema). IsUnsound x f) (file bytes s t states states') a) b
+    one_cause t f g (subst (λ (x : ResolvedSchema). IsUnsound x f) (file bytes s t states states') a) b
 
 pub one_cause_only : names.OneFile → names.NotBoth → names.OneRefusal → OneRefusal
 one_cause_only file both once bytes f g a b = cause_of file both once bytes f g a b

@@ -19,7 +19,7 @@ use Rattle.schema_types.specs.Law.{TypesStandForOneOrSomeForNone}
 use Rattle.schema_types.specs.Outcome.{SomeStandsForNone}
 use Rattle.schema_types.specs.declared.fault.SchemaFault.{SchemaFault}
 use Rattle.schema_types.specs.declared.fault.SchemaFault.TheVariants.{TypeCycle, ActionCycle, TypeTooLarge}
-use Rattle.schema_names.specs.Qualifying.{FoundEntityType, FoundUse, FoundAction, FoundSchema}
+use Rattle.schema_names.specs.Qualifying.{ResolvedEntityType, ResolvedUse, ResolvedAction, ResolvedSchema}
 use Rattle.schema_names.specs.Laws as names
 use Rattle.schema_names.specs.Laws.{DeclaresOnce, NamesItsOwn}
 use Rattle.schema.specs.Schemas as schemas
@@ -124,14 +124,14 @@ last_edge parents b [] a h = (b, h)
 last_edge parents b (c ∷ cs) a h = last_edge parents c cs a h.1
 
 -- an action that gives b this parent
-abbrev HasParent : List FoundAction → EntityUid → EntityUid → Type 0
-HasParent us b a = (x : FoundAction) × Contains us x × (x.uid ≡ b) × Contains x.parents a
+abbrev HasParent : List ResolvedAction → EntityUid → EntityUid → Type 0
+HasParent us b a = (x : ResolvedAction) × Contains us x × (x.uid ≡ b) × Contains x.parents a
 
-given_at : (x : FoundAction) (old : List EntityUid) (b a : EntityUid) (same : Bool) → is_eq (uid_cmp x.uid b) ≡ same → Contains (cond same x.parents old) a → ((x.uid ≡ b) × Contains x.parents a) ⊎ Contains old a
+given_at : (x : ResolvedAction) (old : List EntityUid) (b a : EntityUid) (same : Bool) → is_eq (uid_cmp x.uid b) ≡ same → Contains (cond same x.parents old) a → ((x.uid ≡ b) × Contains x.parents a) ⊎ Contains old a
 given_at x old b a true e h = inl (same_uid x.uid b e, h)
 given_at x old b a false e h = inr h
 
-edge_given : (parents : Parents) (us : List FoundAction) (b a : EntityUid) → Contains (with_actions parents us b) a → HasParent us b a ⊎ Contains (parents b) a
+edge_given : (parents : Parents) (us : List ResolvedAction) (b a : EntityUid) → Contains (with_actions parents us b) a → HasParent us b a ⊎ Contains (parents b) a
 edge_given parents [] b a h = inr h
 edge_given parents (x ∷ us) b a h = by (edge_given (with_parents parents x.uid x.parents) us b a h)
   where
@@ -143,22 +143,22 @@ edge_given parents (x ∷ us) b a h = by (edge_given (with_parents parents x.uid
     by (inl (y, there, same, inside)) = inl (y, Contains-there x us y there, same, inside)
     by (inr before) = here (given_at x (parents b) b a (is_eq (uid_cmp x.uid b)) refl before)
 
-abbrev pub uids_of : List FoundAction → List EntityUid
+abbrev pub uids_of : List ResolvedAction → List EntityUid
 uids_of us = map (λ x. x.uid) us
 
-abbrev ends_of : List FoundAction → List EntityUid
+abbrev ends_of : List ResolvedAction → List EntityUid
 ends_of [] = []
 ends_of (x ∷ us) = x.parents ++ ends_of us
 
-in_ends : (us : List FoundAction) (x : FoundAction) (a : EntityUid) → Contains us x → Contains x.parents a → Contains (ends_of us) a
+in_ends : (us : List ResolvedAction) (x : ResolvedAction) (a : EntityUid) → Contains us x → Contains x.parents a → Contains (ends_of us) a
 in_ends [] x a h i = Contains-none x h
 in_ends (y ∷ us) x a h i = by (Contains-cases y us x h) (λ later. in_ends us x a later i)
   where
     by : (y ≡ x) ⊎ Contains us x → (Contains us x → Contains (ends_of us) a) → Contains (y.parents ++ ends_of us) a
-    by (inl same) rest = Contains-append_left y.parents (ends_of us) a (subst (λ (z : FoundAction). Contains z.parents a) (sym same) i)
+    by (inl same) rest = Contains-append_left y.parents (ends_of us) a (subst (λ (z : ResolvedAction). Contains z.parents a) (sym same) i)
     by (inr later) rest = Contains-append_right y.parents (ends_of us) a (rest later)
 
-module _ (us : List FoundAction) where
+module _ (us : List ResolvedAction) where
   abbrev edges : Parents
   edges = with_actions no_parents us
 
@@ -211,16 +211,16 @@ module _ (us : List FoundAction) where
         by (inl (u, h, cycle)) = inl (u, cycle)
         by (inr none) = inr (λ c. let edge = first_edge edges c.0 c.1.0 c.0 c.1.1 in none c.0 (uids_stored c.0 edge.0 edge.1) c.1)
 
-pub types_stored : (es : List FoundEntityType) → HaveAllParents (with_types no_parents es) (map (λ e. type_uid e.name) es)
+pub types_stored : (es : List ResolvedEntityType) → HaveAllParents (with_types no_parents es) (map (λ e. type_uid e.name) es)
 types_stored es b a h = by (has_parent no_parents es b a h)
   where
-    by : ((e : FoundEntityType) × Contains es e × (type_uid e.name ≡ b)) ⊎ Contains (no_parents b) a → Contains (map (λ e. type_uid e.name) es) b
+    by : ((e : ResolvedEntityType) × Contains es e × (type_uid e.name ≡ b)) ⊎ Contains (no_parents b) a → Contains (map (λ e. type_uid e.name) es) b
     by (inl (e, here, same)) = subst (λ (u : EntityUid). Contains (map (λ x. type_uid x.name) es) u) same (map_to (λ x. type_uid x.name) es e here)
     by (inr none) = Contains-none a none
 
 -- ---- is the file sound?
 
-module _ (s : FoundSchema) (ends : TypesStandForOneOrSomeForNone) (once : DeclaresOnce s) (own : NamesItsOwn s) where
+module _ (s : ResolvedSchema) (ends : TypesStandForOneOrSomeForNone) (once : DeclaresOnce s) (own : NamesItsOwn s) where
   common_closed : (d : List ℕ × Qualified) → Contains s.commons d → IsClosed s.commons (qualified.common d.0)
   common_closed d h q m = (d.1, subst (λ (x : List ℕ). Declares s.commons x d.1) m (inside_declared s.commons d h))
 
@@ -262,35 +262,35 @@ module _ (s : FoundSchema) (ends : TypesStandForOneOrSomeForNone) (once : Declar
         by (inl large) = inl large
         by (inr w) = inr (λ q e. subst (λ (x : Qualified). IsWritten s.commons x) (some_same r q e) w)
 
-    use_fits : (a : FoundAction) → Contains s.actions a → (o : Option FoundUse) → a.applies_to ≡ o → SomeTypeIsTooLarge s ⊎ ((u : FoundUse) → a.applies_to ≡ Some u → (r : Qualified) → u.context ≡ Some r → IsWritten s.commons r)
+    use_fits : (a : ResolvedAction) → Contains s.actions a → (o : Option ResolvedUse) → a.applies_to ≡ o → SomeTypeIsTooLarge s ⊎ ((u : ResolvedUse) → a.applies_to ≡ Some u → (r : Qualified) → u.context ≡ Some r → IsWritten s.commons r)
     use_fits a h None is = inr (λ u e r c. absurd (none_is u (sym is ∙ e)))
       where
-        none_is : (u : FoundUse) → None ≡ Some u → ⊥
+        none_is : (u : ResolvedUse) → None ≡ Some u → ⊥
         none_is u e = cc
     use_fits a h (Some v) is = by (record_fits v.context (λ r c. inr (a, h, (v, is, c))))
       where
-        some_same : (x y : FoundUse) → Some x ≡ Some y → x ≡ y
+        some_same : (x y : ResolvedUse) → Some x ≡ Some y → x ≡ y
         some_same x y e = cc
 
-        by : SomeTypeIsTooLarge s ⊎ ((r : Qualified) → v.context ≡ Some r → IsWritten s.commons r) → SomeTypeIsTooLarge s ⊎ ((u : FoundUse) → a.applies_to ≡ Some u → (r : Qualified) → u.context ≡ Some r → IsWritten s.commons r)
+        by : SomeTypeIsTooLarge s ⊎ ((r : Qualified) → v.context ≡ Some r → IsWritten s.commons r) → SomeTypeIsTooLarge s ⊎ ((u : ResolvedUse) → a.applies_to ≡ Some u → (r : Qualified) → u.context ≡ Some r → IsWritten s.commons r)
         by (inl large) = inl large
-        by (inr w) = inr (λ u e r c. w r (ap (λ (x : FoundUse). x.context) (some_same v u (sym is ∙ e)) ∙ c))
+        by (inr w) = inr (λ u e r c. w r (ap (λ (x : ResolvedUse). x.context) (some_same v u (sym is ∙ e)) ∙ c))
 
     commons_fit : SomeTypeIsTooLarge s ⊎ ((d : List ℕ × Qualified) → Contains s.commons d → IsWritten s.commons (qualified.common d.0))
     commons_fit = first s.commons (some_or_all (λ d. SomeTypeIsTooLarge s) (λ d. IsWritten s.commons (qualified.common d.0)) s.commons
         (λ d h. fits_or_not (qualified.common d.0) (schemas.common d.0 d.1 (inside_declared s.commons d h)) (common_closed d h)))
 
-    shapes_fit : SomeTypeIsTooLarge s ⊎ ((e : FoundEntityType) → Contains s.entity_types e → (r : Qualified) → e.shape ≡ Some r → IsWritten s.commons r)
+    shapes_fit : SomeTypeIsTooLarge s ⊎ ((e : ResolvedEntityType) → Contains s.entity_types e → (r : Qualified) → e.shape ≡ Some r → IsWritten s.commons r)
     shapes_fit = first s.entity_types (some_or_all (λ e. SomeTypeIsTooLarge s) (λ e. (r : Qualified) → e.shape ≡ Some r → IsWritten s.commons r) s.entity_types
         (λ e h. record_fits e.shape (λ r is. inl (e, h, is))))
 
-    contexts_fit : SomeTypeIsTooLarge s ⊎ ((a : FoundAction) → Contains s.actions a → (u : FoundUse) → a.applies_to ≡ Some u → (r : Qualified) → u.context ≡ Some r → IsWritten s.commons r)
-    contexts_fit = first s.actions (some_or_all (λ a. SomeTypeIsTooLarge s) (λ a. (u : FoundUse) → a.applies_to ≡ Some u → (r : Qualified) → u.context ≡ Some r → IsWritten s.commons r) s.actions
+    contexts_fit : SomeTypeIsTooLarge s ⊎ ((a : ResolvedAction) → Contains s.actions a → (u : ResolvedUse) → a.applies_to ≡ Some u → (r : Qualified) → u.context ≡ Some r → IsWritten s.commons r)
+    contexts_fit = first s.actions (some_or_all (λ a. SomeTypeIsTooLarge s) (λ a. (u : ResolvedUse) → a.applies_to ≡ Some u → (r : Qualified) → u.context ≡ Some r → IsWritten s.commons r) s.actions
         (λ a h. use_fits a h a.applies_to refl))
 
     module _ (commons : (d : List ℕ × Qualified) → Contains s.commons d → IsWritten s.commons (qualified.common d.0))
-        (shapes : (e : FoundEntityType) → Contains s.entity_types e → (r : Qualified) → e.shape ≡ Some r → IsWritten s.commons r)
-        (contexts : (a : FoundAction) → Contains s.actions a → (u : FoundUse) → a.applies_to ≡ Some u → (r : Qualified) → u.context ≡ Some r → IsWritten s.commons r) where
+        (shapes : (e : ResolvedEntityType) → Contains s.entity_types e → (r : Qualified) → e.shape ≡ Some r → IsWritten s.commons r)
+        (contexts : (a : ResolvedAction) → Contains s.actions a → (u : ResolvedUse) → a.applies_to ≡ Some u → (r : Qualified) → u.context ≡ Some r → IsWritten s.commons r) where
       all_fit : (r : Qualified) → StandsIn s r → IsWritten s.commons r
       all_fit _ (schemas.common q r d) = commons (q, r) (declared_inside s.commons q r d)
       all_fit _ (schemas.shape_or_context r (inl (e, h, is))) = shapes e h r is
@@ -300,8 +300,8 @@ module _ (s : FoundSchema) (ends : TypesStandForOneOrSomeForNone) (once : Declar
     sizes_decided = by commons_fit shapes_fit contexts_fit
       where
         by : SomeTypeIsTooLarge s ⊎ ((d : List ℕ × Qualified) → Contains s.commons d → IsWritten s.commons (qualified.common d.0))
-            → SomeTypeIsTooLarge s ⊎ ((e : FoundEntityType) → Contains s.entity_types e → (r : Qualified) → e.shape ≡ Some r → IsWritten s.commons r)
-            → SomeTypeIsTooLarge s ⊎ ((a : FoundAction) → Contains s.actions a → (u : FoundUse) → a.applies_to ≡ Some u → (r : Qualified) → u.context ≡ Some r → IsWritten s.commons r)
+            → SomeTypeIsTooLarge s ⊎ ((e : ResolvedEntityType) → Contains s.entity_types e → (r : Qualified) → e.shape ≡ Some r → IsWritten s.commons r)
+            → SomeTypeIsTooLarge s ⊎ ((a : ResolvedAction) → Contains s.actions a → (u : ResolvedUse) → a.applies_to ≡ Some u → (r : Qualified) → u.context ≡ Some r → IsWritten s.commons r)
             → SomeTypeIsTooLarge s ⊎ ((r : Qualified) → StandsIn s r → IsWritten s.commons r)
         by (inl large) b c = inl large
         by (inr a) (inl large) c = inl large

@@ -11,7 +11,7 @@ use Rattle.schema_types.specs.Ascending.{Ascend, KeysAscend}
 use Rattle.schema_types.specs.AscendingLaw.{WrittenTypesAscend}
 use Rattle.schema_types.specs.Law.{OneWritten, WrittenEntitiesAreNamed}
 use Rattle.schema_types.specs.Mentions.{MentionsEntity, NamesEntity}
-use Rattle.schema_names.specs.Qualifying.{FoundSchema}
+use Rattle.schema_names.specs.Qualifying.{ResolvedSchema}
 use Rattle.schema_names.specs.Laws as names
 use Rattle.schema_names.specs.Laws.{IsShapeOrContext, DeclaresOnce, TypesAscend, IsEntityType, NamesItsEntityTypes}
 use Rattle.schema.specs.Schemas.{StatedSchema, Answers, IsAction, IsRecordOf, IsSound, shape_or_context, action_parents}
@@ -46,7 +46,7 @@ is_some None h = absurd cc
 
 -- ---- which entity types are declared
 
-module _ (named : WrittenEntitiesAreNamed) (s : FoundSchema) (own : NamesItsEntityTypes s) where
+module _ (named : WrittenEntitiesAreNamed) (s : ResolvedSchema) (own : NamesItsEntityTypes s) where
   names_none : (t : Cedar) → t ≡ record_of no_fields → (q : List ℕ) → NamesEntity t q → IsEntityType s q
   names_none t e q h = absurd (subst (λ (x : Cedar). NamesEntity x q) e h)
 
@@ -60,7 +60,7 @@ module _ (named : WrittenEntitiesAreNamed) (s : FoundSchema) (own : NamesItsEnti
 
 -- ---- all of it
 
-module _ (one : OneWritten) (written : WrittenTypesAscend) (s : FoundSchema) (once : DeclaresOnce s) (ascend : TypesAscend s)
+module _ (one : OneWritten) (written : WrittenTypesAscend) (s : ResolvedSchema) (once : DeclaresOnce s) (ascend : TypesAscend s)
     (records : (r : Qualified) → IsShapeOrContext s r → (t : Cedar) → WrittenOut s.commons r t → (fs : CedarFields) × (t ≡ record_of fs)) (sound : IsSound s)
     (named : WrittenEntitiesAreNamed) (own : NamesItsEntityTypes s) (called : AreNamed s) where
   attributes : (o : Option Qualified) → ((r : Qualified) → o ≡ Some r → IsShapeOrContext s r) → (t : Cedar) → IsRecordOf s.commons o t → AreAttributes t

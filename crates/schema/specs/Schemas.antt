@@ -16,7 +16,7 @@ use Rattle.schema_types.specs.WrittenOut.{Declarations, Declares, WrittenOut}
 use Rattle.schema_types.specs.Outcome.{SomeStandsForNone}
 use Rattle.schema_types.specs.declared.fault.SchemaFault.{SchemaFault}
 use Rattle.schema_types.specs.declared.fault.SchemaFault.TheVariants.{TypeCycle, ActionCycle, TypeTooLarge}
-use Rattle.schema_names.specs.Qualifying.{FoundEntityType, FoundUse, FoundAction, FoundSchema}
+use Rattle.schema_names.specs.Qualifying.{ResolvedEntityType, ResolvedUse, ResolvedAction, ResolvedSchema}
 use Rattle.schema_names.specs.Naming.{StatesNamed, NamingRefused}
 use Rattle.schema_names.specs.Laws.{IsShapeOrContext}
 use Rattle.schema.specs.declared.parts.Place.{Place}
@@ -49,12 +49,12 @@ IsActionAbove v u above = (us : List EntityUid) × (v.ancestors u ≡ Some us) �
 -- ---- hierarchies
 
 -- `with_actions parents as` are the edges by `memberOf`: each action in turn gets its parents.
-abbrev pub with_actions : Parents → List FoundAction → Parents
+abbrev pub with_actions : Parents → List ResolvedAction → Parents
 with_actions parents [] = parents
 with_actions parents (a ∷ rest) = with_actions (with_parents parents a.uid a.parents) rest
 
 -- `action_parents s` are the parents of each action, as its `memberOf` states them.
-abbrev pub action_parents : FoundSchema → Parents
+abbrev pub action_parents : ResolvedSchema → Parents
 action_parents s = with_actions no_parents s.actions
 
 -- `type_uid name` is an entity type as a node of a hierarchy: the uid of that type whose id is empty.
@@ -62,17 +62,17 @@ abbrev pub type_uid : List ℕ → EntityUid
 type_uid name = record { type_name = name; id = [] }
 
 -- `with_types parents es` are the edges by `memberOfTypes`: each entity type in turn gets its parents.
-abbrev pub with_types : Parents → List FoundEntityType → Parents
+abbrev pub with_types : Parents → List ResolvedEntityType → Parents
 with_types parents [] = parents
 with_types parents (e ∷ rest) =
     with_types (with_parents parents (type_uid e.name) (map type_uid e.parents)) rest
 
 -- `type_parents s` are the parents of each entity type, as its `memberOfTypes` states them.
-abbrev pub type_parents : FoundSchema → Parents
+abbrev pub type_parents : ResolvedSchema → Parents
 type_parents s = with_types no_parents s.entity_types
 
 -- `SomeActionIsOnCycle s` holds if some action is its own ancestor.
-abbrev pub SomeActionIsOnCycle : FoundSchema → Type 0
+abbrev pub SomeActionIsOnCycle : ResolvedSchema → Type 0
 SomeActionIsOnCycle s = (u : EntityUid) × IsOnCycle (action_parents s) u
 
 -- ---- expanded types
@@ -83,7 +83,7 @@ IsRecordOf commons None t = t ≡ record_of no_fields
 IsRecordOf commons (Some r) t = WrittenOut commons r t
 
 -- `StandsIn s r` holds if `r` is a type of the schema: a common type by its name, a shape or a context.
-pub data StandsIn (s : FoundSchema) : Qualified → Type 0 where
+pub data StandsIn (s : ResolvedSchema) : Qualified → Type 0 where
   common : (q : List ℕ) (r : Qualified) → Declares s.commons q r → StandsIn s (qualified.common q)
   shape_or_context : (r : Qualified) → IsShapeOrContext s r → StandsIn s r
 
@@ -92,7 +92,7 @@ abbrev pub IsWritten : Declarations → Qualified → Type 0
 IsWritten commons r = (t : Cedar) × WrittenOut commons r t × (IsTooLarge t → ⊥)
 
 -- `SomeTypeIsTooLarge s` holds if the expansion of some type is too large.
-pub record SomeTypeIsTooLarge (s : FoundSchema) : Type 0 where
+pub record SomeTypeIsTooLarge (s : ResolvedSchema) : Type 0 where
   pub type : Qualified
   pub whole : Cedar
   pub stands : StandsIn s type
@@ -102,16 +102,16 @@ pub record SomeTypeIsTooLarge (s : FoundSchema) : Type 0 where
 -- ---- the schema of a file with resolved names
 
 -- `IsAction s u` holds if the action `u` is declared.
-abbrev pub IsAction : FoundSchema → EntityUid → Type 0
-IsAction s u = (a : FoundAction) × Contains s.actions a × (a.uid ≡ u)
+abbrev pub IsAction : ResolvedSchema → EntityUid → Type 0
+IsAction s u = (a : ResolvedAction) × Contains s.actions a × (a.uid ≡ u)
 
 -- `IsShape s n t` holds if `t` is the shape of the declared entity type `n`.
-abbrev pub IsShape : FoundSchema → List ℕ → Cedar → Type 0
-IsShape s n t = (e : FoundEntityType) × Contains s.entity_types e × (e.name ≡ n) × IsRecordOf s.commons e.shape t
+abbrev pub IsShape : ResolvedSchema → List ℕ → Cedar → Type 0
+IsShape s n t = (e : ResolvedEntityType) × Contains s.entity_types e × (e.name ≡ n) × IsRecordOf s.commons e.shape t
 
 -- `Applies s p applied` holds if some action applies to the place `p` by `applied`.
-pub record Applies (s : FoundSchema) (p : Place) (applied : FoundUse) : Type 0 where
-  pub action : FoundAction
+pub record Applies (s : ResolvedSchema) (p : Place) (applied : ResolvedUse) : Type 0 where
+  pub action : ResolvedAction
   pub declared : Contains s.actions action
   pub is : action.uid ≡ p.action
   pub applies : action.applies_to ≡ Some applied
@@ -119,18 +119,18 @@ pub record Applies (s : FoundSchema) (p : Place) (applied : FoundUse) : Type 0 w
   pub resource : Contains applied.resources p.resource
 
 -- `IsEnvironment s e` holds if some action applies to the place of `e`, with this context.
-abbrev pub IsEnvironment : FoundSchema → EnvironmentOf → Type 0
-IsEnvironment s e = (applied : FoundUse) × Applies s e.place applied × IsRecordOf s.commons applied.context e.context
+abbrev pub IsEnvironment : ResolvedSchema → EnvironmentOf → Type 0
+IsEnvironment s e = (applied : ResolvedUse) × Applies s e.place applied × IsRecordOf s.commons applied.context e.context
 
 -- `IsPlace s p` holds if some action applies to the place `p`.
-abbrev pub IsPlace : FoundSchema → Place → Type 0
-IsPlace s p = (applied : FoundUse) × Applies s p applied
+abbrev pub IsPlace : ResolvedSchema → Place → Type 0
+IsPlace s p = (applied : ResolvedUse) × Applies s p applied
 
 -- `Answers s v` holds if each look-up of `v` finds exactly what `s` declares; lists are in ascending order, without
 -- duplicates.
-pub record Answers (s : FoundSchema) (v : StatedSchema) : Type 0 where
+pub record Answers (s : ResolvedSchema) (v : StatedSchema) : Type 0 where
   pub shapes : (n : List ℕ) (t : Cedar) → v.shape n ≡ Some t → IsShape s n t
-  pub all_shapes : (e : FoundEntityType) → Contains s.entity_types e → IsSome (v.shape e.name)
+  pub all_shapes : (e : ResolvedEntityType) → Contains s.entity_types e → IsSome (v.shape e.name)
   pub actions : (u : EntityUid) → Contains v.actions u ↔ IsAction s u
   pub actions_ascend : IsAscending v.actions
   pub member_of : (u : EntityUid) (us : List EntityUid) → v.member_of u ≡ Some us
@@ -148,12 +148,12 @@ pub record Answers (s : FoundSchema) (v : StatedSchema) : Type 0 where
 -- ---- the schema of bytes
 
 -- `IsSound s` holds if no action is its own ancestor, and each type has an expansion within the limits.
-pub record IsSound (s : FoundSchema) : Type 0 where
+pub record IsSound (s : ResolvedSchema) : Type 0 where
   pub no_cycle : SomeActionIsOnCycle s → ⊥
   pub is_written : (r : Qualified) → StandsIn s r → IsWritten s.commons r
 
 -- `IsUnsound s f` holds if `f` is the first of three errors of `s`.
-pub data IsUnsound (s : FoundSchema) : SchemaFault → Type 0 where
+pub data IsUnsound (s : ResolvedSchema) : SchemaFault → Type 0 where
   type_cycle : SomeStandsForNone s.commons → IsUnsound s TypeCycle
   action_cycle : (SomeStandsForNone s.commons → ⊥) → SomeActionIsOnCycle s → IsUnsound s ActionCycle
   too_large : (SomeStandsForNone s.commons → ⊥) → (SomeActionIsOnCycle s → ⊥) → SomeTypeIsTooLarge s
@@ -162,7 +162,7 @@ pub data IsUnsound (s : FoundSchema) : SchemaFault → Type 0 where
 -- `IsSchemaOf bytes v` holds if `bytes` state the schema `v`. Nothing is declared twice, since the keys of a parsed
 -- object are distinct: a theorem of `schema_names`.
 pub record IsSchemaOf (bytes : List ℕ) (v : StatedSchema) : Type 0 where
-  pub named : FoundSchema
+  pub named : ResolvedSchema
   pub states : StatesNamed bytes named
   pub sound : IsSound named
   pub label : v.label ≡ encode_lower (sha256 bytes)
@@ -171,4 +171,4 @@ pub record IsSchemaOf (bytes : List ℕ) (v : StatedSchema) : Type 0 where
 -- `RefusedFor bytes f` holds if `bytes` state no schema, and `f` is the first error.
 pub data RefusedFor (bytes : List ℕ) : SchemaFault → Type 0 where
   naming : (f : SchemaFault) → NamingRefused bytes f → RefusedFor bytes f
-  unsound : (s : FoundSchema) (f : SchemaFault) → StatesNamed bytes s → IsUnsound s f → RefusedFor bytes f
+  unsound : (s : ResolvedSchema) (f : SchemaFault) → StatesNamed bytes s → IsUnsound s f → RefusedFor bytes f

@@ -5,7 +5,7 @@ ghost use Rattle.schema_types.specs.WrittenOut.{Declarations};
 ghost use Rattle.schema_written_types.specs.Knowledge.{AreWritten};
 ghost use Rattle.schema_written_types.specs.TableViews.{knowledge};
 ghost use Rattle.schema_types.specs.declared.fault.SchemaFault.TheVariants as SchemaFault;
-ghost use Rattle.schema_names.specs.FoundViews.{found_use_view, found_action_view};
+ghost use Rattle.schema_names.specs.ResolvedViews.{found_use_view, found_action_view};
 ghost use Rattle.schema.specs.inner.Making.{IsClosedAt, IsRefusedAt, AddsPlace, AddsResources};
 ghost use Rattle.schema.specs.inner.Making.{AddsPrincipals, AddsUse, AddsAction, IsContextClosed, IsContextRefused};
 ghost use Rattle.schema.specs.inner.Making.{AreContextsClosed, SomeContextIsRefused, ArePlaces};
@@ -15,7 +15,7 @@ use crate::maps::put;
 use crate::parts::Place;
 use crate::shapes::make_record;
 use plain::{NoMemory, Shared};
-use schema_names::{FoundAction, FoundUse};
+use schema_names::{ResolvedAction, ResolvedUse};
 use schema_types::{CedarType, SchemaFault};
 use schema_written_types::Table;
 use std::alloc::Global;
@@ -75,7 +75,7 @@ fn add_principals(
 fn add_use(
     alloc: Global,
     action: &EntityUid,
-    applied: &FoundUse,
+    applied: &ResolvedUse,
     table: &Table,
     places: &mut BTreeMap<Place, Shared<CedarType>>,
 ) -> Result<(), SchemaFault>
@@ -96,7 +96,7 @@ fn add_use(
 /// Adds the places of an action; none if it does not apply to anything.
 fn add_action(
     alloc: Global,
-    action: &FoundAction,
+    action: &ResolvedAction,
     table: &Table,
     places: &mut BTreeMap<Place, Shared<CedarType>>,
 ) -> Result<(), SchemaFault>
@@ -116,7 +116,7 @@ fn add_action(
 /// is too large, and `NoMemory`.
 pub(crate) fn make_places(
     alloc: Global,
-    actions: &[FoundAction],
+    actions: &[ResolvedAction],
     table: &Table,
 ) -> Result<BTreeMap<Place, Shared<CedarType>>, SchemaFault>
     ghost commons: { Declarations }

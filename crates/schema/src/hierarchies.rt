@@ -3,14 +3,14 @@ ghost use Rattle.std.specs.Prelude.{◌≡◌, IfOk, OnOk, map};
 ghost use Rattle.std.specs.BTreeMap.{keys};
 ghost use Rattle.ancestor_search.specs.Hierarchy.{IsAscending, names, no_parents, with_parents};
 ghost use Rattle.ancestor_search.specs.contracts.searched.SearchedAncestry.TheImpl as searched;
-ghost use Rattle.schema_names.specs.FoundViews.{found_action_view, found_entity_type_view};
+ghost use Rattle.schema_names.specs.ResolvedViews.{found_action_view, found_entity_type_view};
 ghost use Rattle.schema.specs.Schemas.{with_actions, with_types, type_uid};
 ghost use Rattle.schema.specs.inner.Making.{AddsMember, AreMembers};
 
 use crate::maps::put;
 use ancestor_search::{Hierarchy, ParentsOf, Searched};
 use plain::{Items, NoMemory};
-use schema_names::{FoundAction, FoundEntityType};
+use schema_names::{ResolvedAction, ResolvedEntityType};
 use std::alloc::Global;
 use std::collections::BTreeMap;
 use values::{EntityUid, SharedText, TypeName};
@@ -56,7 +56,7 @@ fn type_uids(alloc: Global, types: &[TypeName]) -> Result<Vec<EntityUid>, NoMemo
 }
 
 /// Sets the parents of an action.
-fn set_action(alloc: Global, edges: &mut Searched, action: &FoundAction) -> Result<(), NoMemory>
+fn set_action(alloc: Global, edges: &mut Searched, action: &ResolvedAction) -> Result<(), NoMemory>
     ensures { OnOk result (searched.parents-value.it edges.new
         ≡ with_parents (searched.parents-value.it edges.old) action.now.uid action.now.parents) }
 {
@@ -67,7 +67,7 @@ fn set_action(alloc: Global, edges: &mut Searched, action: &FoundAction) -> Resu
 }
 
 /// Returns the hierarchy of actions.
-pub(crate) fn action_edges(alloc: Global, actions: &[FoundAction]) -> Result<Searched, NoMemory>
+pub(crate) fn action_edges(alloc: Global, actions: &[ResolvedAction]) -> Result<Searched, NoMemory>
     ensures { IfOk result (λ s. searched.parents-value.it s
         ≡ with_actions no_parents (map found_action_view actions.now)) }
 {
@@ -82,7 +82,7 @@ pub(crate) fn action_edges(alloc: Global, actions: &[FoundAction]) -> Result<Sea
 fn set_type(
     alloc: Global,
     edges: &mut Searched,
-    entity_type: &FoundEntityType,
+    entity_type: &ResolvedEntityType,
 ) -> Result<(), NoMemory>
     ensures { OnOk result (searched.parents-value.it edges.new
         ≡ with_parents (searched.parents-value.it edges.old) (type_uid entity_type.now.name)
@@ -97,7 +97,7 @@ fn set_type(
 /// Returns the hierarchy of entity types.
 pub(crate) fn type_edges(
     alloc: Global,
-    entity_types: &[FoundEntityType],
+    entity_types: &[ResolvedEntityType],
 ) -> Result<Searched, NoMemory>
     ensures { IfOk result (λ s. searched.parents-value.it s
         ≡ with_types no_parents (map found_entity_type_view entity_types.now)) }
@@ -113,7 +113,7 @@ pub(crate) fn type_edges(
 fn add_member(
     alloc: Global,
     edges: &Searched,
-    action: &FoundAction,
+    action: &ResolvedAction,
     members: &mut BTreeMap<EntityUid, Items<EntityUid>>,
 ) -> Result<(), NoMemory>
     ensures { OnOk result (AddsMember (searched.parents-value.it edges.now) (found_action_view action.now)
@@ -129,7 +129,7 @@ fn add_member(
 pub(crate) fn make_members(
     alloc: Global,
     edges: &Searched,
-    actions: &[FoundAction],
+    actions: &[ResolvedAction],
 ) -> Result<BTreeMap<EntityUid, Items<EntityUid>>, NoMemory>
     ensures { IfOk result (λ members. AreMembers (searched.parents-value.it edges.now)
         (map found_action_view actions.now) members) }

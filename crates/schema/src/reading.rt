@@ -5,7 +5,7 @@ ghost use Rattle.schema_types.specs.WrittenOut.{Declarations};
 ghost use Rattle.schema_written_types.specs.Knowledge.{AreWritten, AreWhole};
 ghost use Rattle.schema_written_types.specs.TableViews.{knowledge};
 ghost use Rattle.schema_types.specs.declared.fault.SchemaFault.TheVariants as SchemaFault;
-ghost use Rattle.schema_names.specs.FoundViews.{found_view};
+ghost use Rattle.schema_names.specs.ResolvedViews.{found_view};
 ghost use Rattle.schema_names.specs.Laws.{NamesItsOwn};
 ghost use Rattle.schema_names.specs.Naming.{StatesNamed};
 ghost use Rattle.schema.specs.Schemas.{IsSchemaOf, RefusedFor, IsUnsound};
@@ -25,7 +25,7 @@ use crate::shapes::make_shapes;
 use crate::type_numbers::{TypeNumbers, number_types};
 use ancestor_search::Searched;
 use plain::{Items, NoMemory};
-use schema_names::{Found, files_name_their_entity_types, files_name_their_own, read_named};
+use schema_names::{ResolvedFile, files_name_their_entity_types, files_name_their_own, read_named};
 use schema_types::SchemaFault;
 use schema_written_types::{Table, demand_sizes, write_commons};
 use std::alloc::Global;
@@ -49,7 +49,7 @@ struct Hierarchies {
 }
 
 /// Returns the hierarchy of actions, in which none is its own ancestor.
-fn demand_edges(alloc: Global, found: &Found) -> Result<Searched, SchemaFault>
+fn demand_edges(alloc: Global, found: &ResolvedFile) -> Result<Searched, SchemaFault>
     ensures { MatchResult result (λ s. AreEdges (found_view found.now) (searched.parents-value.it s))
         (λ f. f ≢ SchemaFault.NoMemory → EdgesRefused (found_view found.now) f) }
 {
@@ -61,7 +61,7 @@ fn demand_edges(alloc: Global, found: &Found) -> Result<Searched, SchemaFault>
 
 /// Returns the shapes and the environments of a file whose common types are expanded. The only errors are that a type
 /// is too large, and `NoMemory`.
-fn make_types(alloc: Global, found: &Found, table: &Table) -> Result<Types, SchemaFault>
+fn make_types(alloc: Global, found: &ResolvedFile, table: &Table) -> Result<Types, SchemaFault>
     ghost commons: { Declarations }
     requires written { AreWritten commons (knowledge table.now) }
     requires closed { AreTypesClosed commons (found_view found.now) }
@@ -80,7 +80,11 @@ fn make_types(alloc: Global, found: &Found, table: &Table) -> Result<Types, Sche
 }
 
 /// Returns the hierarchies of a file, given the edges of its actions.
-fn make_hierarchies(alloc: Global, found: &Found, edges: &Searched) -> Result<Hierarchies, NoMemory>
+fn make_hierarchies(
+    alloc: Global,
+    found: &ResolvedFile,
+    edges: &Searched,
+) -> Result<Hierarchies, NoMemory>
     requires { AreEdges (found_view found.now) (searched.parents-value.it edges.now) }
     ensures { IfOk result (λ h. AreHierarchiesOf (found_view found.now) h) }
 {
@@ -104,7 +108,7 @@ fn make_hierarchies(alloc: Global, found: &Found, edges: &Searched) -> Result<Hi
 fn make_schema(
     alloc: Global,
     bytes: &[u8],
-    found: &Found,
+    found: &ResolvedFile,
     edges: &Searched,
     table: &Table,
 ) -> Result<Schema, SchemaFault>
@@ -144,7 +148,7 @@ fn make_schema(
 /// - `ActionCycle` (24): an action is its own ancestor.
 /// - `TypeTooLarge` (25): a type is too large.
 /// - `NoMemory` (1): an allocation failed; possible at any point.
-fn sound_schema(alloc: Global, bytes: &[u8], found: &Found) -> Result<Schema, SchemaFault>
+fn sound_schema(alloc: Global, bytes: &[u8], found: &ResolvedFile) -> Result<Schema, SchemaFault>
     requires states { StatesNamed bytes.now (found_view found.now) }
     requires own { NamesItsOwn (found_view found.now) }
     ensures { MatchResult result (λ s. IsSchemaOf bytes.now (schema_view s))

@@ -7,14 +7,14 @@ ghost use Rattle.schema_types.specs.WrittenOut.{Declarations};
 ghost use Rattle.schema_written_types.specs.Knowledge.{AreWritten};
 ghost use Rattle.schema_written_types.specs.TableViews.{knowledge};
 ghost use Rattle.schema_types.specs.declared.fault.SchemaFault.TheVariants as SchemaFault;
-ghost use Rattle.schema_names.specs.FoundViews.{found_entity_type_view};
+ghost use Rattle.schema_names.specs.ResolvedViews.{found_entity_type_view};
 ghost use Rattle.schema.specs.inner.Making.{IsClosedAt, IsMade, IsRefusedAt, AddsShape, AreShapesClosed};
 ghost use Rattle.schema.specs.inner.Making.{SomeShapeIsRefused, AreShapes};
 
 use crate::maps::put;
 use crate::parts::EntityDecl;
 use plain::{Items, Shared};
-use schema_names::FoundEntityType;
+use schema_names::ResolvedEntityType;
 use schema_types::{CedarType, QualifiedType, SchemaFault};
 use schema_written_types::{Table, write_whole};
 use std::alloc::Global;
@@ -51,7 +51,7 @@ pub(crate) fn make_record(
 /// Adds the shape of an entity type.
 fn add_shape(
     alloc: Global,
-    entity_type: &FoundEntityType,
+    entity_type: &ResolvedEntityType,
     table: &Table,
     shapes: &mut BTreeMap<TypeName, EntityDecl>,
 ) -> Result<(), SchemaFault>
@@ -70,7 +70,7 @@ fn add_shape(
 /// Returns the shapes of entity types, by their names. The only errors are that one is too large, and `NoMemory`.
 pub(crate) fn make_shapes(
     alloc: Global,
-    entity_types: &[FoundEntityType],
+    entity_types: &[ResolvedEntityType],
     table: &Table,
 ) -> Result<BTreeMap<TypeName, EntityDecl>, SchemaFault>
     ghost commons: { Declarations }

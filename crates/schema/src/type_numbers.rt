@@ -3,7 +3,7 @@ ghost use Rattle.std.specs.Prelude.{◌≡◌, Some, IfOk, OnOk, map};
 ghost use Rattle.std.specs.BTreeMap.{get, Updates};
 ghost use Rattle.values.specs.Names.{uid_cmp, text_cmp};
 ghost use Rattle.ancestor_search.specs.contracts.searched.SearchedAncestry.TheImpl as searched;
-ghost use Rattle.schema_names.specs.FoundViews.{found_entity_type_view};
+ghost use Rattle.schema_names.specs.ResolvedViews.{found_entity_type_view};
 ghost use Rattle.schema.specs.inner.Numbering.{AddsName, AreNames, type_points, AreNumbers};
 
 use crate::hierarchies::type_uid;
@@ -12,7 +12,7 @@ use crate::numbering::above_each;
 use crate::spans::Span;
 use ancestor_search::Searched;
 use plain::{Items, NoMemory};
-use schema_names::FoundEntityType;
+use schema_names::ResolvedEntityType;
 use std::alloc::Global;
 use std::collections::BTreeMap;
 use values::{EntityUid, TypeName};
@@ -67,7 +67,7 @@ fn numbers_by_name(
 }
 
 /// Returns entity types as nodes of a hierarchy.
-fn points_of(alloc: Global, entity_types: &[FoundEntityType]) -> Result<Vec<EntityUid>, NoMemory>
+fn points_of(alloc: Global, entity_types: &[ResolvedEntityType]) -> Result<Vec<EntityUid>, NoMemory>
     ensures { IfOk result (λ uids. uids.items ≡ type_points (map found_entity_type_view entity_types.now)) }
 {
     let mut uids = Vec::new(alloc);
@@ -81,7 +81,7 @@ fn points_of(alloc: Global, entity_types: &[FoundEntityType]) -> Result<Vec<Enti
 pub(crate) fn number_types(
     alloc: Global,
     edges: &Searched,
-    entity_types: &[FoundEntityType],
+    entity_types: &[ResolvedEntityType],
 ) -> Result<TypeNumbers, NoMemory>
     ensures { IfOk result (λ t. AreNumbers (searched.parents-value.it edges.now)
         (map found_entity_type_view entity_types.now) t) }

@@ -2,7 +2,7 @@
 use Rattle.std.proofs.Common.{◌∙◌, ◌⊎◌, ℕ, List, inl, inr, refl, sym, ap, subst}
 use Rattle.entity_hierarchy.specs.authoriser.Answers.{IsAnswer}
 use Rattle.entity_hierarchy.specs.authoriser.Laws.{ListsAscend}
-use Rattle.entity_hierarchy.specs.evaluator.Operators.{World}
+use Rattle.entity_hierarchy.specs.evaluator.Operators.{Entities}
 use Rattle.entity_hierarchy.specs.schema.Schemas.{StatedSchema, IsSchemaOf}
 use Rattle.entity_hierarchy.specs.schema.Outcomes as schemas
 use Rattle.entity_hierarchy.specs.Laws.{MemberOfIsKept}
@@ -81,5 +81,5 @@ alike law schema policies entities request line x =
     record {
       ordered = told.answers.ordered;
       order = told.answers.order;
-      is = subst (λ (W : World). IsAnswer W told.asked told.answers.ordered told.answer) (law schema x.stated x.states (under.stated told.stored)) told.answers.is;
+      is = subst (λ (W : Entities). IsAnswer W told.asked told.answers.ordered told.answer) (law schema x.stated x.states (under.stated told.stored)) told.answers.is;
     }

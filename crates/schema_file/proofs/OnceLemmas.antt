@@ -25,7 +25,7 @@ use Rattle.schema_types.specs.Optional.{optional}
 use Rattle.schema_types.specs.TypeShape.{type_name, type_of}
 use Rattle.schema_file.specs.Once.{AreApart, StatesOnce}
 use Rattle.schema_file.specs.Laws.{FilesStateOnce}
-use Rattle.schema_file.specs.Stated.{EntityTypeOf, ActionOf, NamespaceOf, ident, is_common, common_of, members_in, names_in, type_in, entity_type_name, entity_type_of, is_empty_in, parents_in, use_in, action_of, namespace_name, commons_of, entity_types_of, actions_of, namespaces_of, commons_in, entity_types_in, actions_in, namespace_of, stated}
+use Rattle.schema_file.specs.FileForm.{EntityTypeOf, ActionOf, NamespaceOf, ident, is_common, common_of, members_in, names_in, type_in, entity_type_name, entity_type_of, is_empty_in, parents_in, use_in, action_of, namespace_name, commons_of, entity_types_of, actions_of, namespaces_of, commons_in, entity_types_in, actions_in, namespace_of, stated}
 use Rattle.schema_file.proofs.TypesLemmas.{object_ascends, optional_members, there_is}
 
 abbrev ok : {A : Type 0} → A → Result A SchemaFault

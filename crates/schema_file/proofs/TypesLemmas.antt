@@ -22,7 +22,7 @@ use Rattle.schema_types.specs.Forms.{form_named}
 use Rattle.schema_types.specs.Optional.{optional, present, unless_null}
 use Rattle.schema_types.specs.TypeShape.{type_of}
 use Rattle.schema_file.specs.Laws.{IsTypeOf, common, shape, context, FilesTypesAscend}
-use Rattle.schema_file.specs.Stated.{EntityTypeOf, UseOf, ActionOf, NamespaceOf, ident, is_common, common_of, members_in, names_in, names_at, type_in, entity_type_name, entity_type_of, is_empty_in, parents_in, use_of, use_in, action_of, namespace_name, commons_of, entity_types_of, actions_of, namespaces_of, commons_in, entity_types_in, actions_in, namespace_of, stated}
+use Rattle.schema_file.specs.FileForm.{EntityTypeOf, UseOf, ActionOf, NamespaceOf, ident, is_common, common_of, members_in, names_in, names_at, type_in, entity_type_name, entity_type_of, is_empty_in, parents_in, use_of, use_in, action_of, namespace_name, commons_of, entity_types_of, actions_of, namespaces_of, commons_in, entity_types_in, actions_in, namespace_of, stated}
 
 abbrev ok : {A : Type 0} → A → Result A SchemaFault
 ok x = Ok x

@@ -4,7 +4,7 @@ use Rattle.serde_json.specs.Data.{Data}
 use Rattle.schema_types.specs.Raw.{Raw}
 use Rattle.schema_types.specs.Ascending.{DataAscends, RawAscends}
 use Rattle.schema_file.specs.Once.{AllStateOnce}
-use Rattle.schema_file.specs.Stated.{EntityTypeOf, UseOf, ActionOf, NamespaceOf, stated}
+use Rattle.schema_file.specs.FileForm.{EntityTypeOf, UseOf, ActionOf, NamespaceOf, stated}
 
 -- `FilesStateOnce`: nothing is stated twice.
 abbrev pub FilesStateOnce : Type 0

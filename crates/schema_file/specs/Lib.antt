@@ -1,6 +1,6 @@
 pub mod Laws
 pub mod Once
-pub mod Stated
+pub mod FileForm
 pub mod StatedViews
 -- Specifications of lower crates, re-exported.
 pub use Rattle.schema_types.specs as schema_types

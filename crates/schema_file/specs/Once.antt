@@ -3,7 +3,7 @@
 -- Rules of this product: only the last value of a duplicate key counts.
 use Rattle.std.specs.Prelude.{◌≢◌, ⊤, List, [], ◌∷◌, map}
 use Rattle.std.specs.List.{AllByRecursion}
-use Rattle.schema_file.specs.Stated.{NamespaceOf}
+use Rattle.schema_file.specs.FileForm.{NamespaceOf}
 
 -- `AreApart xs` holds if no two of `xs` are equal.
 abbrev pub AreApart : {A : Type 0} → List A → Type 0

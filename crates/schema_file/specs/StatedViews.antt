@@ -2,7 +2,7 @@
 use Rattle.std.specs.Prelude.{ℕ, List, map, option_map}
 use Rattle.schema_types.specs.Raw.{Raw}
 use Rattle.schema_types.specs.Views.{raw_view}
-use Rattle.schema_file.specs.Stated.{EntityTypeOf, UseOf, ActionOf, NamespaceOf}
+use Rattle.schema_file.specs.FileForm.{EntityTypeOf, UseOf, ActionOf, NamespaceOf}
 use Rattle.schema_file.specs.declared.stated.StatedCommon.{StatedCommon}
 use Rattle.schema_file.specs.declared.stated.StatedEntityType.{StatedEntityType}
 use Rattle.schema_file.specs.declared.stated.StatedUse.{StatedUse}

@@ -3,8 +3,8 @@ ghost use Rattle.std.specs.Prelude.{map, option_map};
 ghost use Rattle.serde_json.specs.View.{view, members_view};
 ghost use Rattle.json_words.specs.ReadsAs.{ReadsAs};
 ghost use Rattle.schema_file.specs.StatedViews.{common_view, entity_type_view, action_view, namespace_view};
-ghost use Rattle.schema_file.specs.Stated.{namespace_name, commons_of, entity_types_of, actions_of, commons_in};
-ghost use Rattle.schema_file.specs.Stated.{entity_types_in, actions_in, namespace_of, namespaces_of, stated};
+ghost use Rattle.schema_file.specs.FileForm.{namespace_name, commons_of, entity_types_of, actions_of, commons_in};
+ghost use Rattle.schema_file.specs.FileForm.{entity_types_in, actions_in, namespace_of, namespaces_of, stated};
 ghost use Rattle.schema_types.specs.declared.fault.SchemaFault.TheVariants as SchemaFault;
 
 use crate::reading_actions::read_action;
@@ -18,7 +18,7 @@ use std::alloc::Global;
 use values::TypeName;
 
 /// Returns the name of the namespace under a key.
-#[tactic(auto, unfolding(crate::specs::Stated::namespace_name))]
+#[tactic(auto, unfolding(crate::specs::FileForm::namespace_name))]
 fn read_namespace_name(alloc: Global, key: &str) -> Result<Option<TypeName>, SchemaFault>
     ensures { ReadsAs SchemaFault.NoMemory (λ n. n) result (namespace_name key.now) }
 {
@@ -123,7 +123,7 @@ fn read_optional_actions(
 }
 
 /// Returns the namespace under a key.
-#[tactic(auto, unfolding(crate::specs::Stated::namespace_of))]
+#[tactic(auto, unfolding(crate::specs::FileForm::namespace_of))]
 fn read_namespace(alloc: Global, key: &str, value: &Value) -> Result<StatedNamespace, SchemaFault>
     ensures { ReadsAs SchemaFault.NoMemory namespace_view result (namespace_of key.now (view value.now)) }
 {
@@ -166,7 +166,7 @@ fn read_namespaces(
 ///
 /// - `BadShape` (21): the value does not have the form of a schema.
 /// - `NoMemory` (1): an allocation failed; possible at any point.
-#[tactic(auto, unfolding(crate::specs::Stated::stated))]
+#[tactic(auto, unfolding(crate::specs::FileForm::stated))]
 pub fn read_stated(alloc: Global, value: &Value) -> Result<Items<StatedNamespace>, SchemaFault>
     ensures { ReadsAs SchemaFault.NoMemory (map namespace_view) result (stated (view value.now)) }
 {

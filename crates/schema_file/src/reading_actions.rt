@@ -3,7 +3,7 @@ ghost use Rattle.std.specs.Prelude.{◌≡◌, option_map};
 ghost use Rattle.serde_json.specs.View.{view, items_view};
 ghost use Rattle.json_words.specs.ReadsAs.{ReadsAs};
 ghost use Rattle.schema_file.specs.StatedViews.{use_view, action_view};
-ghost use Rattle.schema_file.specs.Stated.{parent_of, parents_of, parents_in, use_of, use_in, is_empty_in, action_of};
+ghost use Rattle.schema_file.specs.FileForm.{parent_of, parents_of, parents_in, use_of, use_in, is_empty_in, action_of};
 ghost use Rattle.schema_types.specs.declared.fault.SchemaFault.TheVariants as SchemaFault;
 
 use crate::reading_names::{read_names_at, read_optional_name};
@@ -16,7 +16,7 @@ use serde_json::Value;
 use std::alloc::Global;
 
 /// Returns one of the parents of an action.
-#[tactic(auto, unfolding(crate::specs::Stated::parent_of))]
+#[tactic(auto, unfolding(crate::specs::FileForm::parent_of))]
 fn read_parent(alloc: Global, value: &Value) -> Result<StatedParent, SchemaFault>
     ensures { ReadsAs SchemaFault.NoMemory (λ p. p) result (parent_of (view value.now)) }
 {
@@ -57,7 +57,7 @@ fn read_optional_parents(
 }
 
 /// Returns what an action applies to.
-#[tactic(auto, unfolding(crate::specs::Stated::use_of))]
+#[tactic(auto, unfolding(crate::specs::FileForm::use_of))]
 fn read_use(alloc: Global, value: &Value) -> Result<StatedUse, SchemaFault>
     ensures { ReadsAs SchemaFault.NoMemory use_view result (use_of (view value.now)) }
 {
@@ -99,7 +99,7 @@ fn is_empty(found: Option<&Value>) -> bool
 }
 
 /// Returns the action under a key.
-#[tactic(auto, unfolding(crate::specs::Stated::action_of))]
+#[tactic(auto, unfolding(crate::specs::FileForm::action_of))]
 pub(crate) fn read_action(
     alloc: Global,
     key: &str,

@@ -2,7 +2,7 @@
 ghost use Rattle.std.specs.Prelude.{option_map};
 ghost use Rattle.serde_json.specs.View.{view, items_view};
 ghost use Rattle.json_words.specs.ReadsAs.{ReadsAs};
-ghost use Rattle.schema_file.specs.Stated.{ident, name_of, names_of, names_in, names_at, name_in_place};
+ghost use Rattle.schema_file.specs.FileForm.{ident, name_of, names_of, names_in, names_at, name_in_place};
 ghost use Rattle.schema_types.specs.declared.fault.SchemaFault.TheVariants as SchemaFault;
 
 use plain::Items;
@@ -12,7 +12,7 @@ use std::alloc::Global;
 use values::TypeName;
 
 /// Returns the identifier of a string.
-#[tactic(auto, unfolding(crate::specs::Stated::ident))]
+#[tactic(auto, unfolding(crate::specs::FileForm::ident))]
 pub(crate) fn read_ident(alloc: Global, text: &str) -> Result<TypeName, SchemaFault>
     ensures { ReadsAs SchemaFault.NoMemory (λ t. t) result (ident text.now) }
 {
@@ -24,7 +24,7 @@ pub(crate) fn read_ident(alloc: Global, text: &str) -> Result<TypeName, SchemaFa
 }
 
 /// Returns the name of a value.
-#[tactic(auto, unfolding(crate::specs::Stated::name_of))]
+#[tactic(auto, unfolding(crate::specs::FileForm::name_of))]
 fn read_name(alloc: Global, value: &Value) -> Result<TypeName, SchemaFault>
     ensures { ReadsAs SchemaFault.NoMemory (λ t. t) result (name_of (view value.now)) }
 {

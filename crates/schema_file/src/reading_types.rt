@@ -4,8 +4,8 @@ ghost use Rattle.serde_json.specs.View.{view};
 ghost use Rattle.json_words.specs.ReadsAs.{ReadsAs};
 ghost use Rattle.schema_types.specs.Views.{raw_view};
 ghost use Rattle.schema_file.specs.StatedViews.{common_view, entity_type_view};
-ghost use Rattle.schema_file.specs.Stated.{type_in, is_common as is_common_form, common_of, entity_type_name};
-ghost use Rattle.schema_file.specs.Stated.{entity_type_of};
+ghost use Rattle.schema_file.specs.FileForm.{type_in, is_common as is_common_form, common_of, entity_type_name};
+ghost use Rattle.schema_file.specs.FileForm.{entity_type_of};
 ghost use Rattle.schema_types.specs.declared.fault.SchemaFault.TheVariants as SchemaFault;
 
 use crate::reading_names::{read_ident, read_optional_names};
@@ -37,7 +37,7 @@ fn is_common(form: Form) -> bool
 }
 
 /// Returns the common type under a key.
-#[tactic(auto, unfolding(crate::specs::Stated::common_of))]
+#[tactic(auto, unfolding(crate::specs::FileForm::common_of))]
 pub(crate) fn read_common(
     alloc: Global,
     key: &str,
@@ -66,7 +66,7 @@ fn read_entity_type_name(alloc: Global, key: &str) -> Result<TypeName, SchemaFau
 }
 
 /// Returns the entity type under a key.
-#[tactic(auto, unfolding(crate::specs::Stated::entity_type_of))]
+#[tactic(auto, unfolding(crate::specs::FileForm::entity_type_of))]
 pub(crate) fn read_entity_type(
     alloc: Global,
     key: &str,

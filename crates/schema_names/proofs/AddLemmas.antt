@@ -13,7 +13,7 @@ use Rattle.values.specs.declared.entity_uid.EntityUid.{EntityUid}
 use Rattle.values.specs.Names.{uid_cmp}
 use Rattle.schema_file.specs.schema_types.declared.names.Names.{Names}
 use Rattle.schema_types.specs.Names.{full_name}
-use Rattle.schema_file.specs.Stated.{NamespaceOf}
+use Rattle.schema_file.specs.FileForm.{NamespaceOf}
 use Rattle.schema_names.specs.Qualifying.{common_in, commons_declared, entity_types_declared, actions_declared}
 use Rattle.schema_file.specs.schema_types.Actions.{action_type, action_uid}
 use Rattle.schema_names.specs.inner.Adding.{has_name, has_uid, Adds, AddsNamespace, AddsAll, Declares, any_common}

@@ -4,7 +4,7 @@ use Rattle.std.specs.Prelude.{Contains}
 use Rattle.schema_types.specs.Raw.{Raw}
 use Rattle.schema_types.specs.Ascending.{RawAscends}
 use Rattle.schema_types.specs.AscendingLaw.{JsonAscends, FoundTypesAscend}
-use Rattle.schema_file.specs.Stated.{NamespaceOf}
+use Rattle.schema_file.specs.FileForm.{NamespaceOf}
 use Rattle.schema_file.specs.Laws.{IsTypeOf, common, shape, context}
 use Rattle.schema_file.specs.Laws as file
 use Rattle.schema_names.specs.Qualifying.{CommonOf, common_in, commons_declared, scope_in}

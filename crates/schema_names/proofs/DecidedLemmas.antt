@@ -8,8 +8,8 @@ use Rattle.serde_json.specs.Data.{Data}
 use Rattle.json_words.specs.Json.{json_of}
 use Rattle.plain.proofs.Members.{Contains-here, Contains-there, Contains-cases}
 use Rattle.schema_types.specs.declared.fault.SchemaFault.{SchemaFault}
-use Rattle.schema_file.specs.Stated.{NamespaceOf, stated}
-use Rattle.schema_names.specs.Qualifying.{CommonOf, commons_declared, scope_in, FoundSchema, qualified}
+use Rattle.schema_file.specs.FileForm.{NamespaceOf, stated}
+use Rattle.schema_names.specs.Qualifying.{CommonOf, commons_declared, scope_in, ResolvedSchema, qualified}
 use Rattle.schema_names.specs.Records.{SomeIsNoRecord}
 use Rattle.schema_names.specs.inner.Spreading.{means_now, NamesNoRecord, ReportsRecords, are_records}
 use Rattle.schema_names.specs.Naming.{no_record, unknown, not_json, bad_shape, bad_names}
@@ -127,7 +127,7 @@ module _ (ns : List NamespaceOf) where
 
 -- ---- bytes state a file, or are refused
 
-by_names : (bytes : List ℕ) (d : Data) (ns : List NamespaceOf) (r : Result FoundSchema SchemaFault) → json_of bytes ≡ Some d → stated d ≡ Ok ns → qualified ns ≡ r → (SomeIsNoRecord ns → ⊥) ⊎ SomeIsNoRecord ns → NamesOrRefusal bytes
+by_names : (bytes : List ℕ) (d : Data) (ns : List NamespaceOf) (r : Result ResolvedSchema SchemaFault) → json_of bytes ≡ Some d → stated d ≡ Ok ns → qualified ns ≡ r → (SomeIsNoRecord ns → ⊥) ⊎ SomeIsNoRecord ns → NamesOrRefusal bytes
 by_names bytes d ns r json shape found (inr some) = refused _ (bad_names d ns _ json shape (no_record some))
 by_names bytes d ns (Ok s) json shape found (inl none) = states s (record { value = d; namespaces = ns; json = json; shape = shape; named = record { records = none; found = found } })
 by_names bytes d ns (Err f) json shape found (inl none) = refused f (bad_names d ns f json shape (unknown f none found))

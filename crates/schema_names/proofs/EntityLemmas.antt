@@ -12,10 +12,10 @@ use Rattle.schema_types.specs.Mentions.{MentionsEntity}
 use Rattle.schema_types.specs.Law.{FoundEntitiesAreDeclared}
 use Rattle.schema_types.specs.Names.{Scope, full_name, entity_named, qualified_of}
 use Rattle.schema_types.specs.declared.fault.SchemaFault.{SchemaFault}
-use Rattle.schema_file.specs.Stated.{EntityTypeOf, UseOf, NamespaceOf}
+use Rattle.schema_file.specs.FileForm.{EntityTypeOf, UseOf, NamespaceOf}
 use Rattle.schema_names.specs.Naming.{StatesNamed}
 use Rattle.schema_names.specs.Laws.{IsEntityType, NamesItsEntityTypes}
-use Rattle.schema_names.specs.Qualifying.{entity_types_declared, scope_in, is_action_in, FoundEntityType, FoundUse, FoundAction, FoundSchema, entity_type_named, entity_types_named, type_named, qualified_entity_type, qualified_use, qualified_action, qualified_entity_types, qualified_actions, qualified}
+use Rattle.schema_names.specs.Qualifying.{entity_types_declared, scope_in, is_action_in, ResolvedEntityType, ResolvedUse, ResolvedAction, ResolvedSchema, entity_type_named, entity_types_named, type_named, qualified_entity_type, qualified_use, qualified_action, qualified_entity_types, qualified_actions, qualified}
 use Rattle.schema_names.proofs.FoundLemmas.{ok_same, read_from, read_to, all_of_from, all_of_to, map_from, some_passes, parts_of, namespace_from, namespace_to, namespace_parts, applies_from, record_from, common_from}
 
 abbrev ok : {A : Type 0} → A → Result A SchemaFault
@@ -35,28 +35,28 @@ named_declared declared sc own ws qs e q here =
 
 -- ---- the parts of what was found
 
-entity_type_parts : (sc : Scope) (own : Option (List ℕ)) (x : EntityTypeOf) (e : FoundEntityType) → qualified_entity_type sc own x ≡ ok e
+entity_type_parts : (sc : Scope) (own : Option (List ℕ)) (x : EntityTypeOf) (e : ResolvedEntityType) → qualified_entity_type sc own x ≡ ok e
     → (entity_types_named sc own x.parents ≡ ok e.parents) × (full_name own x.name ≡ e.name)
 unfolding qualified_entity_type
 entity_type_parts sc own x e read =
     let a = bind_ok (entity_types_named sc own x.parents) _ e read in
     let b = bind_ok (type_named sc own x.shape) _ e a.2 in
-    let same : (let y : FoundEntityType = record { name = full_name own x.name; parents = a.0; shape = b.0 } in y) ≡ e = ok_same (record { name = full_name own x.name; parents = a.0; shape = b.0 }) e b.2 in
-    (a.1 ∙ ap (λ (y : FoundEntityType). ok y.parents) same, ap (λ (y : FoundEntityType). y.name) same)
+    let same : (let y : ResolvedEntityType = record { name = full_name own x.name; parents = a.0; shape = b.0 } in y) ≡ e = ok_same (record { name = full_name own x.name; parents = a.0; shape = b.0 }) e b.2 in
+    (a.1 ∙ ap (λ (y : ResolvedEntityType). ok y.parents) same, ap (λ (y : ResolvedEntityType). y.name) same)
 
-use_parts : (sc : Scope) (own : Option (List ℕ)) (u : UseOf) (f : FoundUse) → qualified_use sc own u ≡ ok f
+use_parts : (sc : Scope) (own : Option (List ℕ)) (u : UseOf) (f : ResolvedUse) → qualified_use sc own u ≡ ok f
     → (entity_types_named sc own u.principals ≡ ok f.principals) × (entity_types_named sc own u.resources ≡ ok f.resources)
 unfolding qualified_use
 use_parts sc own u f read =
     let a = bind_ok (entity_types_named sc own u.principals) _ f read in
     let b = bind_ok (entity_types_named sc own u.resources) _ f a.2 in
     let d = bind_ok (type_named sc own u.context) _ f b.2 in
-    let same : (let y : FoundUse = record { principals = a.0; resources = b.0; context = d.0 } in y) ≡ f = ok_same (record { principals = a.0; resources = b.0; context = d.0 }) f d.2 in
-    (a.1 ∙ ap (λ (y : FoundUse). ok y.principals) same, b.1 ∙ ap (λ (y : FoundUse). ok y.resources) same)
+    let same : (let y : ResolvedUse = record { principals = a.0; resources = b.0; context = d.0 } in y) ≡ f = ok_same (record { principals = a.0; resources = b.0; context = d.0 }) f d.2 in
+    (a.1 ∙ ap (λ (y : ResolvedUse). ok y.principals) same, b.1 ∙ ap (λ (y : ResolvedUse). ok y.resources) same)
 
 -- ---- of a file with each name found
 
-module _ (ns : List NamespaceOf) (s : FoundSchema) (named : qualified ns ≡ ok s) where
+module _ (ns : List NamespaceOf) (s : ResolvedSchema) (named : qualified ns ≡ ok s) where
   -- an entity type of a namespace is one of s
   entity_to : (q : List ℕ) → (scope_in ns).entities q ≡ true → IsEntityType s q
   unfolding qualified_entity_types
@@ -69,24 +69,24 @@ module _ (ns : List NamespaceOf) (s : FoundSchema) (named : qualified ns ≡ ok 
       let inside = namespace_parts (scope_in ns) (is_action_in ns) n.0 p.0 p.2 in
       let t = read_to (λ i y. qualified_entity_type (scope_in ns) n.0.name y) 0 n.0.entity_types p.0.entity_types inside.1 m.0 m.1 in
       let name = (entity_type_parts (scope_in ns) n.0.name m.0 t.0 t.2.1).1 in
-      let there = subst (λ (y : FoundSchema). Contains y.entity_types t.0) parts.2 (all_of_to (λ y. y.entity_types) parts.0 p.0 t.0 p.1 t.1) in
+      let there = subst (λ (y : ResolvedSchema). Contains y.entity_types t.0) parts.2 (all_of_to (λ y. y.entity_types) parts.0 p.0 t.0 p.1 t.1) in
       (t.0, there, sym name ∙ m.2 ∙ (bytes_eq-Decides x.0 q).0 x.2)
 
-  entity_type_from : (e : FoundEntityType) → Contains s.entity_types e → (own : Option (List ℕ)) × (x : EntityTypeOf) × (qualified_entity_type (scope_in ns) own x ≡ ok e)
+  entity_type_from : (e : ResolvedEntityType) → Contains s.entity_types e → (own : Option (List ℕ)) × (x : EntityTypeOf) × (qualified_entity_type (scope_in ns) own x ≡ ok e)
   unfolding qualified_entity_types
   entity_type_from e here =
       let parts = parts_of ns s named in
-      let x = all_of_from (λ p. p.entity_types) parts.0 e (subst (λ (y : FoundSchema). Contains y.entity_types e) (sym parts.2) here) in
+      let x = all_of_from (λ p. p.entity_types) parts.0 e (subst (λ (y : ResolvedSchema). Contains y.entity_types e) (sym parts.2) here) in
       let n = namespace_from ns s named x.0 x.1 in
       let inside = namespace_parts (scope_in ns) (is_action_in ns) n.0 x.0 n.2 in
       let t = read_from (λ i y. qualified_entity_type (scope_in ns) n.0.name y) 0 n.0.entity_types x.0.entity_types inside.1 e x.2 in
       (n.0.name, t.0, t.2.1)
 
-  use_in : (a : FoundAction) (f : FoundUse) → Contains s.actions a → a.applies_to ≡ Some f → (own : Option (List ℕ)) × (u : UseOf) × (qualified_use (scope_in ns) own u ≡ ok f)
+  use_in : (a : ResolvedAction) (f : ResolvedUse) → Contains s.actions a → a.applies_to ≡ Some f → (own : Option (List ℕ)) × (u : UseOf) × (qualified_use (scope_in ns) own u ≡ ok f)
   unfolding qualified_actions
   use_in a f here applies =
       let parts = parts_of ns s named in
-      let x = all_of_from (λ p. p.actions) parts.0 a (subst (λ (y : FoundSchema). Contains y.actions a) (sym parts.2) here) in
+      let x = all_of_from (λ p. p.actions) parts.0 a (subst (λ (y : ResolvedSchema). Contains y.actions a) (sym parts.2) here) in
       let n = namespace_from ns s named x.0 x.1 in
       let inside = namespace_parts (scope_in ns) (is_action_in ns) n.0 x.0 n.2 in
       let t = read_from (λ i y. qualified_action (scope_in ns) (is_action_in ns) n.0.name y) 0 n.0.actions x.0.actions inside.2 a x.2 in
@@ -109,5 +109,5 @@ module _ (ns : List NamespaceOf) (s : FoundSchema) (named : qualified ns ≡ ok 
       resources = λ a f here applies q m. let u = use_in a f here applies in in_list u.0 u.1.resources f.resources (use_parts (scope_in ns) u.0 u.1 f u.2).1 q m;
     }
 
-pub names_its_entity_types : FoundEntitiesAreDeclared → (bytes : List ℕ) (s : FoundSchema) → StatesNamed bytes s → NamesItsEntityTypes s
+pub names_its_entity_types : FoundEntitiesAreDeclared → (bytes : List ℕ) (s : ResolvedSchema) → StatesNamed bytes s → NamesItsEntityTypes s
 names_its_entity_types declared bytes s h = all_declared h.namespaces s h.named.found declared

@@ -2,7 +2,7 @@
 use Rattle.std.proofs.Common.{◌≡◌, ◌∙◌, ℕ, List, Bool, true, Option, Some, None, refl, sym, ap}
 use Rattle.std.specs.Prelude.{Contains}
 use Rattle.schema_types.specs.Raw.{Raw}
-use Rattle.schema_file.specs.Stated.{NamespaceOf}
+use Rattle.schema_file.specs.FileForm.{NamespaceOf}
 use Rattle.schema_names.specs.Qualifying.{CommonOf, commons_declared, scope_in}
 use Rattle.schema_names.specs.Records.{common_meant, is_no_record, MeansNoRecord, form, named}
 use Rattle.schema_names.specs.inner.Spreading.{means_by, means_now, NamesNoRecord}

@@ -15,13 +15,13 @@ use Rattle.schema_types.specs.Qualified.{Qualified}
 use Rattle.schema_types.specs.WrittenOut.{Declarations, Declares}
 use Rattle.schema_types.specs.Names.{Scope, full_name, qualified_of}
 use Rattle.schema_types.specs.declared.fault.SchemaFault.{SchemaFault}
-use Rattle.schema_file.specs.Stated.{EntityTypeOf, UseOf, ActionOf, NamespaceOf}
+use Rattle.schema_file.specs.FileForm.{EntityTypeOf, UseOf, ActionOf, NamespaceOf}
 use Rattle.schema_types.specs.Mentions.{IsClosed}
 use Rattle.schema_types.specs.Law.{FoundCommonsAreDeclared}
 use Rattle.schema_names.specs.Laws.{IsShapeOrContext, NamesItsOwn}
 use Rattle.schema_names.specs.Naming.{StatesNamed}
 use Rattle.schema_names.specs.Records.{StandsAsRecord}
-use Rattle.schema_names.specs.Qualifying.{all_of, CommonOf, common_in, commons_declared, scope_in, is_action_in, FoundEntityType, FoundUse, FoundAction, FoundSchema, entity_types_named, type_named, parents_named, use_named, qualified_common, qualified_entity_type, qualified_use, qualified_action, qualified_commons, qualified_entity_types, qualified_actions, qualified_namespace, qualified_namespaces, together, qualified}
+use Rattle.schema_names.specs.Qualifying.{all_of, CommonOf, common_in, commons_declared, scope_in, is_action_in, ResolvedEntityType, ResolvedUse, ResolvedAction, ResolvedSchema, entity_types_named, type_named, parents_named, use_named, qualified_common, qualified_entity_type, qualified_use, qualified_action, qualified_commons, qualified_entity_types, qualified_actions, qualified_namespace, qualified_namespaces, together, qualified}
 
 abbrev ok : {A : Type 0} → A → Result A SchemaFault
 ok x = Ok x
@@ -151,26 +151,26 @@ some_passes {A = A} p (x ∷ xs) h = by (p x) refl h (λ later. some_passes p xs
 
 -- ---- of a file with each name found
 
-module _ (ns : List NamespaceOf) (s : FoundSchema) (named : qualified ns ≡ ok s) where
+module _ (ns : List NamespaceOf) (s : ResolvedSchema) (named : qualified ns ≡ ok s) where
   -- of a namespace that is stated, p is that with each name found
-  abbrev FromNamespace : FoundSchema → Type 0
+  abbrev FromNamespace : ResolvedSchema → Type 0
   FromNamespace p = (n : NamespaceOf) × Contains ns n × (qualified_namespace (scope_in ns) (is_action_in ns) n ≡ ok p)
 
-  pub parts_of : (parts : List FoundSchema) × (qualified_namespaces (scope_in ns) (is_action_in ns) ns ≡ ok parts) × (together parts ≡ s)
+  pub parts_of : (parts : List ResolvedSchema) × (qualified_namespaces (scope_in ns) (is_action_in ns) ns ≡ ok parts) × (together parts ≡ s)
   unfolding qualified
   parts_of =
       let b = bind_ok (qualified_namespaces (scope_in ns) (is_action_in ns) ns) (λ parts. ok (together parts)) s named in
       (b.0, b.1, ok_same (together b.0) s b.2)
 
-  pub namespace_from : (p : FoundSchema) → Contains parts_of.0 p → FromNamespace p
+  pub namespace_from : (p : ResolvedSchema) → Contains parts_of.0 p → FromNamespace p
   unfolding qualified_namespaces
   namespace_from p here = let x = read_from (λ i n. qualified_namespace (scope_in ns) (is_action_in ns) n) 0 ns parts_of.0 parts_of.1 p here in (x.0, x.1, x.2.1)
 
-  pub namespace_to : (n : NamespaceOf) → Contains ns n → (p : FoundSchema) × Contains parts_of.0 p × (qualified_namespace (scope_in ns) (is_action_in ns) n ≡ ok p)
+  pub namespace_to : (n : NamespaceOf) → Contains ns n → (p : ResolvedSchema) × Contains parts_of.0 p × (qualified_namespace (scope_in ns) (is_action_in ns) n ≡ ok p)
   unfolding qualified_namespaces
   namespace_to n here = let x = read_to (λ i m. qualified_namespace (scope_in ns) (is_action_in ns) m) 0 ns parts_of.0 parts_of.1 n here in (x.0, x.1, x.2.1)
 
-module _ (sc : Scope) (is_action : EntityUid → Bool) (n : NamespaceOf) (p : FoundSchema) (named : qualified_namespace sc is_action n ≡ ok p) where
+module _ (sc : Scope) (is_action : EntityUid → Bool) (n : NamespaceOf) (p : ResolvedSchema) (named : qualified_namespace sc is_action n ≡ ok p) where
   pub namespace_parts : (qualified_commons sc n.name n.commons ≡ ok p.commons) × (qualified_entity_types sc n.name n.entity_types ≡ ok p.entity_types)
       × (qualified_actions sc is_action n.name n.actions ≡ ok p.actions)
   unfolding qualified_namespace
@@ -178,8 +178,8 @@ module _ (sc : Scope) (is_action : EntityUid → Bool) (n : NamespaceOf) (p : Fo
       let a = bind_ok (qualified_commons sc n.name n.commons) _ p named in
       let b = bind_ok (qualified_entity_types sc n.name n.entity_types) _ p a.2 in
       let d = bind_ok (qualified_actions sc is_action n.name n.actions) _ p b.2 in
-      let same : (let x : FoundSchema = record { commons = a.0; entity_types = b.0; actions = d.0 } in x) ≡ p = ok_same (record { commons = a.0; entity_types = b.0; actions = d.0 }) p d.2 in
-      (a.1 ∙ ap (λ (x : FoundSchema). ok x.commons) same, b.1 ∙ ap (λ (x : FoundSchema). ok x.entity_types) same, d.1 ∙ ap (λ (x : FoundSchema). ok x.actions) same)
+      let same : (let x : ResolvedSchema = record { commons = a.0; entity_types = b.0; actions = d.0 } in x) ≡ p = ok_same (record { commons = a.0; entity_types = b.0; actions = d.0 }) p d.2 in
+      (a.1 ∙ ap (λ (x : ResolvedSchema). ok x.commons) same, b.1 ∙ ap (λ (x : ResolvedSchema). ok x.entity_types) same, d.1 ∙ ap (λ (x : ResolvedSchema). ok x.actions) same)
 
 -- r is what the type raw means, as it stands in the namespace own
 abbrev Means : Scope → Option (List ℕ) → Option Raw → Qualified → Type 0
@@ -191,45 +191,45 @@ type_from sc own (Some raw) found e r is =
     let a = bind_ok (qualified_of sc own raw) (λ t. ok (some t)) found e in
     (raw, refl, a.1 ∙ ap (λ (x : Qualified). ok x) (some_same a.0 r (ok_same (some a.0) found a.2 ∙ is)))
 
-shape_from : (sc : Scope) (own : Option (List ℕ)) (x : EntityTypeOf) (e : FoundEntityType) → qualified_entity_type sc own x ≡ ok e → (r : Qualified) → e.shape ≡ some r → Means sc own x.shape r
+shape_from : (sc : Scope) (own : Option (List ℕ)) (x : EntityTypeOf) (e : ResolvedEntityType) → qualified_entity_type sc own x ≡ ok e → (r : Qualified) → e.shape ≡ some r → Means sc own x.shape r
 unfolding qualified_entity_type
 shape_from sc own x e read r is =
     let a = bind_ok (entity_types_named sc own x.parents) _ e read in
     let b = bind_ok (type_named sc own x.shape) _ e a.2 in
-    let same : (let y : FoundEntityType = record { name = full_name own x.name; parents = a.0; shape = b.0 } in y) ≡ e = ok_same (record { name = full_name own x.name; parents = a.0; shape = b.0 }) e b.2 in
-    type_from sc own x.shape b.0 b.1 r (ap (λ (y : FoundEntityType). y.shape) same ∙ is)
+    let same : (let y : ResolvedEntityType = record { name = full_name own x.name; parents = a.0; shape = b.0 } in y) ≡ e = ok_same (record { name = full_name own x.name; parents = a.0; shape = b.0 }) e b.2 in
+    type_from sc own x.shape b.0 b.1 r (ap (λ (y : ResolvedEntityType). y.shape) same ∙ is)
 
-context_from : (sc : Scope) (own : Option (List ℕ)) (u : UseOf) (f : FoundUse) → qualified_use sc own u ≡ ok f → (r : Qualified) → f.context ≡ some r → Means sc own u.context r
+context_from : (sc : Scope) (own : Option (List ℕ)) (u : UseOf) (f : ResolvedUse) → qualified_use sc own u ≡ ok f → (r : Qualified) → f.context ≡ some r → Means sc own u.context r
 unfolding qualified_use
 context_from sc own u f read r is =
     let a = bind_ok (entity_types_named sc own u.principals) _ f read in
     let b = bind_ok (entity_types_named sc own u.resources) _ f a.2 in
     let d = bind_ok (type_named sc own u.context) _ f b.2 in
-    let same : (let y : FoundUse = record { principals = a.0; resources = b.0; context = d.0 } in y) ≡ f = ok_same (record { principals = a.0; resources = b.0; context = d.0 }) f d.2 in
-    type_from sc own u.context d.0 d.1 r (ap (λ (y : FoundUse). y.context) same ∙ is)
+    let same : (let y : ResolvedUse = record { principals = a.0; resources = b.0; context = d.0 } in y) ≡ f = ok_same (record { principals = a.0; resources = b.0; context = d.0 }) f d.2 in
+    type_from sc own u.context d.0 d.1 r (ap (λ (y : ResolvedUse). y.context) same ∙ is)
 
-pub use_from : (sc : Scope) (own : Option (List ℕ)) (o : Option UseOf) (found : Option FoundUse) → use_named sc own o ≡ ok found → (f : FoundUse) → found ≡ some f → (u : UseOf) × (o ≡ some u) × (qualified_use sc own u ≡ ok f)
+pub use_from : (sc : Scope) (own : Option (List ℕ)) (o : Option UseOf) (found : Option ResolvedUse) → use_named sc own o ≡ ok found → (f : ResolvedUse) → found ≡ some f → (u : UseOf) × (o ≡ some u) × (qualified_use sc own u ≡ ok f)
 use_from sc own None found e f is = none_some (ok_same None found e ∙ is)
 use_from sc own (Some u) found e f is =
     let a = bind_ok (qualified_use sc own u) (λ t. ok (some t)) found e in
-    (u, refl, a.1 ∙ ap (λ (x : FoundUse). ok x) (some_same a.0 f (ok_same (some a.0) found a.2 ∙ is)))
+    (u, refl, a.1 ∙ ap (λ (x : ResolvedUse). ok x) (some_same a.0 f (ok_same (some a.0) found a.2 ∙ is)))
 
-pub applies_from : (sc : Scope) (is_action : EntityUid → Bool) (own : Option (List ℕ)) (x : ActionOf) (a : FoundAction) → qualified_action sc is_action own x ≡ ok a → (f : FoundUse) → a.applies_to ≡ some f
+pub applies_from : (sc : Scope) (is_action : EntityUid → Bool) (own : Option (List ℕ)) (x : ActionOf) (a : ResolvedAction) → qualified_action sc is_action own x ≡ ok a → (f : ResolvedUse) → a.applies_to ≡ some f
     → (u : UseOf) × (x.applies_to ≡ some u) × (qualified_use sc own u ≡ ok f)
 unfolding qualified_action
 applies_from sc is_action own x a read f is =
     let p = bind_ok (parents_named is_action own x.parents) _ a read in
     let u = bind_ok (use_named sc own x.applies_to) _ a p.2 in
-    let same = ap (λ (y : FoundAction). y.applies_to) (ok_same _ a u.2) in
+    let same = ap (λ (y : ResolvedAction). y.applies_to) (ok_same _ a u.2) in
     use_from sc own x.applies_to u.0 u.1 f (same ∙ is)
 
-module _ (ns : List NamespaceOf) (s : FoundSchema) (named : qualified ns ≡ ok s) where
+module _ (ns : List NamespaceOf) (s : ResolvedSchema) (named : qualified ns ≡ ok s) where
   -- a shape or a context of s is what one of a namespace means
   pub record_from : (r : Qualified) → IsShapeOrContext s r → (n : NamespaceOf) × (raw : Raw) × Contains ns n × StandsAsRecord n raw × (qualified_of (scope_in ns) n.name raw ≡ ok r)
   unfolding qualified_entity_types qualified_actions
   record_from r (inl (e, here, is)) =
       let parts = parts_of ns s named in
-      let x = all_of_from (λ p. p.entity_types) parts.0 e (subst (λ (y : FoundSchema). Contains y.entity_types e) (sym parts.2) here) in
+      let x = all_of_from (λ p. p.entity_types) parts.0 e (subst (λ (y : ResolvedSchema). Contains y.entity_types e) (sym parts.2) here) in
       let n = namespace_from ns s named x.0 x.1 in
       let inside = namespace_parts (scope_in ns) (is_action_in ns) n.0 x.0 n.2 in
       let t = read_from (λ i y. qualified_entity_type (scope_in ns) n.0.name y) 0 n.0.entity_types x.0.entity_types inside.1 e x.2 in
@@ -237,7 +237,7 @@ module _ (ns : List NamespaceOf) (s : FoundSchema) (named : qualified ns ≡ ok 
       (n.0, m.0, n.1, inl (t.0, t.1, m.1), m.2)
   record_from r (inr (a, here, (f, applies, is))) =
       let parts = parts_of ns s named in
-      let x = all_of_from (λ p. p.actions) parts.0 a (subst (λ (y : FoundSchema). Contains y.actions a) (sym parts.2) here) in
+      let x = all_of_from (λ p. p.actions) parts.0 a (subst (λ (y : ResolvedSchema). Contains y.actions a) (sym parts.2) here) in
       let n = namespace_from ns s named x.0 x.1 in
       let inside = namespace_parts (scope_in ns) (is_action_in ns) n.0 x.0 n.2 in
       let t = read_from (λ i y. qualified_action (scope_in ns) (is_action_in ns) n.0.name y) 0 n.0.actions x.0.actions inside.2 a x.2 in
@@ -251,7 +251,7 @@ module _ (ns : List NamespaceOf) (s : FoundSchema) (named : qualified ns ≡ ok 
   unfolding qualified_commons qualified_common
   common_from q r here =
       let parts = parts_of ns s named in
-      let x = all_of_from (λ p. p.commons) parts.0 (q, r) (subst (λ (y : FoundSchema). Contains y.commons (q, r)) (sym parts.2) (declares_from s.commons q r here)) in
+      let x = all_of_from (λ p. p.commons) parts.0 (q, r) (subst (λ (y : ResolvedSchema). Contains y.commons (q, r)) (sym parts.2) (declares_from s.commons q r here)) in
       let n = namespace_from ns s named x.0 x.1 in
       let inside = namespace_parts (scope_in ns) (is_action_in ns) n.0 x.0 n.2 in
       let t = read_from (λ i y. qualified_common (scope_in ns) n.0.name y) 0 n.0.commons x.0.commons inside.0 (q, r) x.2 in
@@ -275,7 +275,7 @@ module _ (ns : List NamespaceOf) (s : FoundSchema) (named : qualified ns ≡ ok 
       let t = read_to (λ i y. qualified_common (scope_in ns) x.0.name y) 0 x.0.commons p.0.commons inside.0 m.0 m.1 in
       let a = bind_ok (qualified_of (scope_in ns) x.0.name m.0.1) (λ z. ok (full_name x.0.name m.0.0, z)) t.0 t.2.1 in
       let name : t.0.0 ≡ c.name = ap (λ (d : List ℕ × Qualified). d.0) (sym (ok_same (full_name x.0.name m.0.0, a.0) t.0 a.2)) ∙ ap (λ (y : CommonOf). y.name) m.2 in
-      let there = subst (λ (y : FoundSchema). Contains y.commons t.0) parts.2 (all_of_to (λ y. y.commons) parts.0 p.0 t.0 p.1 t.1) in
+      let there = subst (λ (y : ResolvedSchema). Contains y.commons t.0) parts.2 (all_of_to (λ y. y.commons) parts.0 p.0 t.0 p.1 t.1) in
       (t.0.1, subst (λ (q : List ℕ). Declares s.commons q t.0.1) name (declares_to s.commons t.0 there))
 
   -- what a type of the file names is declared
@@ -285,7 +285,7 @@ module _ (ns : List NamespaceOf) (s : FoundSchema) (named : qualified ns ≡ ok 
       let t = common_to x.0 x.1 in
       (t.0, subst (λ (p : List ℕ). Declares s.commons p t.0) ((bytes_eq-Decides x.0.name q).0 x.2) t.1)
 
-pub names_its_own : FoundCommonsAreDeclared → (bytes : List ℕ) (s : FoundSchema) → StatesNamed bytes s → NamesItsOwn s
+pub names_its_own : FoundCommonsAreDeclared → (bytes : List ℕ) (s : ResolvedSchema) → StatesNamed bytes s → NamesItsOwn s
 names_its_own declared bytes s h = record {
   commons = λ q r here. let c = common_from h.namespaces s h.named.found q r here in closed h.namespaces s h.named.found declared c.0.own c.0.type r c.3;
   records = λ r here. let x = record_from h.namespaces s h.named.found r here in closed h.namespaces s h.named.found declared x.0.name x.1 r x.4;

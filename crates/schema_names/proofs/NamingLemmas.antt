@@ -7,11 +7,11 @@ use Rattle.serde_json.specs.Data.{Data}
 use Rattle.schema_types.specs.declared.fault.SchemaFault.{SchemaFault}
 use Rattle.schema_types.specs.declared.fault.SchemaFault.TheVariants.{NoMemory, NotJson}
 use Rattle.schema_file.specs.schema_types.declared.names.Names.{Names}
-use Rattle.schema_names.specs.declared.qualifying.Found.{Found}
+use Rattle.schema_names.specs.declared.qualifying.ResolvedFile.{ResolvedFile}
 use Rattle.schema_file.specs.schema_types.NamesViews.{scope_of, is_action_of}
-use Rattle.schema_file.specs.Stated.{NamespaceOf, stated}
+use Rattle.schema_file.specs.FileForm.{NamespaceOf, stated}
 use Rattle.schema_names.specs.Qualifying.{together, scope_in, is_action_in, qualified_namespaces, qualified}
-use Rattle.schema_names.specs.FoundViews.{found_view}
+use Rattle.schema_names.specs.ResolvedViews.{found_view}
 use Rattle.schema_names.specs.Records.{SomeIsNoRecord}
 use Rattle.schema_names.specs.inner.Adding.{Declares}
 use Rattle.schema_names.specs.inner.Spreading.{MayRefuseRecords}
@@ -22,7 +22,7 @@ pub records_refused : (ns : List NamespaceOf) (f : SchemaFault) → MayRefuseRec
 records_refused ns f (inl m) apart = absurd (apart m)
 records_refused ns f (inr (b, s)) apart = subst (λ (e : SchemaFault). NamesRefused ns e) (sym b) (no_record s)
 
-pub names_found : (ns : List NamespaceOf) (names : Names) → Declares ns names → (SomeIsNoRecord ns → ⊥) → (r : Result (List Found) SchemaFault)
+pub names_found : (ns : List NamespaceOf) (names : Names) → Declares ns names → (SomeIsNoRecord ns → ⊥) → (r : Result (List ResolvedFile) SchemaFault)
     → ReadsAs NoMemory (map found_view) r (qualified_namespaces (scope_of names) (is_action_of names) ns)
     → MatchResult r (λ ps. IsNamed ns (together (map found_view ps))) (λ f. f ≢ NoMemory → NamesRefused ns f)
 unfolding qualified
@@ -47,7 +47,7 @@ json_refused bytes f fails apart = no_json bytes f (json_of bytes) refl (fails a
 pub shape_refused : (bytes : List ℕ) (d : Data) (f : SchemaFault) → or_fault NotJson (json_of bytes) ≡ Ok d → Fails NoMemory f (stated d) → f ≢ NoMemory → NamingRefused bytes f
 shape_refused bytes d f json fails apart = bad_shape d f (json_some (json_of bytes) d json) (fails apart)
 
-pub bytes_named : (bytes : List ℕ) (d : Data) (ns : List NamespaceOf) → or_fault NotJson (json_of bytes) ≡ Ok d → stated d ≡ Ok ns → (r : Result (List Found) SchemaFault)
+pub bytes_named : (bytes : List ℕ) (d : Data) (ns : List NamespaceOf) → or_fault NotJson (json_of bytes) ≡ Ok d → stated d ≡ Ok ns → (r : Result (List ResolvedFile) SchemaFault)
     → MatchResult r (λ ps. IsNamed ns (together (map found_view ps))) (λ f. f ≢ NoMemory → NamesRefused ns f)
     → MatchResult r (λ ps. StatesNamed bytes (together (map found_view ps))) (λ f. f ≢ NoMemory → NamingRefused bytes f)
 bytes_named bytes d ns json shape (Ok ps) h = record { value = d; namespaces = ns; json = json_some (json_of bytes) d json; shape = shape; named = h }

@@ -24,11 +24,11 @@ use Rattle.schema_types.specs.TypeShape.{type_name, type_of}
 use Rattle.schema_types.specs.declared.fault.SchemaFault.{SchemaFault}
 use Rattle.schema_types.specs.declared.fault.SchemaFault.TheVariants.{BadShape}
 use Rattle.schema_file.specs.Once.{AreApart, StatesOnce, AllStateOnce}
-use Rattle.schema_file.specs.Stated.{EntityTypeOf, ActionOf, NamespaceOf, ident, is_common, common_of, commons_of}
-use Rattle.schema_file.specs.Stated.{entity_type_name, entity_type_of, entity_types_of, names_in, type_in, members_in}
-use Rattle.schema_file.specs.Stated.{commons_in, entity_types_in, actions_in, namespace_name, namespace_of}
-use Rattle.schema_file.specs.Stated.{namespaces_of, stated}
-use Rattle.schema_names.specs.Qualifying.{FoundEntityType, FoundAction, FoundSchema, all_of, entity_types_named}
+use Rattle.schema_file.specs.FileForm.{EntityTypeOf, ActionOf, NamespaceOf, ident, is_common, common_of, commons_of}
+use Rattle.schema_file.specs.FileForm.{entity_type_name, entity_type_of, entity_types_of, names_in, type_in, members_in}
+use Rattle.schema_file.specs.FileForm.{commons_in, entity_types_in, actions_in, namespace_name, namespace_of}
+use Rattle.schema_file.specs.FileForm.{namespaces_of, stated}
+use Rattle.schema_names.specs.Qualifying.{ResolvedEntityType, ResolvedAction, ResolvedSchema, all_of, entity_types_named}
 use Rattle.schema_names.specs.Qualifying.{type_named, parents_named, use_named, qualified_common, qualified_commons}
 use Rattle.schema_names.specs.Qualifying.{qualified_entity_type, qualified_entity_types, qualified_action}
 use Rattle.schema_names.specs.Qualifying.{qualified_actions, qualified_namespace, qualified_namespaces, together}
@@ -172,22 +172,22 @@ module _ {N : Type 0} (full : Option (List ℕ) → List ℕ → N) (Good : List
 
   -- ---- the names that were found are those that are stated
 
-  module _ {A B : Type 0} (of : NamespaceOf → List A) (word : A → List ℕ) (get : FoundSchema → List B) (name : B → N) where
+  module _ {A B : Type 0} (of : NamespaceOf → List A) (word : A → List ℕ) (get : ResolvedSchema → List B) (name : B → N) where
     abbrev part_of : NamespaceOf → Part
     part_of n = (n.name, map word (of n))
 
     module _ (sc : Scope) (is_action : EntityUid → Bool)
-        (inside : (n : NamespaceOf) (p : FoundSchema) → qualified_namespace sc is_action n ≡ ok p → map name (get p) ≡ map (full n.name) (map word (of n))) where
-      parts_named : (k : ℕ) (ns : List NamespaceOf) (parts : List FoundSchema) → each (λ i n. qualified_namespace sc is_action n) k ns ≡ ok parts
+        (inside : (n : NamespaceOf) (p : ResolvedSchema) → qualified_namespace sc is_action n ≡ ok p → map name (get p) ≡ map (full n.name) (map word (of n))) where
+      parts_named : (k : ℕ) (ns : List NamespaceOf) (parts : List ResolvedSchema) → each (λ i n. qualified_namespace sc is_action n) k ns ≡ ok parts
           → map name (all_of get parts) ≡ full_names (map part_of ns)
       unfolding each full_names
-      parts_named k [] parts e = ap (λ (l : List FoundSchema). map name (all_of get l)) (sym (ok_same [] parts e))
+      parts_named k [] parts e = ap (λ (l : List ResolvedSchema). map name (all_of get l)) (sym (ok_same [] parts e))
       parts_named k (n ∷ ns) parts e =
           let a = bind_ok (qualified_namespace sc is_action n) (λ y. each (λ i n. qualified_namespace sc is_action n) (suc k) ns >>= λ ys. ok (y ∷ ys)) parts e in
           let b = bind_ok (each (λ i n. qualified_namespace sc is_action n) (suc k) ns) (λ ys. ok (a.0 ∷ ys)) parts a.2 in
           let one = inside n a.0 a.1 in
           let rest = parts_named (suc k) ns b.0 b.1 in
-          ap (λ (l : List FoundSchema). map name (all_of get l)) (sym (ok_same (a.0 ∷ b.0) parts b.2))
+          ap (λ (l : List ResolvedSchema). map name (all_of get l)) (sym (ok_same (a.0 ∷ b.0) parts b.2))
           ∙ map-append name (get a.0) (all_of get b.0) ∙ (λ i. one i ++ rest i)
 
     firsts : (ns : List NamespaceOf) → map (λ p. p.0) (map part_of ns) ≡ map (λ n. n.name) ns
@@ -198,9 +198,9 @@ module _ {N : Type 0} (full : Option (List ℕ) → List ℕ → N) (Good : List
     goods [] h k = tt
     goods (n ∷ ns) h k = ((h.0, k.0), goods ns h.1 k.1)
 
-    found_apart : (ns : List NamespaceOf) (s : FoundSchema) → qualified ns ≡ ok s → (all : (p q : FoundSchema) → p ≡ q → get p ≡ get q)
-        → (together_is : (parts : List FoundSchema) → get (together parts) ≡ all_of get parts)
-        → ((n : NamespaceOf) (p : FoundSchema) → qualified_namespace (scope_in ns) (is_action_in ns) n ≡ ok p → map name (get p) ≡ map (full n.name) (map word (of n)))
+    found_apart : (ns : List NamespaceOf) (s : ResolvedSchema) → qualified ns ≡ ok s → (all : (p q : ResolvedSchema) → p ≡ q → get p ≡ get q)
+        → (together_is : (parts : List ResolvedSchema) → get (together parts) ≡ all_of get parts)
+        → ((n : NamespaceOf) (p : ResolvedSchema) → qualified_namespace (scope_in ns) (is_action_in ns) n ≡ ok p → map name (get p) ≡ map (full n.name) (map word (of n)))
         → AreApart (map (λ n. n.name) ns) → AllByRecursion (λ n. AllByRecursion Good (map word (of n))) ns → AllByRecursion (λ n. AreApart (map word (of n))) ns
         → AreApart (map name (get s))
     unfolding qualified qualified_namespaces
@@ -234,21 +234,21 @@ module _ (sc : Scope) (is_action : EntityUid → Bool) where
       let a = bind_ok (qualified_of sc own c.1) (λ t. ok (full_name own c.0, t)) d e in
       ap (λ (x : List ℕ × Qualified). x.0) (sym (ok_same (full_name own c.0, a.0) d a.2))
 
-  entity_type_is : (own : Option (List ℕ)) (i : ℕ) (x : EntityTypeOf) (e : FoundEntityType) → qualified_entity_type sc own x ≡ ok e → e.name ≡ full_name own x.name
+  entity_type_is : (own : Option (List ℕ)) (i : ℕ) (x : EntityTypeOf) (e : ResolvedEntityType) → qualified_entity_type sc own x ≡ ok e → e.name ≡ full_name own x.name
   unfolding qualified_entity_type
   entity_type_is own i x e read =
       let a = bind_ok (entity_types_named sc own x.parents) _ e read in
       let b = bind_ok (type_named sc own x.shape) _ e a.2 in
-      ap (λ (y : FoundEntityType). y.name) (sym (ok_same (record { name = full_name own x.name; parents = a.0; shape = b.0 }) e b.2))
+      ap (λ (y : ResolvedEntityType). y.name) (sym (ok_same (record { name = full_name own x.name; parents = a.0; shape = b.0 }) e b.2))
 
-  action_is : (own : Option (List ℕ)) (i : ℕ) (x : ActionOf) (a : FoundAction) → qualified_action sc is_action own x ≡ ok a → a.uid ≡ full_uid own x.id
+  action_is : (own : Option (List ℕ)) (i : ℕ) (x : ActionOf) (a : ResolvedAction) → qualified_action sc is_action own x ≡ ok a → a.uid ≡ full_uid own x.id
   unfolding qualified_action
   action_is own i x a read =
       let p = bind_ok (parents_named is_action own x.parents) _ a read in
       let u = bind_ok (use_named sc own x.applies_to) _ a p.2 in
-      ap (λ (y : FoundAction). y.uid) (sym (ok_same (record { uid = action_uid (action_type own) x.id; parents = p.0; applies_to = u.0 }) a u.2))
+      ap (λ (y : ResolvedAction). y.uid) (sym (ok_same (record { uid = action_uid (action_type own) x.id; parents = p.0; applies_to = u.0 }) a u.2))
 
-  module _ (n : NamespaceOf) (p : FoundSchema) (e : qualified_namespace sc is_action n ≡ ok p) where
+  module _ (n : NamespaceOf) (p : ResolvedSchema) (e : qualified_namespace sc is_action n ≡ ok p) where
     commons_are : map (λ d. d.0) p.commons ≡ map (full_name n.name) (map (λ c. c.0) n.commons)
     unfolding qualified_commons
     commons_are =
@@ -360,16 +360,16 @@ apart_at : {A : Type 0} (of : NamespaceOf → List A) (word : A → List ℕ) �
 apart_at of word at [] h = tt
 apart_at of word at (n ∷ ns) h = (at n h.0, apart_at of word at ns h.1)
 
-declares_once : (d : Data) (ns : List NamespaceOf) (s : FoundSchema) → stated d ≡ ok ns → AllStateOnce ns → qualified ns ≡ ok s → DeclaresOnce s
+declares_once : (d : Data) (ns : List NamespaceOf) (s : ResolvedSchema) → stated d ≡ ok ns → AllStateOnce ns → qualified ns ≡ ok s → DeclaresOnce s
 unfolding stated namespaces_of
 declares_once d ns s shape once found =
     let a = bind_ok (or_fault BadShape (as_object d)) (λ ms. namespaces_of ms) ns shape in
     let plain = members_have namespace_of (λ n. n) ArePlain namespace_plain a.0 ns a.2 in record {
-      commons = declared_once s.commons (found_apart full_name IsPlain full_once (λ n. n.commons) (λ c. c.0) (λ p. p.commons) (λ x. x.0) ns s found (λ p q e. ap (λ (x : FoundSchema). x.commons) e) (λ parts. refl)
+      commons = declared_once s.commons (found_apart full_name IsPlain full_once (λ n. n.commons) (λ c. c.0) (λ p. p.commons) (λ x. x.0) ns s found (λ p q e. ap (λ (x : ResolvedSchema). x.commons) e) (λ parts. refl)
           (commons_are (scope_in ns) (is_action_in ns)) once.namespaces (plain_at (λ n. n.commons) (λ c. c.0) (λ n h. h.commons) ns plain) (apart_at (λ n. n.commons) (λ c. c.0) (λ n h. h.commons) ns once.names));
-      entity_types = found_apart full_name IsPlain full_once (λ n. n.entity_types) (λ x. x.name) (λ p. p.entity_types) (λ x. x.name) ns s found (λ p q e. ap (λ (x : FoundSchema). x.entity_types) e) (λ parts. refl)
+      entity_types = found_apart full_name IsPlain full_once (λ n. n.entity_types) (λ x. x.name) (λ p. p.entity_types) (λ x. x.name) ns s found (λ p q e. ap (λ (x : ResolvedSchema). x.entity_types) e) (λ parts. refl)
           (entity_types_are (scope_in ns) (is_action_in ns)) once.namespaces (plain_at (λ n. n.entity_types) (λ x. x.name) (λ n h. h.entity_types) ns plain) (apart_at (λ n. n.entity_types) (λ x. x.name) (λ n h. h.entity_types) ns once.names);
-      actions = found_apart full_uid Any uid_once (λ n. n.actions) (λ x. x.id) (λ p. p.actions) (λ x. x.uid) ns s found (λ p q e. ap (λ (x : FoundSchema). x.actions) e) (λ parts. refl)
+      actions = found_apart full_uid Any uid_once (λ n. n.actions) (λ x. x.id) (λ p. p.actions) (λ x. x.uid) ns s found (λ p q e. ap (λ (x : ResolvedSchema). x.actions) e) (λ parts. refl)
           (actions_are (scope_in ns) (is_action_in ns)) once.namespaces (all_any ns) (apart_at (λ n. n.actions) (λ x. x.id) (λ n h. h.actions) ns once.names);
     }
 

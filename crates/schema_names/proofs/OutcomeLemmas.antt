@@ -3,8 +3,8 @@ use Rattle.std.proofs.Common.{◌≡◌, ◌∙◌, ℕ, List, Option, Some, Non
 use Rattle.serde_json.specs.Data.{Data}
 use Rattle.json_words.specs.Json.{json_of}
 use Rattle.schema_types.specs.declared.fault.SchemaFault.{SchemaFault}
-use Rattle.schema_file.specs.Stated.{NamespaceOf, stated}
-use Rattle.schema_names.specs.Qualifying.{FoundSchema, qualified}
+use Rattle.schema_file.specs.FileForm.{NamespaceOf, stated}
+use Rattle.schema_names.specs.Qualifying.{ResolvedSchema, qualified}
 use Rattle.schema_names.specs.Naming.{NamesRefused, no_record, unknown, not_json, bad_shape, bad_names}
 use Rattle.schema_names.specs.Records.{SomeIsNoRecord}
 use Rattle.schema_names.specs.Laws.{OneFile, OneRefusal, NotBoth}
@@ -65,7 +65,7 @@ one_refusal bytes f _ (bad_names d ns _ h e r) (not_json k) = none_some (sym k �
 one_refusal bytes f g (bad_names d ns _ h e r) (bad_shape x _ k i) = ok_err (one_stated bytes d x ns (Err g) h k e i)
 one_refusal bytes f g (bad_names d ns _ h e r) (bad_names x ms _ k i q) = one_cause ns ms f g (one_space bytes d x ns ms h k e i) r q
 
-named_or : (ns ms : List NamespaceOf) (s : FoundSchema) (f : SchemaFault) → ns ≡ ms → (SomeIsNoRecord ns → ⊥) → qualified ns ≡ ok s → NamesRefused ms f → ⊥
+named_or : (ns ms : List NamespaceOf) (s : ResolvedSchema) (f : SchemaFault) → ns ≡ ms → (SomeIsNoRecord ns → ⊥) → qualified ns ≡ ok s → NamesRefused ms f → ⊥
 named_or ns ms s _ same none found (no_record y) = none (subst (λ l. SomeIsNoRecord l) (sym same) y)
 named_or ns ms s f same none found (unknown _ other is) = ok_err (sym found ∙ ap qualified same ∙ is)
 

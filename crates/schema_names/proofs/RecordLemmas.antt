@@ -5,7 +5,7 @@ use Rattle.std.specs.List.{list_all}
 use Rattle.std.proofs.lemmas.Bool.{cases_Bool}
 use Rattle.std.proofs.lemmas.List.{drop_all}
 use Rattle.schema_types.specs.Raw.{Raw}
-use Rattle.schema_file.specs.Stated.{UseOf, ActionOf, NamespaceOf}
+use Rattle.schema_file.specs.FileForm.{UseOf, ActionOf, NamespaceOf}
 use Rattle.schema_names.specs.Qualifying.{scope_in}
 use Rattle.schema_names.specs.Records.{StandsAsRecord, SomeIsNoRecord}
 use Rattle.schema_names.specs.inner.Spreading.{means_now, ReportsRecords, is_record_at, is_record_in, are_shapes, are_contexts, are_records_of, are_records}

@@ -15,9 +15,9 @@ use Rattle.schema_types.specs.WrittenOut.{WrittenOut}
 use Rattle.schema_types.specs.Names.{Scope, found, built_in, or_entity, or_common, any_named, entity_named, common_named, qualified_of, fields_of}
 use Rattle.schema_types.specs.declared.fault.SchemaFault.{SchemaFault}
 use Rattle.schema_types.specs.declared.fault.SchemaFault.TheVariants.{UnknownName}
-use Rattle.schema_file.specs.Stated.{NamespaceOf}
+use Rattle.schema_file.specs.FileForm.{NamespaceOf}
 use Rattle.schema_names.specs.Qualifying as file
-use Rattle.schema_names.specs.Qualifying.{CommonOf, scope_in, FoundSchema}
+use Rattle.schema_names.specs.Qualifying.{CommonOf, scope_in, ResolvedSchema}
 use Rattle.schema_names.specs.Records.{common_meant, MeansNoRecord, form, named, StandsAsRecord}
 use Rattle.schema_names.specs.Laws.{ShapesAreRecords}
 use Rattle.schema_names.proofs.FoundLemmas.{record_from, common_from}
@@ -134,7 +134,7 @@ module _ (ns : List NamespaceOf) (own : Option (List ℕ)) where
 abbrev IsRecord : Cedar → Type 0
 IsRecord t = (fs : CedarFields) × (t ≡ cedar.record_of fs)
 
-module _ (ns : List NamespaceOf) (s : FoundSchema) (file_is : file.qualified ns ≡ ok s) where
+module _ (ns : List NamespaceOf) (s : ResolvedSchema) (file_is : file.qualified ns ≡ ok s) where
   -- either what is written out is a record, or what is stated means no record
   record_or : (own : Option (List ℕ)) (r : Raw) (n : Qualified) (t : Cedar) → WrittenOut s.commons n t → qualified_of (scope_in ns) own r ≡ ok n → IsRecord t ⊎ MeansNoRecord ns own r
   record_or own r _ _ written.text e = inr (other_is ns own r qualified.text e tt)

@@ -10,75 +10,76 @@ use Rattle.schema_types.specs.Ascending.{QualifiedAscends}
 use Rattle.schema_types.specs.AscendingLaw.{AllAscend}
 use Rattle.schema_types.specs.declared.fault.SchemaFault.{SchemaFault}
 use Rattle.schema_file.specs.Once.{AreApart}
-use Rattle.schema_names.specs.Qualifying.{FoundEntityType, FoundUse, FoundAction, FoundSchema}
+use Rattle.schema_names.specs.Qualifying.{ResolvedEntityType, ResolvedUse, ResolvedAction, ResolvedSchema}
 use Rattle.schema_names.specs.Naming.{StatesNamed, NamingRefused}
 
 -- `DeclaresOnce s` holds if no common type, no entity type and no action is declared twice.
-pub record DeclaresOnce (s : FoundSchema) : Type 0 where
+pub record DeclaresOnce (s : ResolvedSchema) : Type 0 where
   pub commons : AreOnce s.commons
   pub entity_types : AreApart (map (λ e. e.name) s.entity_types)
   pub actions : AreApart (map (λ a. a.uid) s.actions)
 
 -- `IsShapeOrContext s r` holds if `r` is the shape of an entity type, or the context of an action.
-abbrev pub IsShapeOrContext : FoundSchema → Qualified → Type 0
+abbrev pub IsShapeOrContext : ResolvedSchema → Qualified → Type 0
 IsShapeOrContext s r =
-    ((e : FoundEntityType) × Contains s.entity_types e × (e.shape ≡ Some r))
-    ⊎ ((a : FoundAction) × Contains s.actions a × ((u : FoundUse) × (a.applies_to ≡ Some u) × (u.context ≡ Some r)))
+    ((e : ResolvedEntityType) × Contains s.entity_types e × (e.shape ≡ Some r))
+    ⊎ ((a : ResolvedAction) × Contains s.actions a
+    × ((u : ResolvedUse) × (a.applies_to ≡ Some u) × (u.context ≡ Some r)))
 
 -- `NamesItsOwn s` holds if each common type that is named is declared.
-pub record NamesItsOwn (s : FoundSchema) : Type 0 where
+pub record NamesItsOwn (s : ResolvedSchema) : Type 0 where
   pub commons : AreClosed s.commons
   pub records : (r : Qualified) → IsShapeOrContext s r → IsClosed s.commons r
 
 -- `FilesNameTheirOwn`: in each file that bytes state, each common type that is named is declared.
 abbrev pub FilesNameTheirOwn : Type 0
-FilesNameTheirOwn = (bytes : List ℕ) (s : FoundSchema) → StatesNamed bytes s → NamesItsOwn s
+FilesNameTheirOwn = (bytes : List ℕ) (s : ResolvedSchema) → StatesNamed bytes s → NamesItsOwn s
 
 -- `IsEntityType s q` holds if the entity type `q` is declared.
-abbrev pub IsEntityType : FoundSchema → List ℕ → Type 0
-IsEntityType s q = (e : FoundEntityType) × Contains s.entity_types e × (e.name ≡ q)
+abbrev pub IsEntityType : ResolvedSchema → List ℕ → Type 0
+IsEntityType s q = (e : ResolvedEntityType) × Contains s.entity_types e × (e.name ≡ q)
 
 -- `NamesItsEntityTypes s` holds if each entity type that is named is declared: in a type, as a parent type, and in
 -- what an action applies to.
-pub record NamesItsEntityTypes (s : FoundSchema) : Type 0 where
+pub record NamesItsEntityTypes (s : ResolvedSchema) : Type 0 where
   pub commons : (p : List ℕ) (r : Qualified) → Declares s.commons p r → (q : List ℕ) → MentionsEntity r q
       → IsEntityType s q
   pub records : (r : Qualified) → IsShapeOrContext s r → (q : List ℕ) → MentionsEntity r q → IsEntityType s q
-  pub parents : (e : FoundEntityType) → Contains s.entity_types e → (q : List ℕ) → Contains e.parents q
+  pub parents : (e : ResolvedEntityType) → Contains s.entity_types e → (q : List ℕ) → Contains e.parents q
       → IsEntityType s q
-  pub principals : (a : FoundAction) (u : FoundUse) → Contains s.actions a → a.applies_to ≡ Some u → (q : List ℕ)
+  pub principals : (a : ResolvedAction) (u : ResolvedUse) → Contains s.actions a → a.applies_to ≡ Some u → (q : List ℕ)
       → Contains u.principals q → IsEntityType s q
-  pub resources : (a : FoundAction) (u : FoundUse) → Contains s.actions a → a.applies_to ≡ Some u → (q : List ℕ)
+  pub resources : (a : ResolvedAction) (u : ResolvedUse) → Contains s.actions a → a.applies_to ≡ Some u → (q : List ℕ)
       → Contains u.resources q → IsEntityType s q
 
 -- `FilesNameTheirEntityTypes`: in each file that bytes state, each entity type that is named is declared.
 abbrev pub FilesNameTheirEntityTypes : Type 0
-FilesNameTheirEntityTypes = (bytes : List ℕ) (s : FoundSchema) → StatesNamed bytes s → NamesItsEntityTypes s
+FilesNameTheirEntityTypes = (bytes : List ℕ) (s : ResolvedSchema) → StatesNamed bytes s → NamesItsEntityTypes s
 
 -- `FilesDeclareOnce`: nothing is declared twice, since the keys of a parsed object are distinct.
 abbrev pub FilesDeclareOnce : Type 0
-FilesDeclareOnce = (bytes : List ℕ) (s : FoundSchema) → StatesNamed bytes s → DeclaresOnce s
+FilesDeclareOnce = (bytes : List ℕ) (s : ResolvedSchema) → StatesNamed bytes s → DeclaresOnce s
 
 -- `TypesAscend s` holds if in each common type, shape and context the keys ascend.
-pub record TypesAscend (s : FoundSchema) : Type 0 where
+pub record TypesAscend (s : ResolvedSchema) : Type 0 where
   pub commons : AllAscend s.commons
   pub records : (r : Qualified) → IsShapeOrContext s r → QualifiedAscends r
 
 -- `FilesTypesAscend`: in each file that bytes state, the keys of each type ascend.
 abbrev pub FilesTypesAscend : Type 0
-FilesTypesAscend = (bytes : List ℕ) (s : FoundSchema) → StatesNamed bytes s → TypesAscend s
+FilesTypesAscend = (bytes : List ℕ) (s : ResolvedSchema) → StatesNamed bytes s → TypesAscend s
 
 -- `ShapesAreRecords`: the expansion of a shape or a context is a record.
 abbrev pub ShapesAreRecords : Type 0
 ShapesAreRecords =
-    (bytes : List ℕ) (s : FoundSchema) → StatesNamed bytes s → (r : Qualified) → IsShapeOrContext s r → (t : Cedar)
+    (bytes : List ℕ) (s : ResolvedSchema) → StatesNamed bytes s → (r : Qualified) → IsShapeOrContext s r → (t : Cedar)
     → WrittenOut s.commons r t → (fs : CedarFields) × (t ≡ record_of fs)
 
 -- ---- bytes state one file, or are rejected with one error, and never both
 
 -- `NamesOrRefusal bytes` holds if `bytes` state a file, or are rejected.
 pub data NamesOrRefusal (bytes : List ℕ) : Type 0 where
-  states : (s : FoundSchema) → StatesNamed bytes s → NamesOrRefusal bytes
+  states : (s : ResolvedSchema) → StatesNamed bytes s → NamesOrRefusal bytes
   refused : (f : SchemaFault) → NamingRefused bytes f → NamesOrRefusal bytes
 
 -- `SomeOutcome`: all bytes state a file, or are rejected.
@@ -87,7 +88,7 @@ SomeOutcome = (bytes : List ℕ) → NamesOrRefusal bytes
 
 -- `OneFile`: bytes state at most one file.
 abbrev pub OneFile : Type 0
-OneFile = (bytes : List ℕ) (s t : FoundSchema) → StatesNamed bytes s → StatesNamed bytes t → s ≡ t
+OneFile = (bytes : List ℕ) (s t : ResolvedSchema) → StatesNamed bytes s → StatesNamed bytes t → s ≡ t
 
 -- `OneRefusal`: bytes are rejected with at most one error.
 abbrev pub OneRefusal : Type 0
@@ -95,4 +96,4 @@ OneRefusal = (bytes : List ℕ) (f g : SchemaFault) → NamingRefused bytes f �
 
 -- `NotBoth`: bytes that state a file are not rejected.
 abbrev pub NotBoth : Type 0
-NotBoth = (bytes : List ℕ) (s : FoundSchema) (f : SchemaFault) → StatesNamed bytes s → NamingRefused bytes f → ⊥
+NotBoth = (bytes : List ℕ) (s : ResolvedSchema) (f : SchemaFault) → StatesNamed bytes s → NamingRefused bytes f → ⊥

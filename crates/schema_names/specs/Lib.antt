@@ -1,4 +1,4 @@
-pub mod FoundViews
+pub mod ResolvedViews
 pub mod Laws
 pub mod Naming
 pub mod Qualifying

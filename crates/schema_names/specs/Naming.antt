@@ -4,14 +4,14 @@
 use Rattle.std.specs.Prelude.{◌≡◌, ℕ, List, Some, None, Ok, Err}
 use Rattle.json_words.specs.Json.{json_of}
 use Rattle.serde_json.specs.Data.{Data}
-use Rattle.schema_file.specs.Stated.{NamespaceOf, stated}
-use Rattle.schema_names.specs.Qualifying.{FoundSchema, qualified}
+use Rattle.schema_file.specs.FileForm.{NamespaceOf, stated}
+use Rattle.schema_names.specs.Qualifying.{ResolvedSchema, qualified}
 use Rattle.schema_names.specs.Records.{SomeIsNoRecord}
 use Rattle.schema_types.specs.declared.fault.SchemaFault.{SchemaFault}
 use Rattle.schema_types.specs.declared.fault.SchemaFault.TheVariants.{NotJson, BadShape}
 
 -- `IsNamed ns s` holds if shapes and contexts are records, and `s` are these namespaces with resolved names.
-pub record IsNamed (ns : List NamespaceOf) (s : FoundSchema) : Type 0 where
+pub record IsNamed (ns : List NamespaceOf) (s : ResolvedSchema) : Type 0 where
   pub records : SomeIsNoRecord ns → ⊥
   pub found : qualified ns ≡ Ok s
 
@@ -21,7 +21,7 @@ pub data NamesRefused (ns : List NamespaceOf) : SchemaFault → Type 0 where
   unknown : (f : SchemaFault) → (SomeIsNoRecord ns → ⊥) → qualified ns ≡ Err f → NamesRefused ns f
 
 -- `StatesNamed bytes s` holds if `bytes` state the file `s`, with resolved names.
-pub record StatesNamed (bytes : List ℕ) (s : FoundSchema) : Type 0 where
+pub record StatesNamed (bytes : List ℕ) (s : ResolvedSchema) : Type 0 where
   pub value : Data
   pub namespaces : List NamespaceOf
   pub json : json_of bytes ≡ Some value

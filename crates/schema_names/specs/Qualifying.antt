@@ -16,7 +16,7 @@ use Rattle.schema_types.specs.Qualified.{Qualified}
 use Rattle.schema_types.specs.WrittenOut.{Declarations}
 use Rattle.schema_types.specs.Names.{Scope, full_name, found, qualified_of}
 use Rattle.schema_file.specs.schema_types.Actions.{action_type, action_uid, declared_action, action_of_type}
-use Rattle.schema_file.specs.Stated.{EntityTypeOf, UseOf, ActionOf, NamespaceOf}
+use Rattle.schema_file.specs.FileForm.{EntityTypeOf, UseOf, ActionOf, NamespaceOf}
 use Rattle.schema_file.specs.declared.stated.StatedParent.{StatedParent}
 use Rattle.schema_types.specs.declared.fault.SchemaFault.{SchemaFault}
 use Rattle.schema_types.specs.declared.fault.SchemaFault.TheVariants.{UnknownName}
@@ -63,29 +63,29 @@ is_action_in ns u = list_any (λ a. is_eq (uid_cmp a u)) (actions_declared ns)
 
 -- ---- resolved names
 
--- A `FoundEntityType` is an entity type by its full name.
-pub record FoundEntityType : Type 0 where
+-- A `ResolvedEntityType` is an entity type by its full name.
+pub record ResolvedEntityType : Type 0 where
   pub name : List ℕ
   pub parents : List (List ℕ)
   pub shape : Option Qualified
 
--- A `FoundUse` is what an action applies to.
-pub record FoundUse : Type 0 where
+-- A `ResolvedUse` is what an action applies to.
+pub record ResolvedUse : Type 0 where
   pub principals : List (List ℕ)
   pub resources : List (List ℕ)
   pub context : Option Qualified
 
--- A `FoundAction` is an action by its uid.
-pub record FoundAction : Type 0 where
+-- A `ResolvedAction` is an action by its uid.
+pub record ResolvedAction : Type 0 where
   pub uid : EntityUid
   pub parents : List EntityUid
-  pub applies_to : Option FoundUse
+  pub applies_to : Option ResolvedUse
 
--- A `FoundSchema` has the declarations of a namespace, or of a whole file.
-pub record FoundSchema : Type 0 where
+-- A `ResolvedSchema` has the declarations of a namespace, or of a whole file.
+pub record ResolvedSchema : Type 0 where
   pub commons : Declarations
-  pub entity_types : List FoundEntityType
-  pub actions : List FoundAction
+  pub entity_types : List ResolvedEntityType
+  pub actions : List ResolvedAction
 
 -- `entity_type_named s own w` is the full name of the entity type that `w` means, or an error.
 abbrev pub entity_type_named : Scope → Option (List ℕ) → List ℕ → Result (List ℕ) SchemaFault
@@ -127,14 +127,14 @@ qualified_common s own c = do
   Ok (full_name own c.0, t)
 
 -- `qualified_entity_type s own e` is the entity type `e` with resolved names.
-unfoldable pub qualified_entity_type : Scope → Option (List ℕ) → EntityTypeOf → Result FoundEntityType SchemaFault
+unfoldable pub qualified_entity_type : Scope → Option (List ℕ) → EntityTypeOf → Result ResolvedEntityType SchemaFault
 qualified_entity_type s own e = do
   parents ← entity_types_named s own e.parents
   shape ← type_named s own e.shape
   Ok (record { name = full_name own e.name; parents = parents; shape = shape })
 
 -- `qualified_use s own u` is what an action applies to, with resolved names.
-unfoldable pub qualified_use : Scope → Option (List ℕ) → UseOf → Result FoundUse SchemaFault
+unfoldable pub qualified_use : Scope → Option (List ℕ) → UseOf → Result ResolvedUse SchemaFault
 qualified_use s own u = do
   principals ← entity_types_named s own u.principals
   resources ← entity_types_named s own u.resources
@@ -142,7 +142,7 @@ qualified_use s own u = do
   Ok (record { principals = principals; resources = resources; context = context })
 
 -- `use_named s own o` is that, if it is stated.
-abbrev pub use_named : Scope → Option (List ℕ) → Option UseOf → Result (Option FoundUse) SchemaFault
+abbrev pub use_named : Scope → Option (List ℕ) → Option UseOf → Result (Option ResolvedUse) SchemaFault
 use_named s own None = Ok None
 use_named s own (Some u) = do
   applied ← qualified_use s own u
@@ -150,7 +150,7 @@ use_named s own (Some u) = do
 
 -- `qualified_action s is_action own a` is the action `a` with resolved names.
 unfoldable pub qualified_action : Scope → (EntityUid → Bool) → Option (List ℕ) → ActionOf
-    → Result FoundAction SchemaFault
+    → Result ResolvedAction SchemaFault
 qualified_action s is_action own a = do
   parents ← parents_named is_action own a.parents
   applies_to ← use_named s own a.applies_to
@@ -162,16 +162,16 @@ unfoldable pub qualified_commons : Scope → Option (List ℕ) → List (List �
 qualified_commons s own cs = each (λ i x. qualified_common s own x) 0 cs
 
 unfoldable pub qualified_entity_types : Scope → Option (List ℕ) → List EntityTypeOf
-    → Result (List FoundEntityType) SchemaFault
+    → Result (List ResolvedEntityType) SchemaFault
 qualified_entity_types s own es = each (λ i x. qualified_entity_type s own x) 0 es
 
 unfoldable pub qualified_actions : Scope → (EntityUid → Bool) → Option (List ℕ) → List ActionOf
-    → Result (List FoundAction) SchemaFault
+    → Result (List ResolvedAction) SchemaFault
 qualified_actions s is_action own us = each (λ i x. qualified_action s is_action own x) 0 us
 
 -- `qualified_namespace s is_action n` is a namespace with resolved names, or the error of a name that is not
 -- declared.
-unfoldable pub qualified_namespace : Scope → (EntityUid → Bool) → NamespaceOf → Result FoundSchema SchemaFault
+unfoldable pub qualified_namespace : Scope → (EntityUid → Bool) → NamespaceOf → Result ResolvedSchema SchemaFault
 qualified_namespace s is_action n = do
   commons ← qualified_commons s n.name n.commons
   entity_types ← qualified_entity_types s n.name n.entity_types
@@ -180,11 +180,11 @@ qualified_namespace s is_action n = do
 
 -- `qualified_namespaces s is_action ns` are several namespaces with resolved names.
 unfoldable pub qualified_namespaces : Scope → (EntityUid → Bool) → List NamespaceOf
-    → Result (List FoundSchema) SchemaFault
+    → Result (List ResolvedSchema) SchemaFault
 qualified_namespaces s is_action ns = each (λ i n. qualified_namespace s is_action n) 0 ns
 
 -- `both a b` are the declarations of both.
-abbrev pub both : FoundSchema → FoundSchema → FoundSchema
+abbrev pub both : ResolvedSchema → ResolvedSchema → ResolvedSchema
 both a b = record {
   commons = a.commons ++ b.commons;
   entity_types = a.entity_types ++ b.entity_types;
@@ -192,7 +192,7 @@ both a b = record {
 }
 
 -- `together parts` are the declarations of several namespaces.
-abbrev pub together : List FoundSchema → FoundSchema
+abbrev pub together : List ResolvedSchema → ResolvedSchema
 together parts = record {
   commons = all_of (λ p. p.commons) parts;
   entity_types = all_of (λ p. p.entity_types) parts;
@@ -200,7 +200,7 @@ together parts = record {
 }
 
 -- `qualified ns` is a file of these namespaces with resolved names, or the error.
-unfoldable pub qualified : List NamespaceOf → Result FoundSchema SchemaFault
+unfoldable pub qualified : List NamespaceOf → Result ResolvedSchema SchemaFault
 qualified ns = do
   parts ← qualified_namespaces (scope_in ns) (is_action_in ns) ns
   Ok (together parts)

@@ -1,9 +1,9 @@
 //! The declarations of several namespaces, joined.
 ghost use Rattle.std.specs.Prelude.{◌≡◌, ◌++◌, IfOk, map};
 ghost use Rattle.schema_names.specs.Qualifying.{both, together};
-ghost use Rattle.schema_names.specs.FoundViews.{found_view};
+ghost use Rattle.schema_names.specs.ResolvedViews.{found_view};
 
-use crate::qualifying::Found;
+use crate::qualifying::ResolvedFile;
 use plain::{Items, NoMemory, both};
 use std::alloc::Global;
 
@@ -18,14 +18,14 @@ fn append<T: Drop>(items: Items<T>, more: Items<T>) -> Result<Items<T>, NoMemory
 }
 
 /// Returns the declarations of both.
-fn join(first: Found, second: Found) -> Result<Found, NoMemory>
+fn join(first: ResolvedFile, second: ResolvedFile) -> Result<ResolvedFile, NoMemory>
     ensures { IfOk result (λ found. found_view found ≡ both (found_view first) (found_view second)) }
 {
     let commons = append(first.commons, second.commons);
     let entity_types = append(first.entity_types, second.entity_types);
     let actions = append(first.actions, second.actions);
     let ((commons, entity_types), actions) = both(both(commons, entity_types), actions)?;
-    Ok(Found {
+    Ok(ResolvedFile {
         commons,
         entity_types,
         actions,
@@ -33,10 +33,10 @@ fn join(first: Found, second: Found) -> Result<Found, NoMemory>
 }
 
 /// Returns the declarations of all.
-pub(crate) fn join_all(alloc: Global, parts: Items<Found>) -> Result<Found, NoMemory>
+pub(crate) fn join_all(alloc: Global, parts: Items<ResolvedFile>) -> Result<ResolvedFile, NoMemory>
     ensures { IfOk result (λ found. found_view found ≡ together (map found_view parts)) }
 {
-    let mut whole = Found {
+    let mut whole = ResolvedFile {
         commons: Items::new(alloc),
         entity_types: Items::new(alloc),
         actions: Items::new(alloc),

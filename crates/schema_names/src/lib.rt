@@ -15,4 +15,4 @@ pub use laws::{
     one_refusal, shapes_are_records, some_outcome,
 };
 pub use naming::read_named;
-pub use qualifying::{Found, FoundAction, FoundEntityType, FoundUse};
+pub use qualifying::{ResolvedAction, ResolvedEntityType, ResolvedFile, ResolvedUse};

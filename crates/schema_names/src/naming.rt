@@ -5,13 +5,13 @@ ghost use Rattle.json_words.specs.ReadsAs.{ReadsAs, or_fault};
 ghost use Rattle.json_words.specs.Json.{json_of};
 ghost use Rattle.schema_file.specs.StatedViews.{namespace_view};
 ghost use Rattle.schema_names.specs.Qualifying.{together};
-ghost use Rattle.schema_names.specs.FoundViews.{found_view};
+ghost use Rattle.schema_names.specs.ResolvedViews.{found_view};
 ghost use Rattle.schema_names.specs.Naming.{IsNamed, NamesRefused, StatesNamed, NamingRefused};
 ghost use Rattle.schema_types.specs.declared.fault.SchemaFault.TheVariants as SchemaFault;
 
 use crate::declaring::declare;
 use crate::joining::join_all;
-use crate::qualifying::{Found, qualify_namespaces};
+use crate::qualifying::{ResolvedFile, qualify_namespaces};
 use crate::records::demand_records;
 use json_words::read_json;
 use plain::Items;
@@ -36,7 +36,7 @@ fn read_value(alloc: Global, bytes: &[u8]) -> Result<Value, SchemaFault>
 /// - In this order: `BadShape` (21), a shape or a context is not a record; `UnknownName` (22), a name is not
 ///   declared.
 /// - `NoMemory` (1): an allocation failed; possible at any point.
-fn name_all(alloc: Global, stated: &[StatedNamespace]) -> Result<Items<Found>, SchemaFault>
+fn name_all(alloc: Global, stated: &[StatedNamespace]) -> Result<Items<ResolvedFile>, SchemaFault>
     ensures { MatchResult result (λ ps. IsNamed (map namespace_view stated.now) (together (map found_view ps)))
         (λ f. f ≢ SchemaFault.NoMemory → NamesRefused (map namespace_view stated.now) f) }
 {
@@ -46,7 +46,7 @@ fn name_all(alloc: Global, stated: &[StatedNamespace]) -> Result<Items<Found>, S
 }
 
 /// Returns the namespaces that bytes state, with resolved names.
-fn read_parts(alloc: Global, bytes: &[u8]) -> Result<Items<Found>, SchemaFault>
+fn read_parts(alloc: Global, bytes: &[u8]) -> Result<Items<ResolvedFile>, SchemaFault>
     ensures { MatchResult result (λ ps. StatesNamed bytes.now (together (map found_view ps)))
         (λ f. f ≢ SchemaFault.NoMemory → NamingRefused bytes.now f) }
 {
@@ -65,7 +65,7 @@ fn read_parts(alloc: Global, bytes: &[u8]) -> Result<Items<Found>, SchemaFault>
 /// - `BadShape` (21): the JSON does not have the form of a schema; then, a shape or a context is not a record.
 /// - `UnknownName` (22): a name is not declared.
 /// - `NoMemory` (1): an allocation failed; possible at any point.
-pub fn read_named(alloc: Global, bytes: &[u8]) -> Result<Found, SchemaFault>
+pub fn read_named(alloc: Global, bytes: &[u8]) -> Result<ResolvedFile, SchemaFault>
     ensures { MatchResult result (λ found. StatesNamed bytes.now (found_view found))
         (λ f. f ≢ SchemaFault.NoMemory → NamingRefused bytes.now f) }
 {

@@ -6,7 +6,8 @@ ghost use Rattle.schema_types.specs.QualifiedViews.{qualified_view, found_common
 ghost use Rattle.schema_file.specs.schema_types.NamesViews.{scope_of, is_action_of};
 ghost use Rattle.schema_file.specs.schema_types.Actions.{action_type, action_uid};
 ghost use Rattle.schema_file.specs.StatedViews.{common_view, entity_type_view, use_view, action_view, namespace_view};
-ghost use Rattle.schema_names.specs.FoundViews.{found_entity_type_view, found_use_view, found_action_view, found_view};
+ghost use Rattle.schema_names.specs.ResolvedViews.{found_entity_type_view, found_use_view};
+ghost use Rattle.schema_names.specs.ResolvedViews.{found_action_view, found_view};
 ghost use Rattle.schema_names.specs.Qualifying.{action_meant};
 ghost use Rattle.schema_names.specs.Qualifying.{parent_named, parents_named, entity_type_named, entity_types_named};
 ghost use Rattle.schema_names.specs.Qualifying.{type_named, qualified_common, qualified_entity_type, qualified_use};
@@ -26,7 +27,7 @@ use values::{EntityUid, SharedText, TypeName};
 
 /// An entity type by its full name.
 #[derive(Drop)]
-pub struct FoundEntityType {
+pub struct ResolvedEntityType {
     pub name: TypeName,
     pub parents: Items<TypeName>,
     pub shape: Option<QualifiedType>,
@@ -34,7 +35,7 @@ pub struct FoundEntityType {
 
 /// What an action applies to.
 #[derive(Drop)]
-pub struct FoundUse {
+pub struct ResolvedUse {
     pub principals: Items<TypeName>,
     pub resources: Items<TypeName>,
     pub context: Option<QualifiedType>,
@@ -42,18 +43,18 @@ pub struct FoundUse {
 
 /// An action by its uid.
 #[derive(Drop)]
-pub struct FoundAction {
+pub struct ResolvedAction {
     pub uid: EntityUid,
     pub parents: Items<EntityUid>,
-    pub applies_to: Option<FoundUse>,
+    pub applies_to: Option<ResolvedUse>,
 }
 
 /// The declarations of a namespace, or of a whole file.
 #[derive(Drop)]
-pub struct Found {
+pub struct ResolvedFile {
     pub commons: Items<FoundCommon>,
-    pub entity_types: Items<FoundEntityType>,
-    pub actions: Items<FoundAction>,
+    pub entity_types: Items<ResolvedEntityType>,
+    pub actions: Items<ResolvedAction>,
 }
 
 /// Returns the entity type that a name means.
@@ -126,7 +127,7 @@ fn qualify_entity_type(
     names: &Names,
     own: &Option<TypeName>,
     entity_type: &StatedEntityType,
-) -> Result<FoundEntityType, SchemaFault>
+) -> Result<ResolvedEntityType, SchemaFault>
     ensures { ReadsAs SchemaFault.NoMemory found_entity_type_view result
         (qualified_entity_type (scope_of names.now) own.now (entity_type_view entity_type.now)) }
 {
@@ -135,7 +136,7 @@ fn qualify_entity_type(
     let (name, parents) = beside(name, parents)?;
     let shape = qualify_optional(alloc, names, own, &entity_type.shape);
     let ((name, parents), shape) = beside((name, parents), shape)?;
-    Ok(FoundEntityType {
+    Ok(ResolvedEntityType {
         name,
         parents,
         shape,
@@ -149,7 +150,7 @@ fn qualify_use(
     names: &Names,
     own: &Option<TypeName>,
     stated: &StatedUse,
-) -> Result<FoundUse, SchemaFault>
+) -> Result<ResolvedUse, SchemaFault>
     ensures { ReadsAs SchemaFault.NoMemory found_use_view result
         (qualified_use (scope_of names.now) own.now (use_view stated.now)) }
 {
@@ -158,7 +159,7 @@ fn qualify_use(
     let (principals, resources) = beside(principals, resources)?;
     let context = qualify_optional(alloc, names, own, &stated.context);
     let ((principals, resources), context) = beside((principals, resources), context)?;
-    Ok(FoundUse {
+    Ok(ResolvedUse {
         principals,
         resources,
         context,
@@ -171,7 +172,7 @@ fn qualify_optional_use(
     names: &Names,
     own: &Option<TypeName>,
     stated: &Option<StatedUse>,
-) -> Result<Option<FoundUse>, SchemaFault>
+) -> Result<Option<ResolvedUse>, SchemaFault>
     ensures { ReadsAs SchemaFault.NoMemory (option_map found_use_view) result
         (use_named (scope_of names.now) own.now (option_map use_view stated.now)) }
 {
@@ -248,7 +249,7 @@ fn qualify_action(
     names: &Names,
     own: &Option<TypeName>,
     action: &StatedAction,
-) -> Result<FoundAction, SchemaFault>
+) -> Result<ResolvedAction, SchemaFault>
     ensures { ReadsAs SchemaFault.NoMemory found_action_view result
         (qualified_action (scope_of names.now) (is_action_of names.now) own.now (action_view action.now)) }
 {
@@ -257,7 +258,7 @@ fn qualify_action(
     let (uid, parents) = beside(uid, parents)?;
     let applies_to = qualify_optional_use(alloc, names, own, &action.applies_to);
     let ((uid, parents), applies_to) = beside((uid, parents), applies_to)?;
-    Ok(FoundAction {
+    Ok(ResolvedAction {
         uid,
         parents,
         applies_to,
@@ -285,7 +286,7 @@ fn qualify_entity_types(
     names: &Names,
     own: &Option<TypeName>,
     stated: &[StatedEntityType],
-) -> Result<Items<FoundEntityType>, SchemaFault>
+) -> Result<Items<ResolvedEntityType>, SchemaFault>
     ensures { ReadsAs SchemaFault.NoMemory (map found_entity_type_view) result
         (qualified_entity_types (scope_of names.now) own.now (map entity_type_view stated.now)) }
 {
@@ -301,7 +302,7 @@ fn qualify_actions(
     names: &Names,
     own: &Option<TypeName>,
     stated: &[StatedAction],
-) -> Result<Items<FoundAction>, SchemaFault>
+) -> Result<Items<ResolvedAction>, SchemaFault>
     ensures { ReadsAs SchemaFault.NoMemory (map found_action_view) result
         (qualified_actions (scope_of names.now) (is_action_of names.now) own.now (map action_view stated.now)) }
 {
@@ -318,7 +319,7 @@ pub(crate) fn qualify_namespace(
     alloc: Global,
     names: &Names,
     namespace: &StatedNamespace,
-) -> Result<Found, SchemaFault>
+) -> Result<ResolvedFile, SchemaFault>
     ensures { ReadsAs SchemaFault.NoMemory found_view result
         (qualified_namespace (scope_of names.now) (is_action_of names.now) (namespace_view namespace.now)) }
 {
@@ -328,7 +329,7 @@ pub(crate) fn qualify_namespace(
     let (commons, entity_types) = beside(commons, entity_types)?;
     let actions = qualify_actions(alloc, names, own, namespace.actions.as_slice());
     let ((commons, entity_types), actions) = beside((commons, entity_types), actions)?;
-    Ok(Found {
+    Ok(ResolvedFile {
         commons,
         entity_types,
         actions,
@@ -345,7 +346,7 @@ pub(crate) fn qualify_namespaces(
     alloc: Global,
     names: &Names,
     stated: &[StatedNamespace],
-) -> Result<Items<Found>, SchemaFault>
+) -> Result<Items<ResolvedFile>, SchemaFault>
     ensures { ReadsAs SchemaFault.NoMemory (map found_view) result
         (qualified_namespaces (scope_of names.now) (is_action_of names.now) (map namespace_view stated.now)) }
 {

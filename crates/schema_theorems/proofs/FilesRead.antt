@@ -19,7 +19,7 @@ use Rattle.schema_types.specs.Optional.{present, optional, required_text}
 use Rattle.schema_types.specs.TypeShape.{type_of}
 use Rattle.schema_types.specs.declared.fault.SchemaFault.TheVariants.{BadShape}
 use Rattle.schema_types.proofs.NameLemmas.{is_unnamed}
-use Rattle.schema_names.specs.schema_file.Stated.{EntityTypeOf, UseOf, ActionOf, NamespaceOf, ident, name_of, names_of, names_in, names_at, type_in, name_in_place, is_common, common_of, entity_type_name, entity_type_of, parent_of, parents_of, parents_in, use_of, use_in, is_empty_in, action_of, namespace_name, commons_of, entity_types_of, actions_of, commons_in, entity_types_in, actions_in, namespace_of, namespaces_of, stated}
+use Rattle.schema_names.specs.schema_file.FileForm.{EntityTypeOf, UseOf, ActionOf, NamespaceOf, ident, name_of, names_of, names_in, names_at, type_in, name_in_place, is_common, common_of, entity_type_name, entity_type_of, parent_of, parents_of, parents_in, use_of, use_in, is_empty_in, action_of, namespace_name, commons_of, entity_types_of, actions_of, commons_in, entity_types_in, actions_in, namespace_of, namespaces_of, stated}
 use Rattle.schema_names.specs.schema_file.declared.stated.StatedParent.{StatedParent}
 use Rattle.schema_theorems.specs.Keys.{HasOnly, HasOther, IsAbsent}
 use Rattle.schema_theorems.specs.Keys as keys

@@ -19,9 +19,9 @@ use Rattle.schema_types.specs.Names.{Scope, is_qualified, full_name, as_declared
 use Rattle.schema_types.specs.Actions.{action_type, action_uid, declared_action, first_of, action_of_type}
 use Rattle.schema_types.specs.declared.fault.SchemaFault.{SchemaFault}
 use Rattle.schema_types.specs.declared.fault.SchemaFault.TheVariants.{UnknownName}
-use Rattle.schema_names.specs.schema_file.Stated.{EntityTypeOf, UseOf, ActionOf, NamespaceOf}
+use Rattle.schema_names.specs.schema_file.FileForm.{EntityTypeOf, UseOf, ActionOf, NamespaceOf}
 use Rattle.schema_names.specs.schema_file.declared.stated.StatedParent.{StatedParent}
-use Rattle.schema_names.specs.Qualifying.{all_of, CommonOf, common_in, scope_in, is_action_in, FoundEntityType, FoundUse, FoundAction, FoundSchema, entity_type_named, entity_types_named, type_named, action_meant_at, action_meant, parent_named, parents_named, qualified_common, qualified_entity_type, qualified_use, use_named, qualified_action, qualified_commons, qualified_entity_types, qualified_actions, qualified_namespace, qualified_namespaces, together, qualified}
+use Rattle.schema_names.specs.Qualifying.{all_of, CommonOf, common_in, scope_in, is_action_in, ResolvedEntityType, ResolvedUse, ResolvedAction, ResolvedSchema, entity_type_named, entity_types_named, type_named, action_meant_at, action_meant, parent_named, parents_named, qualified_common, qualified_entity_type, qualified_use, use_named, qualified_action, qualified_commons, qualified_entity_types, qualified_actions, qualified_namespace, qualified_namespaces, together, qualified}
 use Rattle.schema_theorems.specs.Names.{IsCommon, IsEntityType, IsAction, HasNamespace, Means, MeansNone, MeansAction, IsPrimitive, MeansEither, ResolvesType, ResolvesFields, HasUnknown, SomeFieldHasUnknown, BothOrNeither, ResolvesCommon, ResolvesEntityType, ResolvesUse, ResolvesAction, ResolvesNamespace, ResolvesFile, UseHasUnknown, EntityTypeHasUnknown, ActionHasUnknown, NamespaceHasUnknown, FileHasUnknown}
 use Rattle.schema_theorems.specs.Names as says
 use Rattle.schema_theorems.specs.Laws.{NamesAreResolved, NamesHaveOneOutcome}
@@ -713,19 +713,19 @@ module _ (ns : List NamespaceOf) where
 
     -- entity types
     module _ (e : EntityTypeOf) where
-      abbrev entity_made : List (List ℕ) → Option Qualified → FoundEntityType
+      abbrev entity_made : List (List ℕ) → Option Qualified → ResolvedEntityType
       entity_made ps o = record { name = full_name own e.name; parents = ps; shape = o }
 
-      abbrev EntitySteps : FoundEntityType → Type 0
+      abbrev EntitySteps : ResolvedEntityType → Type 0
       EntitySteps f = (ps : List (List ℕ)) × AllZip Name e.parents ps × ((o : Option Qualified) × BothOrNeither (ResolvesType ns own) e.shape o × (entity_made ps o ≡ f))
 
-      resolved_to : (f : FoundEntityType) → EntitySteps f → ResolvesEntityType ns own e f
+      resolved_to : (f : ResolvedEntityType) → EntitySteps f → ResolvesEntityType ns own e f
       resolved_to f (ps, parents, (o, shape, same)) = subst (ResolvesEntityType ns own e) same (record { name = refl; parents = parents; shape = shape })
 
-      named_type : (f : FoundEntityType) → f.name ≡ full_name own e.name → entity_made f.parents f.shape ≡ f
-      named_type f same = ap (λ (l : List ℕ). (let x : FoundEntityType = record { name = l; parents = f.parents; shape = f.shape } in x)) (sym same)
+      named_type : (f : ResolvedEntityType) → f.name ≡ full_name own e.name → entity_made f.parents f.shape ≡ f
+      named_type f same = ap (λ (l : List ℕ). (let x : ResolvedEntityType = record { name = l; parents = f.parents; shape = f.shape } in x)) (sym same)
 
-      resolved_from : (f : FoundEntityType) → ResolvesEntityType ns own e f → EntitySteps f
+      resolved_from : (f : ResolvedEntityType) → ResolvesEntityType ns own e f → EntitySteps f
       resolved_from f h = (f.parents, h.parents, (f.shape, h.shape, named_type f h.name))
 
       resolved_cause : SomeName e.parents ⊎ (SomeType e.shape ⊎ ⊥) → EntityTypeHasUnknown ns own e
@@ -745,19 +745,19 @@ module _ (ns : List NamespaceOf) where
 
     -- what an action applies to
     module _ (u : UseOf) where
-      abbrev use_made : List (List ℕ) → List (List ℕ) → Option Qualified → FoundUse
+      abbrev use_made : List (List ℕ) → List (List ℕ) → Option Qualified → ResolvedUse
       use_made ps rs o = record { principals = ps; resources = rs; context = o }
 
-      abbrev UseSteps : FoundUse → Type 0
+      abbrev UseSteps : ResolvedUse → Type 0
       UseSteps v =
           (ps : List (List ℕ)) × AllZip Name u.principals ps × ((rs : List (List ℕ)) × AllZip Name u.resources rs
           × ((o : Option Qualified) × BothOrNeither (ResolvesType ns own) u.context o × (use_made ps rs o ≡ v)))
 
-      applied_to : (v : FoundUse) → UseSteps v → ResolvesUse ns own u v
+      applied_to : (v : ResolvedUse) → UseSteps v → ResolvesUse ns own u v
       applied_to v (ps, principals, (rs, resources, (o, context, same))) =
           subst (ResolvesUse ns own u) same (record { principals = principals; resources = resources; context = context })
 
-      applied_from : (v : FoundUse) → ResolvesUse ns own u v → UseSteps v
+      applied_from : (v : ResolvedUse) → ResolvesUse ns own u v → UseSteps v
       applied_from v h = (v.principals, h.principals, (v.resources, h.resources, (v.context, h.context, refl)))
 
       abbrev UseCauses : Type 0
@@ -798,19 +798,19 @@ module _ (ns : List NamespaceOf) where
         each_agrees UnknownName (λ i p. parent_named is_action own p) (MeansAction ns own) (λ (p : StatedParent). (u : EntityUid) → MeansAction ns own p u → ⊥) (λ i p. parent_agrees ns own p) 0 ps
 
     module _ (a : ActionOf) where
-      abbrev action_made : List EntityUid → Option FoundUse → FoundAction
+      abbrev action_made : List EntityUid → Option ResolvedUse → ResolvedAction
       action_made ps o = record { uid = action_uid (action_type own) a.id; parents = ps; applies_to = o }
 
-      abbrev ActionSteps : FoundAction → Type 0
-      ActionSteps b = (ps : List EntityUid) × AllZip (MeansAction ns own) a.parents ps × ((o : Option FoundUse) × BothOrNeither (ResolvesUse ns own) a.applies_to o × (action_made ps o ≡ b))
+      abbrev ActionSteps : ResolvedAction → Type 0
+      ActionSteps b = (ps : List EntityUid) × AllZip (MeansAction ns own) a.parents ps × ((o : Option ResolvedUse) × BothOrNeither (ResolvesUse ns own) a.applies_to o × (action_made ps o ≡ b))
 
-      acting_to : (b : FoundAction) → ActionSteps b → ResolvesAction ns own a b
+      acting_to : (b : ResolvedAction) → ActionSteps b → ResolvesAction ns own a b
       acting_to b (ps, parents, (o, applied, same)) = subst (ResolvesAction ns own a) same (record { uid = refl; parents = parents; applies_to = applied })
 
-      named_action : (b : FoundAction) → b.uid ≡ action_uid (action_type own) a.id → action_made b.parents b.applies_to ≡ b
-      named_action b same = ap (λ (v : EntityUid). (let x : FoundAction = record { uid = v; parents = b.parents; applies_to = b.applies_to } in x)) (sym same)
+      named_action : (b : ResolvedAction) → b.uid ≡ action_uid (action_type own) a.id → action_made b.parents b.applies_to ≡ b
+      named_action b same = ap (λ (v : EntityUid). (let x : ResolvedAction = record { uid = v; parents = b.parents; applies_to = b.applies_to } in x)) (sym same)
 
-      acting_from : (b : FoundAction) → ResolvesAction ns own a b → ActionSteps b
+      acting_from : (b : ResolvedAction) → ResolvesAction ns own a b → ActionSteps b
       acting_from b h = (b.parents, h.parents, (b.applies_to, h.applies_to, named_action b h.uid))
 
       acting_cause : SomeParent a.parents ⊎ (SomeUse a.applies_to ⊎ ⊥) → ActionHasUnknown ns own a
@@ -854,19 +854,19 @@ module _ (ns : List NamespaceOf) where
     actions_agree =
         each_agrees UnknownName (λ i a. qualified_action scope is_action n.name a) (ResolvesAction ns n.name) (ActionHasUnknown ns n.name) (λ i a. action_agrees n.name a) 0 n.actions
 
-    abbrev namespace_made : List (List ℕ × Qualified) → List FoundEntityType → List FoundAction → FoundSchema
+    abbrev namespace_made : List (List ℕ × Qualified) → List ResolvedEntityType → List ResolvedAction → ResolvedSchema
     namespace_made cs es us = record { commons = cs; entity_types = es; actions = us }
 
-    abbrev NamespaceSteps : FoundSchema → Type 0
+    abbrev NamespaceSteps : ResolvedSchema → Type 0
     NamespaceSteps s =
-        (cs : List (List ℕ × Qualified)) × AllZip (ResolvesCommon ns n.name) n.commons cs × ((es : List FoundEntityType) × AllZip (ResolvesEntityType ns n.name) n.entity_types es
-        × ((us : List FoundAction) × AllZip (ResolvesAction ns n.name) n.actions us × (namespace_made cs es us ≡ s)))
+        (cs : List (List ℕ × Qualified)) × AllZip (ResolvesCommon ns n.name) n.commons cs × ((es : List ResolvedEntityType) × AllZip (ResolvesEntityType ns n.name) n.entity_types es
+        × ((us : List ResolvedAction) × AllZip (ResolvesAction ns n.name) n.actions us × (namespace_made cs es us ≡ s)))
 
-    part_to : (s : FoundSchema) → NamespaceSteps s → ResolvesNamespace ns n s
+    part_to : (s : ResolvedSchema) → NamespaceSteps s → ResolvesNamespace ns n s
     part_to s (cs, commons, (es, entity_types, (us, actions, same))) =
         subst (ResolvesNamespace ns n) same (record { commons = commons; entity_types = entity_types; actions = actions })
 
-    part_from : (s : FoundSchema) → ResolvesNamespace ns n s → NamespaceSteps s
+    part_from : (s : ResolvedSchema) → ResolvesNamespace ns n s → NamespaceSteps s
     part_from s h = (s.commons, h.commons, (s.entity_types, h.entity_types, (s.actions, h.actions, refl)))
 
     abbrev PartCauses : Type 0
@@ -893,10 +893,10 @@ module _ (ns : List NamespaceOf) where
   unfolding qualified_namespaces
   namespaces_agree = each_agrees UnknownName (λ i n. qualified_namespace scope is_action n) (ResolvesNamespace ns) (NamespaceHasUnknown ns) (λ i n. namespace_agrees n) 0 ns
 
-  file_to : (s : FoundSchema) → ((parts : List FoundSchema) × AllZip (ResolvesNamespace ns) ns parts × (together parts ≡ s)) → ResolvesFile ns s
+  file_to : (s : ResolvedSchema) → ((parts : List ResolvedSchema) × AllZip (ResolvesNamespace ns) ns parts × (together parts ≡ s)) → ResolvesFile ns s
   file_to s (parts, h, e) = record { parts = parts; resolved = h; all = e }
 
-  file_from : (s : FoundSchema) → ResolvesFile ns s → (parts : List FoundSchema) × AllZip (ResolvesNamespace ns) ns parts × (together parts ≡ s)
+  file_from : (s : ResolvedSchema) → ResolvesFile ns s → (parts : List ResolvedSchema) × AllZip (ResolvesNamespace ns) ns parts × (together parts ≡ s)
   file_from s h = (h.parts, h.resolved, h.all)
 
   file_cause : FileHasUnknown ns ⊎ ⊥ → FileHasUnknown ns

@@ -5,7 +5,7 @@ use Rattle.schema_types.specs.Raw as raw
 use Rattle.schema_types.specs.Raw.{Raw}
 use Rattle.schema_types.specs.Qualified.{Qualified}
 use Rattle.schema_types.specs.Names.{full_name, found, built_in, or_entity}
-use Rattle.schema_names.specs.schema_file.Stated.{NamespaceOf}
+use Rattle.schema_names.specs.schema_file.FileForm.{NamespaceOf}
 use Rattle.schema_names.specs.Qualifying.{CommonOf, common_in, commons_declared, scope_in}
 use Rattle.schema_names.specs.Records.{common_meant, is_no_record, MeansNoRecord, HasContext, StandsAsRecord, SomeIsNoRecord}
 use Rattle.schema_names.specs.Records as means

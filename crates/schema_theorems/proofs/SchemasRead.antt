@@ -11,8 +11,8 @@ use Rattle.schema_types.specs.Outcome.{SomeStandsForNone}
 use Rattle.schema_types.specs.Law.{CyclesStandForNone, WhatStandsForNoneLeadsBack}
 use Rattle.schema_types.specs.declared.fault.SchemaFault.{SchemaFault}
 use Rattle.schema_types.specs.declared.fault.SchemaFault.TheVariants.{NotJson, BadShape, UnknownName, TypeCycle, ActionCycle, TypeTooLarge}
-use Rattle.schema_names.specs.schema_file.Stated.{NamespaceOf, stated}
-use Rattle.schema_names.specs.Qualifying.{FoundSchema, qualified}
+use Rattle.schema_names.specs.schema_file.FileForm.{NamespaceOf, stated}
+use Rattle.schema_names.specs.Qualifying.{ResolvedSchema, qualified}
 use Rattle.schema_names.specs.Naming.{IsNamed, NamesRefused, StatesNamed, NamingRefused}
 use Rattle.schema_names.specs.Naming as naming
 use Rattle.schema_names.specs.Laws.{FilesNameTheirOwn, FilesDeclareOnce}
@@ -53,7 +53,7 @@ leads_from : (commons : Declarations) (p q : List ℕ) → Leads commons p q →
 leads_from commons p q (mentions.step a b r d m) = (r, d)
 leads_from commons p q (mentions.steps a b c r d m rest) = (r, d)
 
-module _ (laws : Cyclic) (bytes : List ℕ) (s : FoundSchema) (h : StatesNamed bytes s) where
+module _ (laws : Cyclic) (bytes : List ℕ) (s : ResolvedSchema) (h : StatesNamed bytes s) where
   leads_back : SomeStandsForNone s.commons → SomeCommonLeadsBack s
   leads_back n = let b = laws.back s.commons (laws.own bytes s h).commons n.name n.type n.declared n.stands_for_none in (b.0, b.2)
 
@@ -70,10 +70,10 @@ module _ (told : Told) (laws : Cyclic) (bytes : List ℕ) where
   is_content : (ns : List NamespaceOf) (h : HasContent bytes ns) → stated h.value ≡ done ns
   is_content ns h = (file_agrees told h.value).states ns h.states
 
-  resolved_is : (ns : List NamespaceOf) (s : FoundSchema) → qualified ns ≡ done s → ResolvesFile ns s
+  resolved_is : (ns : List NamespaceOf) (s : ResolvedSchema) → qualified ns ≡ done s → ResolvesFile ns s
   resolved_is ns s e = value_is UnknownName (qualified ns) (ResolvesFile ns) (FileHasUnknown ns) (names_are_agreed ns) s e
 
-  named_is : (s : FoundSchema) → StatesNamed bytes s → HasDeclarations bytes s
+  named_is : (s : ResolvedSchema) → StatesNamed bytes s → HasDeclarations bytes s
   named_is s h = record {
     namespaces = h.namespaces;
     content = content_is h.value h.namespaces h.json h.shape;
@@ -81,7 +81,7 @@ module _ (told : Told) (laws : Cyclic) (bytes : List ℕ) where
     resolved = resolved_is h.namespaces s h.named.found;
   }
 
-  is_named : (s : FoundSchema) → HasDeclarations bytes s → StatesNamed bytes s
+  is_named : (s : ResolvedSchema) → HasDeclarations bytes s → StatesNamed bytes s
   is_named s h = record {
     value = h.content.value;
     namespaces = h.namespaces;
@@ -114,7 +114,7 @@ module _ (told : Told) (laws : Cyclic) (bytes : List ℕ) where
   naming_refused f (naming.bad_shape d g json e) = shape_refused d g json (fault_is BadShape (stated d) (StatesFile d) (IsNoFile d) (file_agrees told d) g e)
   naming_refused f (naming.bad_names d ns g json e n) = names_refused ns g (content_is d ns json e) n
 
-  unsound_refused : (s : FoundSchema) (f : SchemaFault) → StatesNamed bytes s → IsUnsound s f → RefusesSchema bytes f
+  unsound_refused : (s : ResolvedSchema) (f : SchemaFault) → StatesNamed bytes s → IsUnsound s f → RefusesSchema bytes f
   unsound_refused s f h (schema.type_cycle none) = says.type_cycle s (named_is s h) (leads_back laws bytes s h none)
   unsound_refused s f h (schema.action_cycle none cycle) = says.action_cycle s (named_is s h) (λ l. none (stands_for_none laws bytes s h l)) cycle
   unsound_refused s f h (schema.too_large none nor large) = says.too_large s (named_is s h) (λ l. none (stands_for_none laws bytes s h l)) nor large

@@ -10,7 +10,7 @@ use Rattle.values.specs.extensions.plain.Words.{IsIdent, IsPath}
 use Rattle.schema_types.specs.Raw.{Raw}
 use Rattle.schema_types.specs.declared.fault.SchemaFault.{SchemaFault}
 use Rattle.schema_types.specs.declared.fault.SchemaFault.TheVariants.{BadShape}
-use Rattle.schema_names.specs.schema_file.Stated.{EntityTypeOf, UseOf, ActionOf, NamespaceOf}
+use Rattle.schema_names.specs.schema_file.FileForm.{EntityTypeOf, UseOf, ActionOf, NamespaceOf}
 use Rattle.schema_names.specs.schema_file.declared.stated.StatedParent.{StatedParent}
 use Rattle.schema_theorems.specs.Keys.{HasOnly, HasOther, IsAbsent}
 use Rattle.schema_theorems.specs.Parts.{GivenAt, NotGivenAt, MaybeAt, ListAt, WrongAt, IsArrayOf, IsNoArrayOf}

@@ -3,7 +3,7 @@ use Rattle.std.specs.Prelude.{◌↔◌, ℕ, List, Bool}
 use Rattle.serde_json.specs.Data.{Data}
 use Rattle.schema_types.specs.TypeShape.{type_of}
 use Rattle.schema_types.specs.declared.fault.SchemaFault.{SchemaFault}
-use Rattle.schema_names.specs.schema_file.Stated.{NamespaceOf, stated}
+use Rattle.schema_names.specs.schema_file.FileForm.{NamespaceOf, stated}
 use Rattle.schema_names.specs.Qualifying.{qualified}
 use Rattle.schema.specs.Schemas.{StatedSchema, IsSchemaOf, RefusedFor}
 use Rattle.schema_theorems.specs.Outcomes.{Gives, HasOneOutcome}

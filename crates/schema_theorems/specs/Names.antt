@@ -17,9 +17,9 @@ use Rattle.schema_types.specs.Names.{full_name}
 use Rattle.schema_types.specs.Actions.{action_type, action_uid}
 use Rattle.schema_types.specs.declared.fault.SchemaFault.{SchemaFault}
 use Rattle.schema_types.specs.declared.fault.SchemaFault.TheVariants.{UnknownName}
-use Rattle.schema_names.specs.schema_file.Stated.{EntityTypeOf, UseOf, ActionOf, NamespaceOf}
+use Rattle.schema_names.specs.schema_file.FileForm.{EntityTypeOf, UseOf, ActionOf, NamespaceOf}
 use Rattle.schema_names.specs.schema_file.declared.stated.StatedParent.{StatedParent}
-use Rattle.schema_names.specs.Qualifying.{FoundEntityType, FoundUse, FoundAction, FoundSchema, together}
+use Rattle.schema_names.specs.Qualifying.{ResolvedEntityType, ResolvedUse, ResolvedAction, ResolvedSchema, together}
 
 -- ---- declarations
 
@@ -135,18 +135,18 @@ pub record ResolvesCommon (ns : List NamespaceOf) (own : Option (List ℕ)) (c :
 
 -- `ResolvesEntityType`, `ResolvesUse` and `ResolvesAction` are the same for an entity type, for what an action applies
 -- to, and for an action.
-pub record ResolvesEntityType (ns : List NamespaceOf) (own : Option (List ℕ)) (e : EntityTypeOf) (f : FoundEntityType)
-    : Type 0 where
+pub record ResolvesEntityType (ns : List NamespaceOf) (own : Option (List ℕ)) (e : EntityTypeOf)
+    (f : ResolvedEntityType) : Type 0 where
   pub name : f.name ≡ full_name own e.name
   pub parents : AllZip (Means (IsEntityType ns) own) e.parents f.parents
   pub shape : BothOrNeither (ResolvesType ns own) e.shape f.shape
 
-pub record ResolvesUse (ns : List NamespaceOf) (own : Option (List ℕ)) (u : UseOf) (v : FoundUse) : Type 0 where
+pub record ResolvesUse (ns : List NamespaceOf) (own : Option (List ℕ)) (u : UseOf) (v : ResolvedUse) : Type 0 where
   pub principals : AllZip (Means (IsEntityType ns) own) u.principals v.principals
   pub resources : AllZip (Means (IsEntityType ns) own) u.resources v.resources
   pub context : BothOrNeither (ResolvesType ns own) u.context v.context
 
-pub record ResolvesAction (ns : List NamespaceOf) (own : Option (List ℕ)) (a : ActionOf) (b : FoundAction) : Type 0
+pub record ResolvesAction (ns : List NamespaceOf) (own : Option (List ℕ)) (a : ActionOf) (b : ResolvedAction) : Type 0
   where
     pub uid : b.uid ≡ action_uid (action_type own) a.id
     pub parents : AllZip (MeansAction ns own) a.parents b.parents
@@ -154,14 +154,14 @@ pub record ResolvesAction (ns : List NamespaceOf) (own : Option (List ℕ)) (a :
 
 -- `ResolvesNamespace ns n s` holds if `s` has the declarations of the namespace `n`, one of `ns`, with their names
 -- resolved.
-pub record ResolvesNamespace (ns : List NamespaceOf) (n : NamespaceOf) (s : FoundSchema) : Type 0 where
+pub record ResolvesNamespace (ns : List NamespaceOf) (n : NamespaceOf) (s : ResolvedSchema) : Type 0 where
   pub commons : AllZip (ResolvesCommon ns n.name) n.commons s.commons
   pub entity_types : AllZip (ResolvesEntityType ns n.name) n.entity_types s.entity_types
   pub actions : AllZip (ResolvesAction ns n.name) n.actions s.actions
 
 -- `ResolvesFile ns s` holds if `s` has the declarations of all of `ns`, in order, with their names resolved.
-pub record ResolvesFile (ns : List NamespaceOf) (s : FoundSchema) : Type 0 where
-  pub parts : List FoundSchema
+pub record ResolvesFile (ns : List NamespaceOf) (s : ResolvedSchema) : Type 0 where
+  pub parts : List ResolvedSchema
   pub resolved : AllZip (ResolvesNamespace ns) ns parts
   pub all : together parts ≡ s
 

@@ -11,8 +11,8 @@ use Rattle.schema_types.specs.Mentions.{Leads}
 use Rattle.schema_types.specs.declared.fault.SchemaFault.{SchemaFault}
 use Rattle.schema_types.specs.declared.fault.SchemaFault.TheVariants.{NotJson, BadShape, UnknownName, TypeCycle}
 use Rattle.schema_types.specs.declared.fault.SchemaFault.TheVariants.{ActionCycle, TypeTooLarge}
-use Rattle.schema_names.specs.schema_file.Stated.{NamespaceOf}
-use Rattle.schema_names.specs.Qualifying.{FoundSchema}
+use Rattle.schema_names.specs.schema_file.FileForm.{NamespaceOf}
+use Rattle.schema_names.specs.Qualifying.{ResolvedSchema}
 use Rattle.schema.specs.Schemas.{StatedSchema, IsSound, Answers, SomeActionIsOnCycle, SomeTypeIsTooLarge}
 use Rattle.schema_theorems.specs.Files.{StatesFile, IsNoFile}
 use Rattle.schema_theorems.specs.Names.{ResolvesFile, FileHasUnknown}
@@ -26,7 +26,7 @@ pub record HasContent (bytes : List ℕ) (ns : List NamespaceOf) : Type 0 where
 
 -- `HasDeclarations bytes s` holds if `bytes` state a file whose shapes and contexts are records, and `s` are its
 -- declarations with their names resolved.
-pub record HasDeclarations (bytes : List ℕ) (s : FoundSchema) : Type 0 where
+pub record HasDeclarations (bytes : List ℕ) (s : ResolvedSchema) : Type 0 where
   pub namespaces : List NamespaceOf
   pub content : HasContent bytes namespaces
   pub records : SomeIsNotRecord namespaces → ⊥
@@ -35,14 +35,14 @@ pub record HasDeclarations (bytes : List ℕ) (s : FoundSchema) : Type 0 where
 -- `StatesSchema bytes v` holds if `bytes` state the schema `v`: no action is its own ancestor, each type has an
 -- expansion within the limits, and each look-up of `v` finds what is declared.
 pub record StatesSchema (bytes : List ℕ) (v : StatedSchema) : Type 0 where
-  pub declared : FoundSchema
+  pub declared : ResolvedSchema
   pub declarations : HasDeclarations bytes declared
   pub sound : IsSound declared
   pub label : v.label ≡ encode_lower (sha256 bytes)
   pub answers : Answers declared v
 
 -- `SomeCommonLeadsBack s` holds if some common type leads back to itself, from a declaration to a name in it.
-abbrev pub SomeCommonLeadsBack : FoundSchema → Type 0
+abbrev pub SomeCommonLeadsBack : ResolvedSchema → Type 0
 SomeCommonLeadsBack s = (q : List ℕ) × Leads s.commons q q
 
 -- `RefusesSchema bytes fault` holds if `bytes` state no schema, and `fault` is the first error, by its cause.
@@ -56,11 +56,11 @@ pub data RefusesSchema (bytes : List ℕ) : SchemaFault → Type 0 where
   unknown_name : (ns : List NamespaceOf) → HasContent bytes ns → (SomeIsNotRecord ns → ⊥) → FileHasUnknown ns
       → RefusesSchema bytes UnknownName
   -- 23: some common type leads back to itself
-  type_cycle : (s : FoundSchema) → HasDeclarations bytes s → SomeCommonLeadsBack s
+  type_cycle : (s : ResolvedSchema) → HasDeclarations bytes s → SomeCommonLeadsBack s
       → RefusesSchema bytes TypeCycle
   -- 24: some action is its own ancestor
-  action_cycle : (s : FoundSchema) → HasDeclarations bytes s → (SomeCommonLeadsBack s → ⊥)
+  action_cycle : (s : ResolvedSchema) → HasDeclarations bytes s → (SomeCommonLeadsBack s → ⊥)
       → SomeActionIsOnCycle s → RefusesSchema bytes ActionCycle
   -- 25: some type, expanded, is too large
-  too_large : (s : FoundSchema) → HasDeclarations bytes s → (SomeCommonLeadsBack s → ⊥)
+  too_large : (s : ResolvedSchema) → HasDeclarations bytes s → (SomeCommonLeadsBack s → ⊥)
       → (SomeActionIsOnCycle s → ⊥) → SomeTypeIsTooLarge s → RefusesSchema bytes TypeTooLarge

@@ -1,7 +1,7 @@
 //! The candidate policies of a request.
 ghost use Rattle.std.specs.Prelude.{◌≡◌, ◌↔◌, ◌⊎◌, Some, Contains, IfOk, OnOk};
 ghost use Rattle.std.specs.Option.{option_copied};
-ghost use Rattle.std.specs.List.Sorted.{IsStrictlySortedBy};
+ghost use Rattle.std.specs.List.Sorted.{IsPermutation, IsSortedByKey, IsStrictlySortedBy};
 ghost use Rattle.values.specs.declared.entity_uid.EntityUid.{EntityUid as PlainUid};
 ghost use Rattle.values.specs.Names.{text_cmp};
 ghost use Rattle.ancestor_search.specs.Hierarchy.{IsIn, names};
@@ -134,6 +134,18 @@ fn found_by<'a, A: Ancestry>(
     Ok(found)
 }
 
+// Sorts candidates by their ids. Those of a bucket are in this order already, so whole buckets are merged; if there is
+// no memory for that, they are sorted in place.
+fn sort_by_id<'a>(policies: &mut Vec<(&'a str, &'a Policy)>)
+    ensures permutation { IsPermutation policies.old.items policies.new.items }
+    ensures sorted { IsSortedByKey (λ p. p.0.now) text_cmp policies.new.items }
+{
+    match policies.sort_by_key(|policy| policy.0) {
+        Ok(()) => {}
+        Err(_) => policies.sort_unstable_by_key(|policy| policy.0),
+    }
+}
+
 // Returns these policies, ascending and without duplicates.
 fn in_order<'a>(found: Vec<(&'a str, &'a Policy)>) -> Vec<(&'a str, &'a Policy)>
     requires { AreOneAtEach (lent found.items) }
@@ -141,7 +153,7 @@ fn in_order<'a>(found: Vec<(&'a str, &'a Policy)>) -> Vec<(&'a str, &'a Policy)>
     ensures ascending { IsStrictlySortedBy text_cmp (ids (lent result.items)) }
 {
     let mut policies = found;
-    policies.sort_unstable_by_key(|policy| policy.0);
+    sort_by_id(&mut policies);
     policies.dedup_by_key(|policy| policy.0);
     policies
 }

@@ -173,7 +173,7 @@ module _ (schema : StatedSchema) (left : LeavesWhatItTook schema) (sites : List 
 
   module _ (w : World) (e : Event) (a : EventReply) (v v2 : World) where
     there : (o : Option SiteName) (p : Option Store) (q : Option Input) → input_of w e.operation ≡ q
-        → HappensAt schema w e o p q a v → HappensAt schema w e o p q a v2 → v ≡ v2
+        → HappensAt (Step schema) w e o p q a v → HappensAt (Step schema) w e o p q a v2 → v ≡ v2
     there (Some n) (Some s) (Some i) is h k =
         let replies = reply_same schema w n s h.reply k.reply h.store k.store i e.operation is h.step k.step (sym h.answer ∙ k.answer) in
         let stores = one_store n s i k.reply h.store k.store (subst (λ (z : Reply). Step schema n s i z h.store) replies h.step) k.step in
@@ -182,17 +182,17 @@ module _ (schema : StatedSchema) (left : LeavesWhatItTook schema) (sites : List 
     there (Some n) None q is h k = h.1 ∙ sym k.1
     there None p q is h k = h.1 ∙ sym k.1
 
-    happens_once : Happens schema sites w e a v → Happens schema sites w e a v2 → v ≡ v2
+    happens_once : Happens (Step schema) sites w e a v → Happens (Step schema) sites w e a v2 → v ≡ v2
     happens_once h k = there (numbered sites e.site) (numbered w.stores e.site) (input_of w e.operation) refl h.happens k.happens
 
-  leads_once : (w : World) (es : List Event) (rs : List EventReply) (v v2 : World) → Leads schema sites w es rs v
-      → Leads schema sites w es rs v2 → v ≡ v2
+  leads_once : (w : World) (es : List Event) (rs : List EventReply) (v v2 : World) → Leads (Step schema) sites w es rs v
+      → Leads (Step schema) sites w es rs v2 → v ≡ v2
   leads_once w [] [] v v2 h k = h ∙ sym k
   leads_once w [] (a ∷ rs) v v2 h k = absurd h
   leads_once w (e ∷ es) [] v v2 h k = absurd h
   leads_once w (e ∷ es) (a ∷ rs) v v2 h k =
       let same = happens_once w e a h.0 k.0 h.1 k.1 in
-      leads_once k.0 es rs v v2 (subst (λ (m : World). Leads schema sites m es rs v) same h.2) k.2
+      leads_once k.0 es rs v v2 (subst (λ (m : World). Leads (Step schema) sites m es rs v) same h.2) k.2
 
 pub answers_fix_worlds : ((schema : StatedSchema) → LeavesWhatItTook schema) → AnswersFixWorlds
 answers_fix_worlds left schema sites es rs v w h k = leads_once schema (left schema) sites (start sites) es rs v w h k

@@ -25,9 +25,10 @@ use Rattle.site.specs.declared.event.EventReply.{EventReply}
 use Rattle.site.specs.declared.event.EventReply.TheVariants.{Unknown}
 use Rattle.site_steps.specs.stamped_store.SiteNames.{IsSiteName}
 use Rattle.site.specs.Sites.{SiteName, AreSites, numbered, set_numbered, SentSummary, SentMessage, World}
-use Rattle.site.specs.Sites.{content, part_since, Issue}
-use Rattle.site.specs.Worlds.{HasTexts, input_of, answer_of, after, IsStepAt, HappensAt, at_site, issues_of}
+use Rattle.site.specs.Sites.{content, part_since}
+use Rattle.site.specs.Worlds.{HasTexts, input_of, answer_of, after, IsStepAt, HappensAt}
 use Rattle.site.proofs.Growing.{Has, StoreLaws, has_update}
+use Rattle.site.proofs.Issued.{Issue, at_site, issues_of}
 use Rattle.site.proofs.Keeping.{AllIssued, Keeps, keeps_issued, keeps_same, keeps_taken, keeps_message}
 use Rattle.site.proofs.Keeping.{keeps_summary}
 use Rattle.site_steps.specs.message_format.Texts.{IsText, AreTexts}
@@ -214,7 +215,7 @@ module _ (schema : StatedSchema) (sites : List SiteName) (are : AreSites sites) 
           (λ u c. message_known k m is u (has_update (content m) u (from_message schema m.bytes (updates (content m)) r (message_read k m is) u c))))
 
       -- ---- whichever it is
-      finish : (d : Operation) (x : Input) (a : EventReply) (v : World) (h : IsStepAt schema w (Event_at d) n s x a v) → KeepsWith d h.reply h.store
+      finish : (d : Operation) (x : Input) (a : EventReply) (v : World) (h : IsStepAt (Step schema) w (Event_at d) n s x a v) → KeepsWith d h.reply h.store
           → KeepsAll (log ++ issues_of schema sites (Event_at d) a) v
       finish d x a v h k =
           subst (λ (b : EventReply). KeepsAll (log ++ issues_of schema sites (Event_at d) b) v) (sym h.answer)
@@ -226,18 +227,18 @@ module _ (schema : StatedSchema) (sites : List SiteName) (are : AreSites sites) 
           (subst (λ (l : List Issue). KeepsAll l v) (sym (append-nil log)) (subst (KeepsAll log) (sym h.1) K))
 
       since_there : (k : ℕ) (o : Option SentSummary) (a : EventReply) (v : World) → slice_get w.summaries k ≡ o
-          → HappensAt schema w (Event_at (operation.OfferDelta k)) (Some n) (Some s) (option_map input.Delta (option_map (λ (m : SentSummary). m.bytes) o)) a v
+          → HappensAt (Step schema) w (Event_at (operation.OfferDelta k)) (Some n) (Some s) (option_map input.Delta (option_map (λ (m : SentSummary). m.bytes) o)) a v
           → KeepsAll (log ++ issues_of schema sites (Event_at (operation.OfferDelta k)) a) v
       since_there k None a v is h = unknown (operation.OfferDelta k) a v h
       since_there k (Some old) a v is h = finish (operation.OfferDelta k) (input.Delta old.bytes) a v h (offered_since k old h.reply h.store is h.step)
 
       message_there : (k : ℕ) (o : Option SentMessage) (a : EventReply) (v : World) → slice_get w.messages k ≡ o
-          → HappensAt schema w (Event_at (operation.Deliver k)) (Some n) (Some s) (option_map input.Take (option_map (λ (m : SentMessage). m.bytes) o)) a v
+          → HappensAt (Step schema) w (Event_at (operation.Deliver k)) (Some n) (Some s) (option_map input.Take (option_map (λ (m : SentMessage). m.bytes) o)) a v
           → KeepsAll (log ++ issues_of schema sites (Event_at (operation.Deliver k)) a) v
       message_there k None a v is h = unknown (operation.Deliver k) a v h
       message_there k (Some m) a v is h = finish (operation.Deliver k) (input.Take m.bytes) a v h (delivered k m h.reply h.store is h.step)
 
-      pub keeps_there : (d : Operation) (a : EventReply) (v : World) → HasTexts d → HappensAt schema w (Event_at d) (Some n) (Some s) (input_of w d) a v
+      pub keeps_there : (d : Operation) (a : EventReply) (v : World) → HasTexts d → HappensAt (Step schema) w (Event_at d) (Some n) (Some s) (input_of w d) a v
           → KeepsAll (log ++ issues_of schema sites (Event_at d) a) v
       keeps_there (operation.PutPolicy id text) a v written h = finish (operation.PutPolicy id text) (input.PutPolicy id text) a v h
           (commanded h.store (took_by schema (input.PutPolicy id text) h.reply)

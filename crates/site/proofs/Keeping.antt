@@ -16,9 +16,9 @@ use Rattle.site_steps.specs.stamped_store.Joins.{option_below}
 use Rattle.site_steps.specs.stamped_store.Store.{Store, Update, updates, store_of, plain_below, IsStoreBelow}
 use Rattle.site_steps.specs.stamped_store.Store.{joined_stores, issue, issued}
 use Rattle.site.specs.Sites.{SiteName, AreSites, numbered, set_numbered, SentSummary, SentMessage, World, start}
-use Rattle.site.specs.Sites.{Issue, WasIssued}
 use Rattle.site.proofs.Growing.{Has, StoreLaws, has_more, grows, count_bound, below_itself, below_trans, get_set}
 use Rattle.site.proofs.Growing.{set_cases}
+use Rattle.site.proofs.Issued.{Issue, IsLogged}
 
 -- ---- places
 pub set_numbered_cases : {X : Type 0} (xs : List X) (k j : ℕ) (x y : X) → numbered (set_numbered xs k x) j ≡ Some y → ((j ≡ k) × (x ≡ y)) ⊎ (numbered xs j ≡ Some y)
@@ -53,11 +53,11 @@ no_place k y h = cc
 -- ---- the invariant
 -- each entry of the store was issued at the site that its stamp names
 abbrev pub AllIssued : List Issue → Store → Type 0
-AllIssued log s = (u : Update) → Has s u → WasIssued log u
+AllIssued log s = (u : Update) → Has s u → IsLogged log u
 
 -- among what was issued, equal stamps mean equal updates
 abbrev pub HaveOneUpdateForAStamp : List Issue → Type 0
-HaveOneUpdateForAStamp log = (u v : Update) → WasIssued log u → WasIssued log v → u.1.count ≡ v.1.count → u.1.site ≡ v.1.site → u ≡ v
+HaveOneUpdateForAStamp log = (u v : Update) → IsLogged log u → IsLogged log v → u.1.count ≡ v.1.count → u.1.site ≡ v.1.site → u ≡ v
 
 -- `Fits` holds of each update that is issued, `IsOfSummary` and `IsOfMessage` of what was made, whatever comes later
 module _ (sites : List SiteName) (Fits : Update → Type 0) (IsOfSummary : SentSummary → Type 0) (IsOfMessage : SentMessage → Type 0) where
@@ -76,10 +76,10 @@ module _ (sites : List SiteName) (Fits : Update → Type 0) (IsOfSummary : SentS
     pub stored : (k : ℕ) (s : Store) → numbered w.stores k ≡ Some s → AllIssued log s
     pub sent : (k : ℕ) (m : SentMessage) → slice_get w.messages k ≡ Some m → IsSent log w.stores m
     pub noted : (k : ℕ) (m : SentSummary) → slice_get w.summaries k ≡ Some m → IsNoted log w.stores m
-    pub own : (k : ℕ) (s : Store) (u : Update) → numbered w.stores k ≡ Some s → numbered sites k ≡ Some u.1.site → WasIssued log u
+    pub own : (k : ℕ) (s : Store) (u : Update) → numbered w.stores k ≡ Some s → numbered sites k ≡ Some u.1.site → IsLogged log u
         → option_below plain_below (Some u.1) (get s u.0) ≡ true
     pub alike : HaveOneUpdateForAStamp log
-    pub fits : (u : Update) → WasIssued log u → Fits u
+    pub fits : (u : Update) → IsLogged log u → Fits u
 
   module _ (law : StoreLaws) (are : AreSites sites) where
     -- ---- at the start
@@ -98,7 +98,7 @@ module _ (sites : List SiteName) (Fits : Update → Type 0) (IsOfSummary : SentS
         apart : {x : PlainEntry} → None ≡ Some x → ⊥
         apart e = cc
 
-    none_issued : (u : Update) → WasIssued [] u → ⊥
+    none_issued : (u : Update) → IsLogged [] u → ⊥
     none_issued u h = omega (arith, h.1)
 
     pub keeps_start : Keeps [] (start sites)
@@ -116,7 +116,7 @@ module _ (sites : List SiteName) (Fits : Update → Type 0) (IsOfSummary : SentS
       abbrev after : List Store
       after = set_numbered w.stores k t
 
-      older : (u : Update) → WasIssued log u → WasIssued (log ++ more) u
+      older : (u : Update) → IsLogged log u → IsLogged (log ++ more) u
       older u h = Contains-append_left log more (u.1.site, u) h
 
       pub noted_after : (m : SentSummary) → IsNoted log w.stores m → IsNoted (log ++ more) after m
@@ -139,9 +139,9 @@ module _ (sites : List SiteName) (Fits : Update → Type 0) (IsOfSummary : SentS
 
       pub keeps_after : (ms : List SentMessage) (ns : List SentSummary)
           → AllIssued (log ++ more) t
-          → ((j : ℕ) (x : Store) (u : Update) → numbered after j ≡ Some x → numbered sites j ≡ Some u.1.site → WasIssued more u → option_below plain_below (Some u.1) (get x u.0) ≡ true)
+          → ((j : ℕ) (x : Store) (u : Update) → numbered after j ≡ Some x → numbered sites j ≡ Some u.1.site → IsLogged more u → option_below plain_below (Some u.1) (get x u.0) ≡ true)
           → HaveOneUpdateForAStamp (log ++ more)
-          → ((u : Update) → WasIssued more u → Fits u)
+          → ((u : Update) → IsLogged more u → Fits u)
           → ((j : ℕ) (m : SentMessage) → slice_get ms j ≡ Some m → IsSent (log ++ more) after m)
           → ((j : ℕ) (m : SentSummary) → slice_get ns j ≡ Some m → IsNoted (log ++ more) after m)
           → Keeps (log ++ more) (record { stores = after; messages = w.messages ++ ms; summaries = w.summaries ++ ns })
@@ -173,11 +173,11 @@ module _ (sites : List SiteName) (Fits : Update → Type 0) (IsOfSummary : SentS
 
     -- an event that issues nothing
     module _ (log : List Issue) (w : World) (K : Keeps log w) (k : ℕ) (s t : Store) (at : numbered w.stores k ≡ Some s) where
-      old_log : (u : Update) → WasIssued (log ++ []) u → WasIssued log u
-      old_log u h = subst (λ (l : List Issue). WasIssued l u) (append-nil log) h
+      old_log : (u : Update) → IsLogged (log ++ []) u → IsLogged log u
+      old_log u h = subst (λ (l : List Issue). IsLogged l u) (append-nil log) h
 
-      same_log : (u : Update) → WasIssued log u → WasIssued (log ++ []) u
-      same_log u h = subst (λ (l : List Issue). WasIssued l u) (sym (append-nil log)) h
+      same_log : (u : Update) → IsLogged log u → IsLogged (log ++ []) u
+      same_log u h = subst (λ (l : List Issue). IsLogged l u) (sym (append-nil log)) h
 
       pub keeps_unissued : IsStoreBelow s t → AllIssued log t → (ms : List SentMessage) (ns : List SentSummary)
           → ((j : ℕ) (m : SentMessage) → slice_get ms j ≡ Some m → IsSent (log ++ []) (set_numbered w.stores k t) m)
@@ -191,7 +191,7 @@ module _ (sites : List SiteName) (Fits : Update → Type 0) (IsOfSummary : SentS
           sends notes
 
       -- issued updates are joined
-      pub keeps_taken : (us : List Update) → t ≡ store_of (updates s ++ us) → ((u : Update) → Contains us u → WasIssued log u)
+      pub keeps_taken : (us : List Update) → t ≡ store_of (updates s ++ us) → ((u : Update) → Contains us u → IsLogged log u)
           → Keeps (log ++ []) (record { stores = set_numbered w.stores k t; messages = w.messages ++ []; summaries = w.summaries ++ [] })
       keeps_taken us is known = keeps_unissued
           (subst (IsStoreBelow s) (sym is) (grows law s us))
@@ -261,10 +261,10 @@ module _ (sites : List SiteName) (Fits : Update → Type 0) (IsOfSummary : SentS
       only : {X : Type 0} (x y : X) → Contains (x ∷ []) y → x ≡ y
       only x y c = elim (Contains-push_cases [] x y c) [ inl none ↦ absurd (omega (arith, none.1)) | inr same ↦ same ]
 
-      that_one : (u : Update) → WasIssued one u → new ≡ u
+      that_one : (u : Update) → IsLogged one u → new ≡ u
       that_one u c = ap (λ (p : Issue). p.1) (only (n, new) (u.1.site, u) c)
 
-      mine : WasIssued (log ++ one) new
+      mine : IsLogged (log ++ one) new
       mine = subst (λ (i : SiteName). Contains (log ++ one) (i, new)) (sym site_is) (Contains-push log (n, new))
 
       stands : Has t new
@@ -273,10 +273,10 @@ module _ (sites : List SiteName) (Fits : Update → Type 0) (IsOfSummary : SentS
           ∙ law.stays s name n body
           ∙ ap (λ (x : Stamp). Some (issued x body)) (sym next)
 
-      before : (u : Update) → WasIssued log u → u.1.site ≡ n → u.1.count ≤ greatest_count s
+      before : (u : Update) → IsLogged log u → u.1.site ≡ n → u.1.count ≤ greatest_count s
       before u c e = count_bound law s u.0 u.1 (get s u.0) refl (K.own k s u at (here ∙ ap (λ (x : SiteName). Some x) (sym e)) c)
 
-      apart : (u v : Update) → WasIssued log u → new ≡ v → u.1.count ≡ v.1.count → u.1.site ≡ v.1.site → ⊥
+      apart : (u v : Update) → IsLogged log u → new ≡ v → u.1.count ≡ v.1.count → u.1.site ≡ v.1.site → ⊥
       apart u v c e f g =
           let vc : new.1.count ≡ v.1.count = ap (λ (x : Update). x.1.count) e in
           let vs : new.1.site ≡ v.1.site = ap (λ (x : Update). x.1.site) e in
@@ -296,7 +296,7 @@ module _ (sites : List SiteName) (Fits : Update → Type 0) (IsOfSummary : SentS
         ]
       ]
 
-      own_new : (j : ℕ) (x : Store) (u : Update) → numbered (set_numbered w.stores k t) j ≡ Some x → numbered sites j ≡ Some u.1.site → WasIssued one u → option_below plain_below (Some u.1) (get x u.0) ≡ true
+      own_new : (j : ℕ) (x : Store) (u : Update) → numbered (set_numbered w.stores k t) j ≡ Some x → numbered sites j ≡ Some u.1.site → IsLogged one u → option_below plain_below (Some u.1) (get x u.0) ≡ true
       own_new j x u h i c =
           let same = that_one u c in
           let u_site : u.1.site ≡ n = sym (ap (λ (y : Update). y.1.site) same) ∙ site_is in
@@ -312,7 +312,7 @@ module _ (sites : List SiteName) (Fits : Update → Type 0) (IsOfSummary : SentS
           (subst (IsStoreBelow s) (sym is) (grows law s (new ∷ []))) [] []
           (λ u g. elim (has_more law s (new ∷ []) u (subst (λ (x : Store). Has x u) is g)) [
             | inl old ↦ Contains-append_left log one (u.1.site, u) (K.stored k s at u old)
-            | inr late ↦ subst (WasIssued (log ++ one)) (only new u late) mine
+            | inr late ↦ subst (IsLogged (log ++ one)) (only new u late) mine
           ])
           own_new alike_more
           (λ u c. subst Fits (that_one u c) fit)

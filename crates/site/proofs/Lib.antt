@@ -1,6 +1,7 @@
 pub mod FirstSites
 pub mod Labels
 pub mod Growing
+pub mod Issued
 pub mod Keeping
 pub mod StepFacts
 pub mod Happening

@@ -130,15 +130,15 @@ module _ (schema : StatedSchema) (ns : List SiteName) (bs : List SiteView) (ms s
       ∙ sym (ap (λ ys. input_among ms ys e.operation) shown.summaries)
 
   -- nothing has this number
-  not_there : (o : Option SiteName) (p : Option Store) (q : Option Input) → HappensAt schema w e None p q Unknown w
+  not_there : (o : Option SiteName) (p : Option Store) (q : Option Input) → HappensAt (Step schema) w e None p q Unknown w
   not_there o p q = (refl, refl)
 
-  pub plays_nowhere : numbered ns e.site ≡ None → (v : World) × Happens schema ns w e Unknown v × IsShown schema ns bs ms sms v
+  pub plays_nowhere : numbered ns e.site ≡ None → (v : World) × Happens (Step schema) ns w e Unknown v × IsShown schema ns bs ms sms v
   plays_nowhere h = (
     w,
     record {
       texts = texts;
-      happens = subst (λ (o : Option SiteName). HappensAt schema w e o (numbered w.stores e.site) (input_of w e.operation) Unknown w) (sym h) (refl, refl);
+      happens = subst (λ (o : Option SiteName). HappensAt (Step schema) w e o (numbered w.stores e.site) (input_of w e.operation) Unknown w) (sym h) (refl, refl);
     },
     shown,
   )
@@ -153,21 +153,21 @@ module _ (schema : StatedSchema) (ns : List SiteName) (bs : List SiteView) (ms s
     store_is : numbered w.stores e.site ≡ Some (store_in a)
     store_is = ap (numbered w.stores) place ∙ there.1
 
-    happens_by : (q : Option Input) (c : EventReply) (v : World) → input_of w e.operation ≡ q → HappensAt schema w e (Some a.name) (Some (store_in a)) q c v → Happens schema ns w e c v
+    happens_by : (q : Option Input) (c : EventReply) (v : World) → input_of w e.operation ≡ q → HappensAt (Step schema) w e (Some a.name) (Some (store_in a)) q c v → Happens (Step schema) ns w e c v
     happens_by q c v is h = record {
       texts = texts;
-      happens = subst (λ (o : Option SiteName). HappensAt schema w e o (numbered w.stores e.site) (input_of w e.operation) c v) (sym name_is)
-          (subst (λ (p : Option Store). HappensAt schema w e (Some a.name) p (input_of w e.operation) c v) (sym store_is)
-          (subst (λ (x : Option Input). HappensAt schema w e (Some a.name) (Some (store_in a)) x c v) (sym is) h));
+      happens = subst (λ (o : Option SiteName). HappensAt (Step schema) w e o (numbered w.stores e.site) (input_of w e.operation) c v) (sym name_is)
+          (subst (λ (p : Option Store). HappensAt (Step schema) w e (Some a.name) p (input_of w e.operation) c v) (sym store_is)
+          (subst (λ (x : Option Input). HappensAt (Step schema) w e (Some a.name) (Some (store_in a)) x c v) (sym is) h));
     }
 
     -- what the event names was not made
     pub plays_unknown : AnswersOperation (schema_of a) a.name (store_in a) (input_among ms sms e.operation) None (store_in b)
-        → (v : World) × Happens schema ns w e Unknown v × IsShown schema ns (set bs k b) ms sms v
+        → (v : World) × Happens (Step schema) ns w e Unknown v × IsShown schema ns (set bs k b) ms sms v
     plays_unknown h = by_input (input_among ms sms e.operation) refl h
       where
         by_input : (q : Option Input) → input_among ms sms e.operation ≡ q → AnswersOperation (schema_of a) a.name (store_in a) q None (store_in b)
-            → (v : World) × Happens schema ns w e Unknown v × IsShown schema ns (set bs k b) ms sms v
+            → (v : World) × Happens (Step schema) ns w e Unknown v × IsShown schema ns (set bs k b) ms sms v
         by_input None is t = (
           w,
           happens_by None Unknown w (input_is ∙ is) (refl, refl),
@@ -184,14 +184,14 @@ module _ (schema : StatedSchema) (ns : List SiteName) (bs : List SiteView) (ms s
     -- the site replied
     pub plays_step : (r : Reply) (c : EventReply) → AnswersOperation (schema_of a) a.name (store_in a) (input_among ms sms e.operation) (Some r) (store_in b)
         → c ≡ answer_among (length ms) (length sms) e.operation r
-        → (v : World) × Happens schema ns w e c v × IsShown schema ns (set bs k b) (ms ++ message_bytes e.operation r) (sms ++ summary_bytes e.operation r) v
+        → (v : World) × Happens (Step schema) ns w e c v × IsShown schema ns (set bs k b) (ms ++ message_bytes e.operation r) (sms ++ summary_bytes e.operation r) v
     plays_step r c h answer = by_input (input_among ms sms e.operation) refl h
       where
         count : {X : Type 0} (f : X → List ℕ) (xs : List X) (ys : List (List ℕ)) → ys ≡ map f xs → length ys ≡ length xs
         count f xs ys is = ap length is ∙ length-map xs f
 
         by_input : (q : Option Input) → input_among ms sms e.operation ≡ q → AnswersOperation (schema_of a) a.name (store_in a) q (Some r) (store_in b)
-            → (v : World) × Happens schema ns w e c v × IsShown schema ns (set bs k b) (ms ++ message_bytes e.operation r) (sms ++ summary_bytes e.operation r) v
+            → (v : World) × Happens (Step schema) ns w e c v × IsShown schema ns (set bs k b) (ms ++ message_bytes e.operation r) (sms ++ summary_bytes e.operation r) v
         by_input None is t = absurd t
         by_input (Some i) is t = (
           after w e (store_in a) r (store_in b),
@@ -217,8 +217,8 @@ module _ (schema : StatedSchema) (ns : List SiteName) (bs : List SiteView) (ms s
 
 -- ---- events one after another
 leads_push : (schema : StatedSchema) (ns : List SiteName) (w : World) (es : List Event) (rs : List EventReply) (m : World) (e : Event) (c : EventReply) (v : World)
-    → Leads schema ns w es rs m → Happens schema ns m e c v → Leads schema ns w (es ++ e ∷ []) (rs ++ c ∷ []) v
-leads_push schema ns w [] [] m e c v h k = (v, subst (λ (x : World). Happens schema ns x e c v) h k, refl)
+    → Leads (Step schema) ns w es rs m → Happens (Step schema) ns m e c v → Leads (Step schema) ns w (es ++ e ∷ []) (rs ++ c ∷ []) v
+leads_push schema ns w [] [] m e c v h k = (v, subst (λ (x : World). Happens (Step schema) ns x e c v) h k, refl)
 leads_push schema ns w [] (r ∷ rs) m e c v h k = absurd h
 leads_push schema ns w (x ∷ es) [] m e c v h k = absurd h
 leads_push schema ns w (x ∷ es) (r ∷ rs) m e c v h k = (h.0, h.1, leads_push schema ns h.0 es rs m e c v h.2 k)
@@ -276,8 +276,8 @@ module _ (bs : List SiteView) (ms sms ms1 sms1 : List (List ℕ)) (e : Event) (a
       → c ≡ answer_among (length ms) (length sms) e.operation r → ms2 ≡ ms ++ message_bytes e.operation r → sms2 ≡ sms ++ summary_bytes e.operation r
       → Plays bs ms sms e c (set bs (e.site - 1) b) ms2 sms2
   plays_replied r c ms2 sms2 h answer made noted = λ schema ns w shown.
-      subst (λ xs. (v : World) × Happens schema ns w e c v × IsShown schema ns (set bs (e.site - 1) b) xs sms2 v) (sym made)
-      (subst (λ ys. (v : World) × Happens schema ns w e c v × IsShown schema ns (set bs (e.site - 1) b) (ms ++ message_bytes e.operation r) ys v) (sym noted)
+      subst (λ xs. (v : World) × Happens (Step schema) ns w e c v × IsShown schema ns (set bs (e.site - 1) b) xs sms2 v) (sym made)
+      (subst (λ ys. (v : World) × Happens (Step schema) ns w e c v × IsShown schema ns (set bs (e.site - 1) b) (ms ++ message_bytes e.operation r) ys v) (sym noted)
       (plays_step schema ns bs ms sms w shown e texts (e.site - 1) place a b at same r c
       (subst (λ xs. AnswersOperation (schema_of a) a.name (store_in a) (input_among xs sms e.operation) (Some r) (store_in b)) m_is
       (subst (λ ys. AnswersOperation (schema_of a) a.name (store_in a) (input_among ms1 ys e.operation) (Some r) (store_in b)) s_is h)) answer))

@@ -27,10 +27,11 @@ use Rattle.site.specs.declared.event.Event.{Event}
 use Rattle.site.specs.declared.event.EventReply.{EventReply}
 use Rattle.site.specs.declared.event.EventReply.TheVariants.{Unknown, Replied}
 use Rattle.site.specs.Sites.{SiteName, AreSites, numbered, SentSummary, SentMessage, World, content, part_since}
-use Rattle.site.specs.Sites.{start, Issue}
-use Rattle.site.specs.Worlds.{HappensAt, IsStepAt, Happens, Leads, input_of, issues_of, issues}
-use Rattle.site.specs.Promises.{KeepsPromises, WorldsKeepPromises}
+use Rattle.site.specs.Sites.{start}
+use Rattle.site.specs.Worlds.{HappensAt, IsStepAt, Happens, Leads, input_of, WasIssued}
+use Rattle.site.specs.Promises.{KeepsPromises, StatesBy, IssuesBy, WorldsKeepPromises}
 use Rattle.site.proofs.Growing.{StoreLaws, has_update}
+use Rattle.site.proofs.Issued.{Issue, IsLogged, issues_of, issues, was_issued, is_logged}
 use Rattle.site.proofs.Keeping.{AllIssued, Keeps, keeps_start, exchanged, get_set_numbered, some_same}
 use Rattle.site.proofs.StepFacts.{IsFit, CommandLaws, step_leaves, all_of}
 use Rattle.site.proofs.Happening.{IsOfMessage, IsOfSummary, SendingLaws, keeps_there, message_known}
@@ -56,17 +57,17 @@ module _ (schema : StatedSchema) (sites : List SiteName) (are : AreSites sites) 
       subst (λ (b : EventReply). Kept (log ++ issues_of schema sites e b) v) (sym h.0)
       (subst (λ (l : List Issue). Kept l v) (sym (append-nil log)) (subst (Kept log) (sym h.1) K))
 
-  keeps_event : (log : List Issue) (w : World) (K : Kept log w) (e : Event) (a : EventReply) (v : World) → Happens schema sites w e a v
+  keeps_event : (log : List Issue) (w : World) (K : Kept log w) (e : Event) (a : EventReply) (v : World) → Happens (Step schema) sites w e a v
       → Kept (log ++ issues_of schema sites e a) v
   keeps_event log w K e a v h = there (numbered sites e.site) (numbered w.stores e.site) refl refl h.happens
     where
       there : (o : Option SiteName) (p : Option Store) → numbered sites e.site ≡ o → numbered w.stores e.site ≡ p
-          → HappensAt schema w e o p (input_of w e.operation) a v → Kept (log ++ issues_of schema sites e a) v
+          → HappensAt (Step schema) w e o p (input_of w e.operation) a v → Kept (log ++ issues_of schema sites e a) v
       there None p here at k = unknown log w K e a v k
       there (Some n) None here at k = unknown log w K e a v k
       there (Some n) (Some s) here at k = keeps_there schema sites are stores commands sending log w K e.site n s here at e.operation a v h.texts k
 
-  keeps_run : (log : List Issue) (w : World) (es : List Event) (rs : List EventReply) (v : World) → Kept log w → Leads schema sites w es rs v
+  keeps_run : (log : List Issue) (w : World) (es : List Event) (rs : List EventReply) (v : World) → Kept log w → Leads (Step schema) sites w es rs v
       → Kept (log ++ issues schema sites es rs) v
   keeps_run log w [] [] v K h = subst (λ (l : List Issue). Kept l v) (sym (append-nil log)) (subst (Kept log) (sym h) K)
   keeps_run log w [] (a ∷ rs) v K h = absurd h
@@ -102,7 +103,7 @@ module _ (schema : StatedSchema) (sites : List SiteName) (are : AreSites sites) 
       abbrev all_taken : EventReply
       all_taken = Replied (reply.Taken (Ok (All c)))
 
-      delivered_all : (n : SiteName) → IsStepAt schema w delivery n s (input.Take m.bytes) all_taken v
+      delivered_all : (n : SiteName) → IsStepAt (Step schema) w delivery n s (input.Take m.bytes) all_taken v
           → numbered v.stores i ≡ Some (joined_stores s m.whole)
       delivered_all n h =
           let r_is : h.reply ≡ reply.Taken (Ok (All c)) = sym (replied_same (reply.Taken (Ok (All c))) h.reply h.answer) in
@@ -119,15 +120,15 @@ module _ (schema : StatedSchema) (sites : List SiteName) (are : AreSites sites) 
       never_unknown h = absurd cc
 
       delivered_by : (o : Option SiteName) (p : Option Store) (q : Option Input) → p ≡ Some s → q ≡ Some (input.Take m.bytes)
-          → HappensAt schema w delivery o p q all_taken v → numbered v.stores i ≡ Some (joined_stores s m.whole)
+          → HappensAt (Step schema) w delivery o p q all_taken v → numbered v.stores i ≡ Some (joined_stores s m.whole)
       delivered_by None p q e f h = never_unknown h.0
       delivered_by (Some n) None q e f h = never_unknown h.0
       delivered_by (Some n) (Some x) None e f h = never_unknown h.0
       delivered_by (Some n) (Some x) (Some y) e f h =
-          delivered_all n (subst (λ (z : Input). IsStepAt schema w delivery n s z all_taken v) (some_same y (input.Take m.bytes) f)
-          (subst (λ (z : Store). IsStepAt schema w delivery n z y all_taken v) (some_same x s e) h))
+          delivered_all n (subst (λ (z : Input). IsStepAt (Step schema) w delivery n s z all_taken v) (some_same y (input.Take m.bytes) f)
+          (subst (λ (z : Store). IsStepAt (Step schema) w delivery n z y all_taken v) (some_same x s e) h))
 
-      delivered : Happens schema sites w delivery all_taken v → numbered v.stores i ≡ Some (joined_stores s m.whole)
+      delivered : Happens (Step schema) sites w delivery all_taken v → numbered v.stores i ≡ Some (joined_stores s m.whole)
       delivered h = delivered_by (numbered sites i) (numbered w.stores i) (option_map input.Take (option_map (λ (x : SentMessage). x.bytes) (slice_get w.messages k))) at
           (ap (λ (o : Option SentMessage). option_map input.Take (option_map (λ (x : SentMessage). x.bytes) o)) is) h.happens
 
@@ -183,20 +184,24 @@ module _ (schema : StatedSchema) (sites : List SiteName) (are : AreSites sites) 
     answered k m n s t fault.ClockFull h step = absurd step.0
     answered k m n s t (fault.Request f) h step = absurd step.0
 
-    promises : KeepsPromises schema sites log w
-    promises = record {
-      stored = λ k s h u c. K.stored k s h u (has_update s u c);
-      sent = λ k m us h is u c. known k m h u (has_update (content m) u
-          (subst (λ (vs : List Update). Contains vs u) (ok_same us (updates (content m)) (updates_stated schema.label m.bytes) is (read_back k m h)) c));
-      alike = K.alike;
-      read = read_back;
-      exchanged = λ i k c v m old s h is since made at. delivered i k c v m old s is since made at h;
-      taken = taken;
-      answered = answered;
-    }
+    module _ (es : List Event) (rs : List EventReply)
+        (to : (u : Update) → IsLogged log u → WasIssued (IssuesBy schema) sites es rs u)
+        (from : (u : Update) → WasIssued (IssuesBy schema) sites es rs u → IsLogged log u) where
+      promises : KeepsPromises (Step schema) (StatesBy schema) (IssuesBy schema) sites es rs w
+      promises = record {
+        stored = λ k s h u c. to u (K.stored k s h u (has_update s u c));
+        sent = λ k m us h is u c. to u (known k m h u (has_update (content m) u
+            (subst (λ (vs : List Update). Contains vs u) (ok_same us (updates (content m)) (updates_stated schema.label m.bytes) is (read_back k m h)) c)));
+        alike = λ u v h k. K.alike u v (from u h) (from v k);
+        read = read_back;
+        exchanged = λ i k c v m old s h is since made at. delivered i k c v m old s is since made at h;
+        taken = taken;
+        answered = answered;
+      }
 
 pub worlds_keep : (schema : StatedSchema) → StoreLaws → CommandLaws schema → SendingLaws schema.label → TakingLaws schema → WorldsKeepPromises schema
 worlds_keep schema stores commands sending taking = λ sites are es rs w h.
     promises schema sites are stores commands sending taking (issues schema sites es rs) w
     (keeps_run schema sites are stores commands sending [] (start sites) es rs w
     (keeps_start sites (IsFit schema) (IsOfSummary schema.label) (IsOfMessage schema.label) stores are) h)
+    es rs (was_issued schema sites es rs) (is_logged schema sites es rs)

@@ -2,6 +2,7 @@
 use Rattle.std.specs.Prelude.{◌≡◌, ℕ, List, [], ◌∷◌, map}
 use Rattle.site_steps.specs.schema.Schemas.{StatedSchema}
 use Rattle.site_steps.specs.stamped_store.Store.{Store}
+use Rattle.site_steps.specs.Runs.{Step}
 use Rattle.site_steps.specs.SiteViews.{SiteView, schema_of, store_in}
 use Rattle.site.specs.declared.event.Event.{Event}
 use Rattle.site.specs.declared.event.EventReply.{EventReply}
@@ -33,5 +34,5 @@ pub record IsShown (schema : StatedSchema) (sites : List SiteName) (seen : List 
 pub record IsPlayed (schema : StatedSchema) (sites : List SiteName) (es : List Event) (rs : List EventReply)
     (seen : List SiteView) (messages summaries : List (List ℕ)) : Type 0 where
   pub world : World
-  pub leads : IsWorld schema sites es rs world
+  pub leads : IsWorld (Step schema) sites es rs world
   pub shown : IsShown schema sites seen messages summaries world

@@ -10,58 +10,81 @@ use Rattle.site_steps.specs.message_format.Messages.{updates_stated}
 use Rattle.site_steps.specs.declared.fault.SiteFault.{SiteFault}
 use Rattle.site_steps.specs.declared.fault.SiteFault.TheVariants.{NoMemory}
 use Rattle.site_steps.specs.declared.outcome.Taken.TheVariants.{All}
+use Rattle.site_steps.specs.Inputs.{Input}
 use Rattle.site_steps.specs.Inputs as input
+use Rattle.site_steps.specs.declared.reply.Reply.{Reply}
 use Rattle.site_steps.specs.declared.reply.Reply.TheVariants as reply
 use Rattle.site_steps.specs.Runs.{Step}
+use Rattle.site.specs.declared.event.Operation.{Operation}
 use Rattle.site.specs.declared.event.Operation.TheVariants as operation
 use Rattle.site.specs.declared.event.Event.{Event}
 use Rattle.site.specs.declared.event.EventReply.{EventReply}
 use Rattle.site.specs.declared.event.EventReply.TheVariants.{Replied}
 use Rattle.site.specs.Sites.{SiteName, AreSites, numbered, SentSummary, SentMessage, World, content}
-use Rattle.site.specs.Sites.{Issue, WasIssued}
-use Rattle.site.specs.Worlds.{Happens, IsWorld, issues}
+use Rattle.site.specs.Worlds.{Happens, IsWorld, WasIssued, issued_by}
 
--- `KeepsPromises schema sites log w` holds if these promises hold in the state `w`, where `log` has what was issued
--- so far.
-pub record KeepsPromises (schema : StatedSchema) (sites : List SiteName) (log : List Issue) (w : World) : Type 0 where
-  -- No entry is invented: each entry in a store, and each entry in a message, was issued by a local command whose
-  -- reply was its stamp, at the site that the stamp names.
-  pub stored : (k : ℕ) (s : Store) → numbered w.stores k ≡ Some s → (u : Update) → Contains (updates s) u
-      → WasIssued log u
-  pub sent : (k : ℕ) (m : SentMessage) (us : List Update) → slice_get w.messages k ≡ Some m
-      → updates_stated schema.label m.bytes ≡ Ok us → (u : Update) → Contains us u → WasIssued log u
-  -- A stamp identifies an update: equal stamps mean equal updates, wherever they occur.
-  pub alike : (u v : Update) → WasIssued log u → WasIssued log v → u.1.count ≡ v.1.count → u.1.site ≡ v.1.site
-      → u ≡ v
-  -- Deltas suffice: a site that applies all of a delta, made from a store against an earlier summary of this site,
-  -- then holds the join of its store and that whole store.
-  pub exchanged : (i k c : ℕ) (v : World) (m : SentMessage) (old : SentSummary) (s : Store)
-      → Happens schema sites w (record { site = i; operation = operation.Deliver k })
-      (Replied (reply.Taken (Ok (All c)))) v
-      → slice_get w.messages k ≡ Some m → m.since ≡ Some old → old.site ≡ i → numbered w.stores i ≡ Some s
-      → numbered v.stores i ≡ Some (joined_stores s m.whole)
-  -- Messages are faithful: a message states the store that it was made from, or for a delta the missing entries.
-  pub read : (k : ℕ) (m : SentMessage) → slice_get w.messages k ≡ Some m
-      → updates_stated schema.label m.bytes ≡ Ok (updates (content m))
-  -- Messages are understood: a message is rejected, at any site and over any store, only for `NoMemory`, and so is a
-  -- summary.
-  pub taken : (k : ℕ) (m : SentMessage) (n : SiteName) (s t : Store) (f : SiteFault)
-      → slice_get w.messages k ≡ Some m → Step schema n s (input.Take m.bytes) (reply.Taken (Err f)) t → f ≡ NoMemory
-  pub answered : (k : ℕ) (m : SentSummary) (n : SiteName) (s t : Store) (f : SiteFault)
-      → slice_get w.summaries k ≡ Some m → Step schema n s (input.Delta m.bytes) (reply.Written (Err f)) t
-      → f ≡ NoMemory
+-- Of a system: `Steps n s i r t` states what one step of a site may be, `States bytes us` which bytes are a message
+-- with the updates `us`, and `Issues d r u` that the operation `d` with the reply `r` issues the update `u`.
+module _ (Steps : SiteName → Store → Input → Reply → Store → Type 0) (States : List ℕ → List Update → Type 0)
+    (Issues : Operation → Reply → Update → Type 0) where
+  -- `KeepsPromises sites es rs w` holds if these promises hold in the state `w`, after the events `es` with the
+  -- replies `rs`.
+  pub record KeepsPromises (sites : List SiteName) (es : List Event) (rs : List EventReply) (w : World) : Type 0 where
+    -- No entry is invented: each entry in a store, and each entry in a message, was issued by a local command whose
+    -- reply was its stamp, at the site that the stamp names.
+    pub stored : (k : ℕ) (s : Store) → numbered w.stores k ≡ Some s → (u : Update) → Contains (updates s) u
+        → WasIssued Issues sites es rs u
+    pub sent : (k : ℕ) (m : SentMessage) (us : List Update) → slice_get w.messages k ≡ Some m → States m.bytes us
+        → (u : Update) → Contains us u → WasIssued Issues sites es rs u
+    -- A stamp identifies an update: equal stamps mean equal updates, wherever they occur.
+    pub alike : (u v : Update) → WasIssued Issues sites es rs u → WasIssued Issues sites es rs v
+        → u.1.count ≡ v.1.count → u.1.site ≡ v.1.site → u ≡ v
+    -- Deltas suffice: a site that applies all of a delta, made from a store against an earlier summary of this site,
+    -- then holds the join of its store and that whole store.
+    pub exchanged : (i k c : ℕ) (v : World) (m : SentMessage) (old : SentSummary) (s : Store)
+        → Happens Steps sites w (record { site = i; operation = operation.Deliver k })
+        (Replied (reply.Taken (Ok (All c)))) v
+        → slice_get w.messages k ≡ Some m → m.since ≡ Some old → old.site ≡ i → numbered w.stores i ≡ Some s
+        → numbered v.stores i ≡ Some (joined_stores s m.whole)
+    -- Messages are faithful: a message states the store that it was made from, or for a delta the missing entries.
+    pub read : (k : ℕ) (m : SentMessage) → slice_get w.messages k ≡ Some m → States m.bytes (updates (content m))
+    -- Messages are understood: a message is rejected, at any site and over any store, only for `NoMemory`, and so is a
+    -- summary.
+    pub taken : (k : ℕ) (m : SentMessage) (n : SiteName) (s t : Store) (f : SiteFault)
+        → slice_get w.messages k ≡ Some m → Steps n s (input.Take m.bytes) (reply.Taken (Err f)) t → f ≡ NoMemory
+    pub answered : (k : ℕ) (m : SentSummary) (n : SiteName) (s t : Store) (f : SiteFault)
+        → slice_get w.summaries k ≡ Some m → Steps n s (input.Delta m.bytes) (reply.Written (Err f)) t → f ≡ NoMemory
 
--- `WorldKeepsPromises schema sites es rs` holds if the promises hold in each state that these events with these
--- replies lead to.
+  -- `AlwaysKeepsPromises sites es rs` holds if the promises hold in each state that these events with these replies
+  -- lead to.
+  abbrev pub AlwaysKeepsPromises : List SiteName → List Event → List EventReply → Type 0
+  AlwaysKeepsPromises sites es rs = (w : World) → IsWorld Steps sites es rs w → KeepsPromises sites es rs w
+
+  -- The promises hold for all sites with distinct names, and for all events in any order; at every moment, since each
+  -- beginning of a list of events is a list of events.
+  abbrev pub SystemsKeepPromises : Type 0
+  SystemsKeepPromises = (sites : List SiteName) → AreSites sites → (es : List Event) (rs : List EventReply)
+      → AlwaysKeepsPromises sites es rs
+
+-- ---- by the functions that the contracts of a site cite
+
+-- `StatesBy schema bytes us` holds if the parsing function gives the updates `us` for the message `bytes`.
+abbrev pub StatesBy : StatedSchema → List ℕ → List Update → Type 0
+StatesBy schema bytes us = updates_stated schema.label bytes ≡ Ok us
+
+-- `IssuesBy schema d r u` holds if `u` is among the updates that `d` with the reply `r` got a stamp for.
+abbrev pub IssuesBy : StatedSchema → Operation → Reply → Update → Type 0
+IssuesBy schema d r u = Contains (issued_by schema d r) u
+
+-- `WorldKeepsPromises schema sites es rs` holds if the promises hold in each state of sites of this schema that these
+-- events with these replies lead to.
 abbrev pub WorldKeepsPromises : StatedSchema → List SiteName → List Event → List EventReply → Type 0
-WorldKeepsPromises schema sites es rs = (w : World) → IsWorld schema sites es rs w
-    → KeepsPromises schema sites (issues schema sites es rs) w
+WorldKeepsPromises schema sites es rs =
+    AlwaysKeepsPromises (Step schema) (StatesBy schema) (IssuesBy schema) sites es rs
 
--- The promises hold for all sites of a schema with distinct names, and for all events in any order; at every moment,
--- since each beginning of a list of events is a list of events.
+-- The promises hold for all sites of a schema.
 abbrev pub WorldsKeepPromises : StatedSchema → Type 0
-WorldsKeepPromises schema = (sites : List SiteName) → AreSites sites → (es : List Event) (rs : List EventReply)
-    → WorldKeepsPromises schema sites es rs
+WorldsKeepPromises schema = SystemsKeepPromises (Step schema) (StatesBy schema) (IssuesBy schema)
 
 -- This holds for each schema that bytes state, as it is kept.
 abbrev pub AllWorldsKeepPromises : Type 0

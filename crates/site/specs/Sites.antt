@@ -2,11 +2,10 @@
 -- Each may be delivered to any site, again and in any order.
 -- Rules of this product: messages and summaries are numbered from 0, sites from 1.
 use Rattle.std.specs.Prelude.{◌≡◌, ℕ, zero, suc, List, [], ◌∷◌, ◌++◌, map, set, slice_get, Option, Some, None}
-use Rattle.std.specs.List.{Contains}
 use Rattle.std.specs.FinMap.{empty}
 use Rattle.site_steps.specs.stamped_store.Deltas.{delta, summary_of}
 use Rattle.site_steps.specs.stamped_store.SiteNames.{IsSiteName, five_digits}
-use Rattle.site_steps.specs.stamped_store.Store.{Store, Update}
+use Rattle.site_steps.specs.stamped_store.Store.{Store}
 
 -- ---- the names of sites
 
@@ -69,13 +68,3 @@ content m = part_since m.whole m.since
 -- `start sites` is the state in which every site is empty.
 abbrev pub start : List SiteName → World
 start sites = record { stores = map (λ _. empty) sites; messages = []; summaries = [] }
-
--- ---- what was issued
-
--- An `Issue` is an update, with the name of the site at which a local command got its stamp.
-abbrev pub Issue : Type 0
-Issue = SiteName × Update
-
--- `WasIssued log u` holds if `log` has the update `u`, issued at the site that its stamp names.
-abbrev pub WasIssued : List Issue → Update → Type 0
-WasIssued log u = Contains log (u.1.site, u)

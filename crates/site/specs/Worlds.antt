@@ -17,7 +17,7 @@ use Rattle.site.specs.declared.event.Operation.TheVariants as operation
 use Rattle.site.specs.declared.event.Event.{Event}
 use Rattle.site.specs.declared.event.EventReply.{EventReply}
 use Rattle.site.specs.declared.event.EventReply.TheVariants.{Unknown, Replied, Message, Summary}
-use Rattle.site.specs.Sites.{SiteName, numbered, set_numbered, SentSummary, SentMessage, World, start, Issue}
+use Rattle.site.specs.Sites.{SiteName, numbered, set_numbered, SentSummary, SentMessage, World, start}
 
 -- ---- events
 
@@ -95,51 +95,62 @@ after w e s r t = record {
   summaries = w.summaries ++ summary_made e.site e.operation s r;
 }
 
--- `IsStepAt schema w e n s i a v` holds if one step of the site named `n`, which held `s`, with the input `i`, leads
--- from `w` to `v` with the reply `a`.
-pub record IsStepAt (schema : StatedSchema) (w : World) (e : Event) (n : SiteName) (s : Store) (i : Input)
-    (a : EventReply) (v : World) : Type 0 where
-  pub reply : Reply
-  pub store : Store
-  pub step : Step schema n s i reply store
-  pub answer : a ≡ answer_of w e.operation reply
-  pub leaves : v ≡ after w e s reply store
+-- `Steps n s i r t` states whether, at the site named `n` with store `s`, input `i` may yield reply `r` and store `t`.
+module _ (Steps : SiteName → Store → Input → Reply → Store → Type 0) where
+  -- `IsStepAt w e n s i a v` holds if one step of the site named `n`, which held `s`, with the input `i`, leads from
+  -- `w` to `v` with the reply `a`.
+  pub record IsStepAt (w : World) (e : Event) (n : SiteName) (s : Store) (i : Input) (a : EventReply) (v : World)
+      : Type 0 where
+    pub reply : Reply
+    pub store : Store
+    pub step : Steps n s i reply store
+    pub answer : a ≡ answer_of w e.operation reply
+    pub leaves : v ≡ after w e s reply store
 
--- `HappensAt schema w e n s i a v` holds if there are a site's name `n`, its store `s` and an input `i`, and such a
--- step; or one of these is absent, the reply `a` is `Unknown`, and `v` is `w`.
-abbrev pub HappensAt : StatedSchema → World → Event → Option SiteName → Option Store → Option Input → EventReply
-    → World → Type 0
-HappensAt schema w e (Some n) (Some s) (Some i) a v = IsStepAt schema w e n s i a v
-HappensAt schema w e _ _ _ a v = (a ≡ Unknown) × (v ≡ w)
+  -- `HappensAt w e n s i a v` holds if there are a site's name `n`, its store `s` and an input `i`, and such a step;
+  -- or one of these is absent, the reply `a` is `Unknown`, and `v` is `w`.
+  abbrev pub HappensAt : World → Event → Option SiteName → Option Store → Option Input → EventReply → World → Type 0
+  HappensAt w e (Some n) (Some s) (Some i) a v = IsStepAt w e n s i a v
+  HappensAt w e _ _ _ a v = (a ≡ Unknown) × (v ≡ w)
 
--- `Happens schema sites w e a v` holds if in `w` the event `e` may get the reply `a`, and lead to `v`.
-pub record Happens (schema : StatedSchema) (sites : List SiteName) (w : World) (e : Event) (a : EventReply) (v : World)
-    : Type 0 where
-  pub texts : HasTexts e.operation
-  pub happens : HappensAt schema w e (numbered sites e.site) (numbered w.stores e.site) (input_of w e.operation) a v
+  -- `Happens sites w e a v` holds if in `w` the event `e` may get the reply `a`, and lead to `v`.
+  pub record Happens (sites : List SiteName) (w : World) (e : Event) (a : EventReply) (v : World) : Type 0 where
+    pub texts : HasTexts e.operation
+    pub happens : HappensAt w e (numbered sites e.site) (numbered w.stores e.site) (input_of w e.operation) a v
 
--- `Leads schema sites w es rs v` holds if the events `es` with the replies `rs` lead from `w` to `v`.
-abbrev pub Leads : StatedSchema → List SiteName → World → List Event → List EventReply → World → Type 0
-Leads schema sites w [] [] v = v ≡ w
-Leads schema sites w [] (a ∷ rs) v = ⊥
-Leads schema sites w (e ∷ es) [] v = ⊥
-Leads schema sites w (e ∷ es) (a ∷ rs) v = (m : World) × Happens schema sites w e a m × Leads schema sites m es rs v
+  -- `Leads sites w es rs v` holds if the events `es` with the replies `rs` lead from `w` to `v`.
+  abbrev pub Leads : List SiteName → World → List Event → List EventReply → World → Type 0
+  Leads sites w [] [] v = v ≡ w
+  Leads sites w [] (a ∷ rs) v = ⊥
+  Leads sites w (e ∷ es) [] v = ⊥
+  Leads sites w (e ∷ es) (a ∷ rs) v = (m : World) × Happens sites w e a m × Leads sites m es rs v
 
--- `IsWorld schema sites es rs w` holds if `w` is the state of a system of sites of one schema with these names, each
--- empty at the start, after the events `es` with the replies `rs`. An example: sites `00001` and `00002` under one
--- schema. 1 makes a summary (number 0), puts a policy `p` with the stamp (1, `00001`) and offers its state (message
--- 0), which is delivered to 2: 2 applies one update. 2 deletes `p` with the stamp (2, `00002`) and offers a delta
--- against the summary 0 (message 1). Message 1 is delivered to 1, and message 0 once more: both sites hold the
--- deletion.
-abbrev pub IsWorld : StatedSchema → List SiteName → List Event → List EventReply → World → Type 0
-IsWorld schema sites es rs w = Leads schema sites (start sites) es rs w
+  -- `IsWorld sites es rs w` holds if `w` is the state of a system of sites with these names, each empty at the start,
+  -- after the events `es` with the replies `rs`. An example: sites `00001` and `00002` under one schema. 1 makes a
+  -- summary (number 0), puts a policy `p` with the stamp (1, `00001`) and offers its state (message 0), which is
+  -- delivered to 2: 2 applies one update. 2 deletes `p` with the stamp (2, `00002`) and offers a delta against the
+  -- summary 0 (message 1). Message 1 is delivered to 1, and message 0 once more: both sites hold the deletion.
+  abbrev pub IsWorld : List SiteName → List Event → List EventReply → World → Type 0
+  IsWorld sites es rs w = Leads sites (start sites) es rs w
 
 -- Events and replies together determine the state of a system.
 abbrev pub AnswersFixWorlds : Type 0
 AnswersFixWorlds = (schema : StatedSchema) (sites : List SiteName) (es : List Event) (rs : List EventReply)
-    (v w : World) → IsWorld schema sites es rs v → IsWorld schema sites es rs w → v ≡ w
+    (v w : World) → IsWorld (Step schema) sites es rs v → IsWorld (Step schema) sites es rs w → v ≡ w
 
 -- ---- what was issued
+
+-- `WasIssued Issues sites es rs u` holds if one of the events `es`, with its reply of `rs`, issued the update `u` at
+-- the site that the stamp of `u` names. `Issues d r u` states whether the operation `d` with the reply `r` issues `u`.
+pub record WasIssued (Issues : Operation → Reply → Update → Type 0) (sites : List SiteName) (es : List Event)
+    (rs : List EventReply) (u : Update) : Type 0 where
+  pub place : ℕ
+  pub event : Event
+  pub reply : Reply
+  pub happened : slice_get es place ≡ Some event
+  pub replied : slice_get rs place ≡ Some (Replied reply)
+  pub named : numbered sites event.site ≡ Some u.1.site
+  pub issues : Issues event.operation reply u
 
 -- `issued_by schema d r` is the list of the updates that the local command `d` with the reply `r` got a stamp for.
 abbrev pub issued_by : StatedSchema → Operation → Reply → List Update
@@ -148,20 +159,3 @@ issued_by schema (operation.DeletePolicy id) r = took_by schema (input.DeletePol
 issued_by schema (operation.PutEntity bytes) r = took_by schema (input.PutEntity bytes) r
 issued_by schema (operation.DeleteEntity uid) r = took_by schema (input.DeleteEntity uid) r
 issued_by schema _ r = []
-
--- `at_site n us` is the list of the updates `us`, each with the site's name `n`.
-abbrev pub at_site : Option SiteName → List Update → List Issue
-at_site None us = []
-at_site (Some n) us = map (λ u. (n, u)) us
-
--- `issues_of schema sites e a` is the list of the updates that the event `e` with the reply `a` issued, each with the
--- name of its site.
-abbrev pub issues_of : StatedSchema → List SiteName → Event → EventReply → List Issue
-issues_of schema sites e (Replied r) = at_site (numbered sites e.site) (issued_by schema e.operation r)
-issues_of schema sites e _ = []
-
--- `issues schema sites es rs` is the list of the updates that were issued in all events.
-abbrev pub issues : StatedSchema → List SiteName → List Event → List EventReply → List Issue
-issues schema sites [] rs = []
-issues schema sites (e ∷ es) [] = []
-issues schema sites (e ∷ es) (a ∷ rs) = issues_of schema sites e a ++ issues schema sites es rs

@@ -6,7 +6,7 @@ use Rattle.values.specs.declared.entity_uid.EntityUid.{EntityUid}
 use Rattle.values.specs.declared.request.Request.{Request}
 use Rattle.entity_hierarchy.specs.policy_grammar.declared.policy.Policy.{Policy}
 use Rattle.entity_hierarchy.specs.ancestor_search.Hierarchy.{Parents, IsOnCycle, with_parents}
-use Rattle.entity_hierarchy.specs.evaluator.Operators.{World}
+use Rattle.entity_hierarchy.specs.evaluator.Operators.{Entities}
 use Rattle.entity_hierarchy.specs.authoriser.declared.answer.Answer.{Answer}
 use Rattle.entity_hierarchy.specs.authoriser.Answers.{NamedPolicy, IsAnswer}
 use Rattle.entity_hierarchy.specs.schema.Schemas.{StatedSchema, IsSchemaOf}
@@ -20,7 +20,7 @@ use Rattle.site_meaning.specs.StoreMeaning.{ArePolicies, AreEntities, data_in, I
 module _ {bytes : List ℕ} {schema : StatedSchema} (stated : IsSchemaOf bytes schema) where
   -- `stated_world_under entities` is the entity data of evaluation: the attributes of `entities`, their parents, and
   -- of each action of the schema the parents that its `memberOf` states.
-  abbrev pub stated_world_under : (EntityUid → Option Entity) → World
+  abbrev pub stated_world_under : (EntityUid → Option Entity) → Entities
   stated_world_under entities = stated_world stated.named schema (data_in entities)
 
   -- `stated_parents_with entities e` is the parent relation of that data, but the parents of `e` are those that `e`

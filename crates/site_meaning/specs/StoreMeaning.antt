@@ -8,7 +8,7 @@ use Rattle.values.specs.declared.entity_uid.EntityUid.{EntityUid}
 use Rattle.values.specs.declared.request.Request.{Request}
 use Rattle.entity_hierarchy.specs.policy_grammar.declared.policy.Policy.{Policy}
 use Rattle.entity_hierarchy.specs.ancestor_search.Hierarchy.{Parents, IsOnCycle, with_parents}
-use Rattle.entity_hierarchy.specs.evaluator.Operators.{World}
+use Rattle.entity_hierarchy.specs.evaluator.Operators.{Entities}
 use Rattle.entity_hierarchy.specs.authoriser.declared.answer.Answer.{Answer}
 use Rattle.entity_hierarchy.specs.authoriser.Answers.{NamedPolicy, IsAnswer}
 use Rattle.entity_hierarchy.specs.schema.Schemas.{StatedSchema}
@@ -52,7 +52,7 @@ data_in entities uid = option_map data_of (entities uid)
 -- these and of the schema's actions, of each what its `memberOf` states (specs/ByMemberOf.antt). A theorem of
 -- `entity_hierarchy` shows that all ancestors of an action could be its parents, with the same answers and the same
 -- cycles.
-abbrev pub world_under : StatedSchema → (EntityUid → Option Entity) → World
+abbrev pub world_under : StatedSchema → (EntityUid → Option Entity) → Entities
 world_under schema entities = world_in (with_actions schema.member_of (data_in entities))
 
 -- `IsAnswerOver Policies Entities schema s q a` holds if `a` is an answer to the request `q` over the store `s`.

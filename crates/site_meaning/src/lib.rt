@@ -9,7 +9,7 @@ mod policies;
 mod stored_entities;
 
 pub use entity_hierarchy::{
-    Answer, Entity, EntityFault, Lookup, PreparedRequest, Schema, World, actions_may_be_closed,
+    Answer, Entities, Entity, EntityFault, Lookup, PreparedRequest, Schema, actions_may_be_closed,
     answers_are_lawful, canonical_text, decide_known, entities_read_back,
     expressions_have_one_outcome, paths_are_decided, read_entity, read_request,
     requests_have_one_outcome, scopes_do_not_err, stated_schemas_are_well_formed, world_under,

@@ -15,7 +15,7 @@ use Rattle.site_meaning.specs.policy_grammar.Whole.{expression_of}
 use Rattle.site_meaning.specs.ancestor_search.Decided.{is_same}
 use Rattle.site_meaning.specs.ancestor_search.Deciding.{Contains-here, Contains-there, Contains-none, Contains-cases}
 use Rattle.site_meaning.specs.ancestor_search.Deciding.{same_uid}
-use Rattle.site_meaning.specs.evaluator.Operators.{World}
+use Rattle.site_meaning.specs.evaluator.Operators.{Entities}
 use Rattle.site_meaning.specs.evaluator.Outcomes.{EvaluationResult}
 use Rattle.site_meaning.specs.evaluator.Evaluation.{EvaluatesTo}
 use Rattle.sync_messages.specs.typing.Types.{boolean_type}
@@ -41,8 +41,8 @@ use Rattle.site_meaning.specs.entities.declared.fault.EntityFault.{EntityFault}
 use Rattle.sync_messages.specs.Texts.{ReadsPolicy, ReadsEntity, entity_of_text, refused_by}
 use Rattle.site_meaning.specs.StoreMeaning.{AreEntities, IsReadFrom, data_of, data_in}
 use Rattle.sync_messages.specs.validator.Passing.{Passes}
-use Rattle.site_soundness.specs.Answers.{HasPermittedErrors, StoredPoliciesGoRight, StoredAnswersGoRight}
-use Rattle.site_soundness.specs.Worlds.{AreRead, WhatIsStoredGoesRight, entity_kept}
+use Rattle.site_soundness.specs.Answers.{HasPermittedErrors, StoredPoliciesAreSound, StoredAnswersAreSound}
+use Rattle.site_soundness.specs.Worlds.{AreRead, WhatIsStoredIsSound, entity_kept}
 use Rattle.site_soundness.proofs.Values.{bound, is_it, demanded}
 use Rattle.site_soundness.proofs.Stored.{mapped}
 
@@ -140,7 +140,7 @@ all_pass s (t ∷ ts) (q ∷ qs) h p m = elim (Contains-cases q qs p m) [
 abbrev Harmless : ErringPolicy → Type 0
 Harmless e = IsPermittedError (fault_of e.error)
 
-one_errs : (W : World) (q : Request) (p : NamedPolicy) (id : List ℕ) (effect : Effect) (o : Outcome) → PolicyEvaluatesTo W q p.policy o
+one_errs : (W : Entities) (q : Request) (p : NamedPolicy) (id : List ℕ) (effect : Effect) (o : Outcome) → PolicyEvaluatesTo W q p.policy o
     → ((r : EvaluationResult) → EvaluatesTo W q (expression_of p.policy) r → Fits boolean_type r)
     → (e : ErringPolicy) → Contains (if_erring (record { id = id; effect = effect; outcome = o })) e → Harmless e
 one_errs W q p id effect Satisfied is right e m = Contains-none e m
@@ -150,7 +150,7 @@ one_errs W q p id effect (Errs error) is right e m = elim (Contains-cases (recor
   | inr none ↦ Contains-none e none
 ]
 
-erring_are : (W : World) (q : Request) (ps : List NamedPolicy) (js : List PolicyOutcome) → ArePolicyOutcomes W q ps js
+erring_are : (W : Entities) (q : Request) (ps : List NamedPolicy) (js : List PolicyOutcome) → ArePolicyOutcomes W q ps js
     → ((p : NamedPolicy) → Contains ps p → (r : EvaluationResult) → EvaluatesTo W q (expression_of p.policy) r → Fits boolean_type r)
     → (e : ErringPolicy) → Contains (erring js) e → Harmless e
 erring_are W q [] [] is right e m = Contains-none e m
@@ -166,7 +166,7 @@ errors_are permits (f ∷ forbids) es = refl
 errors_are [] [] es = refl
 errors_are (p ∷ permits) [] es = refl
 
-answer_errs : (W : World) (q : Request) (ps : List NamedPolicy) (a : Answer) → IsAnswer W q ps a
+answer_errs : (W : Entities) (q : Request) (ps : List NamedPolicy) (a : Answer) → IsAnswer W q ps a
     → ((p : NamedPolicy) → Contains ps p → (r : EvaluationResult) → EvaluatesTo W q (expression_of p.policy) r → Fits boolean_type r)
     → HasPermittedErrors a
 answer_errs W q ps a (inl denial) right e m =
@@ -177,15 +177,15 @@ answer_errs W q ps a (inr is) right e m =
     (subst (λ (es : List ErringPolicy). Contains es e) (errors_are (satisfied Permit js) (satisfied Forbid js) (erring js))
     (subst (λ (x : Answer). Contains x.errors e) is.answer m))
 
-pub stored_policies_are_sound : MemberOfIsKept → MemberOfGivesAlike → WhatIsStoredGoesRight → TellsContents → StoredPoliciesGoRight
+pub stored_policies_are_sound : MemberOfIsKept → MemberOfGivesAlike → WhatIsStoredIsSound → TellsContents → StoredPoliciesAreSound
 stored_policies_are_sound kept alike right tells bytes schema stated s d q states policies are_policies entities are p at r gives =
     right bytes schema stated (data_in entities) (are_read schema s entities are)
     (uids schema s entities are) (are_listed tells schema s entities are)
     d q states p.policy (all_pass schema (policies_of s) policies are_policies p at) r
     ((alike bytes schema stated (data_in entities) q (expression_of p.policy) r).0
-    (subst (λ (W : World). EvaluatesTo W q (expression_of p.policy) r) (kept bytes schema stated (data_in entities)) gives))
+    (subst (λ (W : Entities). EvaluatesTo W q (expression_of p.policy) r) (kept bytes schema stated (data_in entities)) gives))
 
-pub stored_answers_are_sound : MemberOfIsKept → MemberOfGivesAlike → WhatIsStoredGoesRight → TellsContents → StoredAnswersGoRight
+pub stored_answers_are_sound : MemberOfIsKept → MemberOfGivesAlike → WhatIsStoredIsSound → TellsContents → StoredAnswersAreSound
 stored_answers_are_sound kept alike right tells bytes schema stated s d q states a is =
     answer_errs _ q is.policies a is.is_answer (λ p at r gives.
     (stored_policies_are_sound kept alike right tells bytes schema stated s d q states is.policies is.are_policies is.entities is.are_entities p at r gives).0)

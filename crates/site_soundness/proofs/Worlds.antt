@@ -30,7 +30,7 @@ use Rattle.site_meaning.specs.entity_data.declared.data.EntityData.{EntityData}
 use Rattle.site_meaning.specs.entity_data.Entities.{EntityMap, action_or}
 use Rattle.site_meaning.specs.entity_data.Entities as store
 use Rattle.site_meaning.specs.entity_hierarchy.Laws.{closed_world}
-use Rattle.site_meaning.specs.evaluator.Operators.{World}
+use Rattle.site_meaning.specs.evaluator.Operators.{Entities}
 use Rattle.sync_messages.specs.typing.Types.{no_field_types, record_type}
 use Rattle.sync_messages.specs.typing.Membership.{Of, of_record, absent}
 use Rattle.sync_messages.specs.typing.Laws.{ParentsTellAncestors}
@@ -117,7 +117,7 @@ no_such false h = refl
 
 module _ (told_types : ActionTypeTestIsExact) (sets : SetsHoldTheirMembers) (typed : EntitiesAreOfTheirTypes) (tells : ParentsTellAncestors)
     (s : StatedSchema) (wf : IsWellFormed s) (entities : EntityMap) (are_read : AreRead s entities) where
-  abbrev W : World
+  abbrev W : Entities
   W = closed_world s entities
 
   action_is : (u : EntityUid) (us : List EntityUid) → s.ancestors u ≡ Some us → is_action_type u.type_name ≡ true

@@ -30,8 +30,8 @@ HasPermittedErrors a = (e : ErringPolicy) → Contains a.errors e → IsPermitte
 
 -- Over a store whose texts were each read under a schema that bytes state, and a request that the schema allows, each
 -- policy gives a boolean, or one of these two errors; if it is impossible, it is never true.
-abbrev pub StoredPoliciesGoRight : Type 0
-StoredPoliciesGoRight = (bytes : List ℕ) (schema : StatedSchema) → IsSchemaOf bytes schema → (s : Store)
+abbrev pub StoredPoliciesAreSound : Type 0
+StoredPoliciesAreSound = (bytes : List ℕ) (schema : StatedSchema) → IsSchemaOf bytes schema → (s : Store)
     → (d : Data) (q : Request) → StatesRequest schema d q
     → (policies : List NamedPolicy) → ArePolicies (λ _. ReadsPolicy schema) s policies
     → (entities : EntityUid → Option Entity) → AreEntities (ReadsEntity schema) s entities
@@ -40,7 +40,7 @@ StoredPoliciesGoRight = (bytes : List ℕ) (schema : StatedSchema) → IsSchemaO
     → Fits boolean_type r × (IsImpossible schema p.policy → r ≢ Ok (boolean true))
 
 -- So an answer over such a store has no other error.
-abbrev pub StoredAnswersGoRight : Type 0
-StoredAnswersGoRight = (bytes : List ℕ) (schema : StatedSchema) → IsSchemaOf bytes schema → (s : Store)
+abbrev pub StoredAnswersAreSound : Type 0
+StoredAnswersAreSound = (bytes : List ℕ) (schema : StatedSchema) → IsSchemaOf bytes schema → (s : Store)
     → (d : Data) (q : Request) → StatesRequest schema d q → (a : Answer)
     → IsAnswerOver (λ _. ReadsPolicy schema) (ReadsEntity schema) schema s q a → HasPermittedErrors a

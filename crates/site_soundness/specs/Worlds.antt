@@ -42,8 +42,8 @@ WhatIsReadConforms = (bytes : List ℕ) (s : StatedSchema) → IsSchemaOf bytes 
 
 -- So over finitely many such entities, a policy that passes gives a boolean, `EntityDoesNotExist` or
 -- `ArithBoundsError`; if it is impossible, it is never true.
-abbrev pub WhatIsStoredGoesRight : Type 0
-WhatIsStoredGoesRight = (bytes : List ℕ) (s : StatedSchema) → IsSchemaOf bytes s → (entities : EntityMap)
+abbrev pub WhatIsStoredIsSound : Type 0
+WhatIsStoredIsSound = (bytes : List ℕ) (s : StatedSchema) → IsSchemaOf bytes s → (entities : EntityMap)
     → AreRead s entities → (us : List EntityUid) → AreListed entities us → (d : Data) (q : Request)
     → StatesRequest s d q → (policy : Policy) → Passes s policy → (r : EvaluationResult)
     → EvaluatesTo (closed_world s entities) q (expression_of policy) r

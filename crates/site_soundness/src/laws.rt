@@ -1,8 +1,8 @@
 //! Theorems about the definitions; their functions do nothing.
 ghost use Rattle.site_soundness.specs.Laws.{ValuesAreOfTheirTypes, RecordsAreOfTheirTypes};
 ghost use Rattle.site_soundness.specs.Laws.{EntitiesAreOfTheirTypes, RequestsAreOfAnEnvironment};
-ghost use Rattle.site_soundness.specs.Worlds.{WhatIsReadConforms, WhatIsStoredGoesRight};
-ghost use Rattle.site_soundness.specs.Answers.{StoredPoliciesGoRight, StoredAnswersGoRight};
+ghost use Rattle.site_soundness.specs.Worlds.{WhatIsReadConforms, WhatIsStoredIsSound};
+ghost use Rattle.site_soundness.specs.Answers.{StoredPoliciesAreSound, StoredAnswersAreSound};
 
 use site_meaning::{
     actions_may_be_closed, contents_are_told, paths_are_decided, stated_schemas_are_well_formed,
@@ -39,8 +39,8 @@ pub fn what_is_read_conforms()
 /// Proves that validation is sound over what is stored: if each stored entity and the request were read under the
 /// schema, a policy that passes gives a boolean, `EntityDoesNotExist` or `ArithBoundsError`; if it is impossible, it
 /// is never true. No-op.
-pub fn what_is_stored_goes_right()
-    ensures { WhatIsStoredGoesRight }
+pub fn what_is_stored_is_sound()
+    ensures { WhatIsStoredIsSound }
 {
     stated_schemas_are_well_formed();
     what_is_read_conforms();
@@ -54,10 +54,10 @@ pub fn what_is_stored_goes_right()
 /// `ArithBoundsError`, and an impossible one is never true. So no answer over the store reports an error of type, of
 /// an attribute or of an extension function. No-op.
 pub fn stored_answers_are_sound()
-    ensures policies { StoredPoliciesGoRight }
-    ensures answers { StoredAnswersGoRight }
+    ensures policies { StoredPoliciesAreSound }
+    ensures answers { StoredAnswersAreSound }
 {
     actions_may_be_closed();
-    what_is_stored_goes_right();
+    what_is_stored_is_sound();
     contents_are_told();
 }

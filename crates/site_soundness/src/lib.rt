@@ -9,7 +9,7 @@ mod laws;
 
 pub use laws::{
     stored_answers_are_sound, what_is_read_conforms, what_is_read_is_of_its_type,
-    what_is_stored_goes_right,
+    what_is_stored_is_sound,
 };
 pub use sync_messages::{
     MessageFault, SchemaTexts, Summary, TypeFault, Update, canonical_texts_are_read, check,

@@ -28,7 +28,7 @@ use Rattle.site_soundness.specs.type_checker.FromSchemas.{typing_environment_of}
 use Rattle.site_soundness.specs.typing.Types
 use Rattle.site_soundness.specs.typing.Types.{StaticType, boolean_type, true_type}
 use Rattle.site_soundness.specs.typing.Environment.{Environment, attribute_may_be_missing}
-use Rattle.site_soundness.specs.typing.Learned.{Pair, Pairs}
+use Rattle.site_soundness.specs.typing.Learned.{Capability, Pairs}
 use Rattle.site_soundness.specs.typing.Literals.{IsUnsettled}
 use Rattle.site_soundness.specs.typing.Literals
 use Rattle.site_soundness.specs.typing.Rows
@@ -126,7 +126,7 @@ action_typed =
 unsettled : (a b : Expr) → IsUnsettled env binary.Less a b
 unsettled a b r s = elim s [ ]
 
-nothing_known : (p : Pair) → Decides false (Contains [] p)
+nothing_known : (p : Capability) → Decides false (Contains [] p)
 nothing_known p = ((λ e. absurd (false≢true e)), (λ c. Contains-none p c))
 
 age_known : Decides true (Contains (age_of_principal ∷ []) age_of_principal)

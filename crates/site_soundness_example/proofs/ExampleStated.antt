@@ -18,9 +18,9 @@ use Rattle.site_soundness.specs.schema_types.WrittenOut.{WrittenOut, FieldsWritt
 use Rattle.site_soundness.specs.schema_types.Names.{found, as_declared, any_named, entity_named, common_named}
 use Rattle.site_soundness.specs.schema_types.Names.{qualified_of, fields_of, built_in}
 use Rattle.json_words.specs.Each.{each}
-use Rattle.site_soundness.specs.schema_file.Stated.{NamespaceOf, EntityTypeOf, ActionOf, UseOf}
+use Rattle.site_soundness.specs.schema_file.FileForm.{NamespaceOf, EntityTypeOf, ActionOf, UseOf}
 use Rattle.site_soundness.specs.schema.declared.parts.Place.{Place}
-use Rattle.site_soundness.specs.schema_names.Qualifying.{scope_in, FoundEntityType, FoundUse, FoundAction, FoundSchema}
+use Rattle.site_soundness.specs.schema_names.Qualifying.{scope_in, ResolvedEntityType, ResolvedUse, ResolvedAction, ResolvedSchema}
 use Rattle.site_soundness.specs.schema_names.Qualifying.{qualified, qualified_namespaces, qualified_namespace}
 use Rattle.site_soundness.specs.schema_names.Qualifying.{qualified_commons, qualified_entity_types, qualified_actions}
 use Rattle.site_soundness.specs.schema_names.Qualifying.{qualified_action, qualified_use, qualified_entity_type}
@@ -43,16 +43,16 @@ use Rattle.site_soundness_example.proofs.ExampleText.{schema_json, namespaces, j
 abbrev the_shape : Qualified
 the_shape = qualified.record_of (qualified.field (codes "age") qualified.long false qualified.no_fields)
 
-abbrev the_type : FoundEntityType
+abbrev the_type : ResolvedEntityType
 the_type = record { name = user; parents = []; shape = Some the_shape }
 
-abbrev the_use : FoundUse
+abbrev the_use : ResolvedUse
 the_use = record { principals = user ∷ []; resources = user ∷ []; context = None }
 
-abbrev the_action : FoundAction
+abbrev the_action : ResolvedAction
 the_action = record { uid = view; parents = []; applies_to = Some the_use }
 
-abbrev named : FoundSchema
+abbrev named : ResolvedSchema
 named = record { commons = []; entity_types = the_type ∷ []; actions = the_action ∷ [] }
 
 names_found : qualified namespaces ≡ Ok named
@@ -138,10 +138,10 @@ small (inl h) = omega arith
 small (inr h) = omega arith
 
 is_the_shape : (r : Qualified) → IsShapeOrContext named r → r ≡ the_shape
-is_the_shape r (inl (e, c, at)) = sym (some_same (subst (λ (x : FoundEntityType). x.shape ≡ Some r) (sym (only c)) at))
+is_the_shape r (inl (e, c, at)) = sym (some_same (subst (λ (x : ResolvedEntityType). x.shape ≡ Some r) (sym (only c)) at))
 is_the_shape r (inr (a, c, used_by)) =
-    let used : the_use ≡ used_by.0 = some_same (subst (λ (x : FoundAction). x.applies_to ≡ Some used_by.0) (sym (only c)) used_by.1) in
-    some_none (subst (λ (x : FoundUse). x.context ≡ Some r) (sym used) used_by.2)
+    let used : the_use ≡ used_by.0 = some_same (subst (λ (x : ResolvedAction). x.applies_to ≡ Some used_by.0) (sym (only c)) used_by.1) in
+    some_none (subst (λ (x : ResolvedUse). x.context ≡ Some r) (sym used) used_by.2)
 
 is_written : (r : Qualified) → StandsIn named r → IsWritten [] r
 is_written r (StandsIn.common q s d) = absurd d
@@ -162,7 +162,7 @@ is_view : (u : EntityUid) → view ≡ u → IsAction named u
 is_view u e = (the_action, Contains-here the_action [], e)
 
 action_is : (u : EntityUid) → IsAction named u → view ≡ u
-action_is u (a, c, e) = ap (λ (x : FoundAction). x.uid) (only c) ∙ e
+action_is u (a, c, e) = ap (λ (x : ResolvedAction). x.uid) (only c) ∙ e
 
 none_ascend : IsAscending []
 unfolding IsStrictlySortedBy
@@ -200,18 +200,18 @@ one_place_ascends = (tt, tt)
 viewing_is : IsEnvironment named viewing
 viewing_is = (the_use, record { action = the_action; declared = Contains-here the_action []; is = refl; applies = refl; principal = Contains-here user []; resource = Contains-here user [] }, refl)
 
-place_is : (p : Place) (u : FoundUse) → Applies named p u → viewing.place ≡ p
+place_is : (p : Place) (u : ResolvedUse) → Applies named p u → viewing.place ≡ p
 place_is p u h =
-    let used : the_use ≡ u = some_same (subst (λ (x : FoundAction). x.applies_to ≡ Some u) (sym (only h.declared)) h.applies) in
+    let used : the_use ≡ u = some_same (subst (λ (x : ResolvedAction). x.applies_to ≡ Some u) (sym (only h.declared)) h.applies) in
     let action : view ≡ p.action = action_is p.action (h.action, h.declared, h.is) in
-    let principal : user ≡ p.principal = only (subst (λ (x : FoundUse). Contains x.principals p.principal) (sym used) h.principal) in
-    let resource : user ≡ p.resource = only (subst (λ (x : FoundUse). Contains x.resources p.resource) (sym used) h.resource) in
+    let principal : user ≡ p.principal = only (subst (λ (x : ResolvedUse). Contains x.principals p.principal) (sym used) h.principal) in
+    let resource : user ≡ p.resource = only (subst (λ (x : ResolvedUse). Contains x.resources p.resource) (sym used) h.resource) in
     ap (λ (a : EntityUid). place_of a user user) action ∙ ap (λ (n : List ℕ). place_of p.action n user) principal ∙ ap (λ (n : List ℕ). place_of p.action p.principal n) resource
 
 pub answers : Answers named schema
 answers = record {
   shapes = λ n t h. shape_there n (bytes_eq n user) refl t h;
-  all_shapes = λ e c. subst (λ (x : FoundEntityType). IsSome (schema.shape x.name)) (only c) refl;
+  all_shapes = λ e c. subst (λ (x : ResolvedEntityType). IsSome (schema.shape x.name)) (only c) refl;
   actions = λ u. ((λ c. is_view u (only c)), (λ a. subst (λ (x : EntityUid). Contains (view ∷ []) x) (action_is u a) (Contains-here view [])));
   actions_ascend = one_ascends;
   member_of = λ u us h. member_of_there u us (is_same view u) refl h;

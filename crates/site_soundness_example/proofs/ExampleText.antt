@@ -13,10 +13,10 @@ use Rattle.serde_json.specs.Data.{Data, boolean, string, array, object, item, no
 use Rattle.json_words.specs.Json.{json_of}
 use Rattle.site_soundness.specs.schema_types.Raw as raw
 use Rattle.site_soundness.specs.schema_types.TypeShape.{type_name, type_of, formed, fields_in}
-use Rattle.site_soundness.specs.schema_file.Stated.{NamespaceOf, stated, namespaces_of, namespace_of, namespace_name}
-use Rattle.site_soundness.specs.schema_file.Stated.{commons_of, entity_types_of, actions_of, action_of, use_of}
-use Rattle.site_soundness.specs.schema_file.Stated.{parents_of, parent_of, entity_type_of, common_of, ident, name_of}
-use Rattle.site_soundness.specs.schema_file.Stated.{names_of}
+use Rattle.site_soundness.specs.schema_file.FileForm.{NamespaceOf, stated, namespaces_of, namespace_of, namespace_name}
+use Rattle.site_soundness.specs.schema_file.FileForm.{commons_of, entity_types_of, actions_of, action_of, use_of}
+use Rattle.site_soundness.specs.schema_file.FileForm.{parents_of, parent_of, entity_type_of, common_of, ident, name_of}
+use Rattle.site_soundness.specs.schema_file.FileForm.{names_of}
 use Rattle.json_words.specs.Each.{each, each_member}
 use Rattle.site_soundness.specs.schema_types.Forms.{form_named}
 use Rattle.site_soundness_example.specs.Example.{schema_text}

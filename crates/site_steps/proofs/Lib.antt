@@ -9,6 +9,6 @@ pub mod OneStored
 pub mod OneAnswered
 pub mod OneOutcome
 pub mod SomeOutcome
-pub mod RightRuns
+pub mod PermittedRuns
 -- Lemmas of lower crates, re-exported.
 pub use Rattle.site_store.proofs.of_stamped_store

@@ -6,7 +6,7 @@ pub mod inner
 pub mod Inputs
 pub mod Runs
 pub mod Outcomes
-pub mod Right
+pub mod Permitted
 -- Specifications of lower crates, re-exported.
 pub use Rattle.site_store.specs.ancestor_search
 pub use Rattle.site_store.specs.authoriser

@@ -14,7 +14,7 @@ ghost use Rattle.site_steps.specs.SiteViews.{schema_of, store_in, IsSameSite};
 ghost use Rattle.site_steps.specs.Steps.{PutsEntity, Answers};
 ghost use Rattle.site_steps.specs.Inputs.{input_of};
 ghost use Rattle.site_steps.specs.Runs.{IsNoMessageOf, TakesMessage, Finds, Writes, WritesDelta};
-ghost use Rattle.site_steps.specs.Right.{AreHarmlessReplies};
+ghost use Rattle.site_steps.specs.Permitted.{AreHarmlessReplies};
 ghost use Rattle.site_steps.specs.Runs.{Step, Run, took};
 
 use crate::fault::SiteFault;

@@ -10,7 +10,7 @@ ghost use Rattle.site_store.specs.site_meaning.StoreMeaning.{IsAnswerOver};
 ghost use Rattle.site_soundness.specs.message_format.Messages.{state_text};
 ghost use Rattle.site_steps.specs.Admitted.{IsPolicyUnder, IsEntityUnder};
 ghost use Rattle.site_steps.specs.Outcomes.{InputsHaveAnOutcome, InputsHaveOneOutcome};
-ghost use Rattle.site_steps.specs.Right.{RunsGoRight};
+ghost use Rattle.site_steps.specs.Permitted.{RunsAreSound};
 ghost use Rattle.site_steps.specs.Runs.{HoldsAfter};
 
 use site_soundness::{
@@ -75,7 +75,7 @@ pub fn inputs_have_one_outcome()
 ///
 /// Replies to HTTP requests are of such runs, each of one step (`http_service::served_answers_are_sound`). No-op.
 pub fn runs_are_sound()
-    ensures { RunsGoRight }
+    ensures { RunsAreSound }
 {
     stored_answers_are_sound();
 }

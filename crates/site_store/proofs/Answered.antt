@@ -6,7 +6,7 @@ use Rattle.values.specs.declared.request.Request.{Request}
 use Rattle.ancestor_closure.specs.ancestor_search.Decided.{Decides}
 use Rattle.ancestor_closure.specs.ancestor_search.Hierarchy.{Parents}
 use Rattle.scope_index.specs.policy_grammar.declared.policy.Policy.{Policy}
-use Rattle.site_meaning.specs.evaluator.Operators.{World}
+use Rattle.site_meaning.specs.evaluator.Operators.{Entities}
 use Rattle.site_meaning.specs.authoriser.declared.answer.Answer.{Answer}
 use Rattle.site_meaning.specs.authoriser.Answers.{NamedPolicy, IsAnswer}
 use Rattle.site_meaning.specs.entity_data.declared.entity.Entity.{Entity}
@@ -21,7 +21,7 @@ all_are_candidates parents q ps qs same =
     subst (λ (xs : List NamedPolicy). AreCandidates parents q ps xs) (sym same)
     (record { among = λ p has. has; all = λ p has applies. has })
 
-pub over_candidates : {E : Type 0} (result : Result Answer E) (W : World) (above : EntityUid → EntityUid → Bool) → Decides W.parents above
+pub over_candidates : {E : Type 0} (result : Result Answer E) (W : Entities) (above : EntityUid → EntityUid → Bool) → Decides W.parents above
     → CandidatesSuffice → (q : Request) (k : StoreEntries Policy Entity) (ps : List NamedPolicy)
     → updates (abstract_store k) ≡ abstract_updates k → AreCandidates W.parents q (policies_read k.policies) ps → Ascend ps
     → IfOk result (IsAnswer W q ps) → IfOk result (IsAnswer W q (policies_read k.policies))

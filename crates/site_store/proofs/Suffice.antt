@@ -4,7 +4,7 @@ use Rattle.std.specs.Prelude.{Ok, Err}
 use Rattle.values.specs.declared.request.Request.{Request}
 use Rattle.values.specs.Values.{boolean}
 use Rattle.scope_index.specs.policy_grammar.Whole.{expression_of}
-use Rattle.site_meaning.specs.evaluator.Operators.{World}
+use Rattle.site_meaning.specs.evaluator.Operators.{Entities}
 use Rattle.site_meaning.specs.evaluator.Evaluation.{EvaluatesTo}
 use Rattle.site_meaning.specs.evaluator.Laws.{HaveOneOutcome, HasOneOutcome}
 use Rattle.scope_index.specs.Scopes.{IsScopeTrue}
@@ -14,7 +14,7 @@ use Rattle.site_meaning.specs.authoriser.Parts.{OtherScopesGiveFalse}
 use Rattle.site_store.specs.Candidates.{CandidatesSuffice}
 use Rattle.site_store.proofs.Skipping.{skipping}
 
-idle_of : (W : World) (q : Request) (p : NamedPolicy) → HasOneOutcome W q (expression_of p.policy)
+idle_of : (W : Entities) (q : Request) (p : NamedPolicy) → HasOneOutcome W q (expression_of p.policy)
     → EvaluatesTo W q (expression_of p.policy) (Ok (boolean false)) → IsIdle W q p
 idle_of W q p one given = record {
   satisfied = λ s. let both : Ok (boolean true) ≡ Ok (boolean false) = one.2 (Ok (boolean true)) s ∙ sym (one.2 (Ok (boolean false)) given) in absurd (cc (both));

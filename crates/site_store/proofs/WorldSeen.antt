@@ -9,7 +9,7 @@ use Rattle.ancestor_closure.specs.ancestor_search.Decided.{Decides, reaches}
 use Rattle.ancestor_closure.specs.ancestor_search.Hierarchy.{Parents}
 use Rattle.ancestor_closure.specs.declared.keeping.AncestorCache.{AncestorCache}
 use Rattle.ancestor_closure.specs.Kept.{IsCacheOf}
-use Rattle.site_meaning.specs.evaluator.Operators.{World, world_of}
+use Rattle.site_meaning.specs.evaluator.Operators.{Entities, world_of}
 use Rattle.site_meaning.specs.schema.SchemaEntries.{SchemaEntries}
 use Rattle.site_meaning.specs.schema.Views.{schema_view}
 use Rattle.site_meaning.specs.entity_data.declared.entity.Entity.{Entity}
@@ -35,7 +35,7 @@ asked w = entities_under w.1 (data_in (entity_at w.0.store.now.entities))
 abbrev pub edges_seen : Seen → Parents
 edges_seen w u = kept_parents (asked w u)
 
-abbrev pub world_seen : Seen → World
+abbrev pub world_seen : Seen → Entities
 world_seen w = world_of (λ u. attributes_of (asked w u)) (edges_seen w)
 
 module _ (w : Seen) (s : StoredEntities) (schema : SchemaEntries) (k : StoreEntries Policy Entity)
@@ -71,7 +71,7 @@ module _ {schema : SchemaEntries} {k : StoreEntries Policy Entity} {index : Opti
       ∙ ap (λ (x : SchemaEntries). world_under (schema_view x) (entity_at k.entities)) is.schema_is ∙ ap world_stored view_is
 
   pub edges_searched : edges_seen w ≡ (world_stored s).parents
-  edges_searched = ap (λ (W : World). W.parents) world_searched
+  edges_searched = ap (λ (W : Entities). W.parents) world_searched
 
   -- and the cache has its ancestors
   pub ancestors_kept : (held : AncestorCache) → ancestors ≡ Some held → IsCacheOf (world_stored s).parents held

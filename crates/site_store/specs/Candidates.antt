@@ -7,7 +7,7 @@ use Rattle.values.specs.declared.request.Request.{Request}
 use Rattle.ancestor_closure.specs.ancestor_search.Hierarchy.{Parents}
 use Rattle.ancestor_closure.specs.ancestor_search.Decided.{Decides}
 use Rattle.scope_index.specs.Scopes.{IsScopeTrue}
-use Rattle.site_meaning.specs.evaluator.Operators.{World}
+use Rattle.site_meaning.specs.evaluator.Operators.{Entities}
 use Rattle.site_meaning.specs.authoriser.declared.answer.Answer.{Answer}
 use Rattle.site_meaning.specs.authoriser.Answers.{NamedPolicy, IsAnswer}
 use Rattle.site_meaning.specs.authoriser.Laws.{AreIdsAscending}
@@ -24,6 +24,6 @@ Ascend ps = AreIdsAscending (map (λ p. p.id) ps)
 
 -- The answers over candidates are those over all policies, if the ids of both ascend.
 abbrev pub CandidatesSuffice : Type 0
-CandidatesSuffice = (W : World) (above : EntityUid → EntityUid → Bool) → Decides W.parents above →
+CandidatesSuffice = (W : Entities) (above : EntityUid → EntityUid → Bool) → Decides W.parents above →
     (q : Request) (ps qs : List NamedPolicy) (a : Answer) → Ascend ps → Ascend qs → AreCandidates W.parents q ps qs
     → IsAnswer W q ps a ↔ IsAnswer W q qs a

@@ -3,7 +3,7 @@ use Rattle.std.specs.Option.{IfSome}
 use Rattle.std.specs.Prelude.{Option}
 use Rattle.scope_index.specs.policy_grammar.declared.policy.Policy.{Policy}
 use Rattle.ancestor_closure.specs.declared.keeping.AncestorCache.{AncestorCache}
-use Rattle.site_meaning.specs.evaluator.Operators.{World}
+use Rattle.site_meaning.specs.evaluator.Operators.{Entities}
 use Rattle.site_meaning.specs.schema.SchemaEntries as kept_schema
 use Rattle.site_meaning.specs.schema.Schemas.{StatedSchema}
 use Rattle.site_meaning.specs.schema.Views.{schema_view}
@@ -21,7 +21,7 @@ pub record StoreView : Type 0 where
   pub kept : StoreEntries Policy Entity
 
 -- `world_stored s` is the entity data of evaluation: the parsed entities of `s`, and the actions of its schema.
-abbrev pub world_stored : StoreView → World
+abbrev pub world_stored : StoreView → Entities
 world_stored s = world_under (schema_view s.schema) (entity_at s.kept.entities)
 
 -- `AreBeside schema k index ancestors` holds if `index`, if present, has exactly the policies of the store `k`, each

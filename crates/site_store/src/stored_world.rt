@@ -13,7 +13,7 @@ ghost use Rattle.site_store.specs.StoreViews.{world_stored};
 use ancestor_closure::{AncestorCache, Ancestry, would_cycle};
 use plain::NoMemory;
 use scope_index::{Policy, ScopeIndex};
-use site_meaning::{Entity, Lookup, Schema, StoredEntities, World};
+use site_meaning::{Entities, Entity, Lookup, Schema, StoredEntities};
 use stamped_store::StampedStore;
 use std::alloc::Global;
 use std::marker::Model;
@@ -31,7 +31,7 @@ pub(crate) struct StoredWorld<'a, 's> {
     pub(crate) index: &'a Option<ScopeIndex>,
     pub(crate) ancestors: &'a Option<AncestorCache>,
     /// The entities of the store and the actions of the schema, to be searched.
-    pub(crate) searched: World<'a, StoredEntities<'s>>,
+    pub(crate) searched: Entities<'a, StoredEntities<'s>>,
 }
 
 impl<'a, 's> Model for StoredWorld<'a, 's> {

@@ -9,7 +9,7 @@ use Rattle.grammar_trees.specs.grammar_tokens.Kinds.{only}
 use Rattle.grammar_trees.specs.grammar_tokens.Lang.{Lang, many}
 use Rattle.grammar_trees.specs.grammar_tokens.Lang as lang
 use Rattle.grammar_trees.specs.grammar_tokens.Grammar as names
-use Rattle.grammar_trees.specs.declared.tree.Entry.{Entry}
+use Rattle.grammar_trees.specs.declared.tree.RecordEntry.{RecordEntry}
 use Rattle.grammar_trees.specs.declared.tree.ExprTree.{ExprTree}
 use Rattle.grammar_trees.specs.declared.tree.ExprTree.TheVariants as t
 use Rattle.grammar_core.specs.declared.expr.Expr.{Expr}
@@ -140,7 +140,7 @@ module _ {A : Type 0} (item : Lang A) (count : A → ℕ)
       (nothing_shows [] AllPlaced (λ i x e. absurd (none_some e)))
 
 -- an entry: two tokens, and its value
-pub record Keyed (ts : List Token) (x : Entry ExprTree) : Type 0 where
+pub record Keyed (ts : List Token) (x : RecordEntry ExprTree) : Type 0 where
   pub key : Token
   pub colon : Token
   pub rest : List Token
@@ -241,19 +241,19 @@ module _ (text : List ℕ) (levels : ℕ) where
         derives = any_inner levels vs x m;
       })))
 
-  entry_fits : (ts : List Token) (x : Entry ExprTree) → g.entry (is_positive levels) (expr levels) ts x
+  entry_fits : (ts : List Token) (x : RecordEntry ExprTree) → g.entry (is_positive levels) (expr levels) ts x
       → length ts ≡ entry_count x
   entry_fits ts x d =
       let e = entry_keyed ts x d in
       let n = any_count e.rest x.value e.derives in ap length e.written ∙ omega arith
 
-  values_of : (entries : List (Entry ExprTree))
+  values_of : (entries : List (RecordEntry ExprTree))
       → map (λ (f : Named Expr). f.value) (map (field text) (map (in_entry (core_of text)) entries))
       ≡ map (λ x. core_of text x.value) entries
   values_of [] = refl
   values_of (x ∷ entries) = ap (λ ys. core_of text x.value ∷ ys) (values_of entries)
 
-  entry_next : (f : Form) (i : ℕ) (xs : List (Entry ExprTree)) (us front rest : List Token)
+  entry_next : (f : Form) (i : ℕ) (xs : List (RecordEntry ExprTree)) (us front rest : List Token)
       → front ≡ us ++ rest → Ends front f.tokens → operand f i ≡ entry_at xs front i
       → g.entries (is_positive levels) (expr levels) us xs
       → (y : Expr) → slice_get (map (λ x. core_of text x.value) xs) i ≡ Some y → Next text f i y
@@ -276,7 +276,7 @@ module _ (text : List ℕ) (levels : ℕ) where
       value keyed.derives
       (ends_later 2 _ _ f.tokens refl (ends_later (each_count (map entry_count (take i xs))) _ _ f.tokens refl ends)))
 
-  pub record_shown : (opening closing : Token) (us : List Token) (entries : List (Entry ExprTree))
+  pub record_shown : (opening closing : Token) (us : List Token) (entries : List (RecordEntry ExprTree))
       → g.entries (is_positive levels) (expr levels) us entries
       → Shown text (opening ∷ (us ++ closing ∷ [])) (t.Record entries)
   record_shown opening closing us entries d =

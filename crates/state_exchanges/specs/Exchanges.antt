@@ -1,5 +1,5 @@
--- One request and its reply over a reader and a writer, or why there is no reply of status 200.
--- Sources: RFC 9112, sections 3, 4 and 6; RFC 9110, section 15.3.1.
+-- Defines one request and its reply over a reader and a writer, or why there is no reply of status 200.
+-- Source: RFC 9112, sections 3, 4 and 6; RFC 9110, section 15.3.1.
 use Rattle.std.specs.Prelude.{◌≡◌, ◌≢◌, ◌↔◌, ◌<◌, ℕ, List, ◌++◌, Option, IsFalse, IsTrue}
 use Rattle.std.specs.Io.KnownBytes.{Appends, Consumes, IsAtEnd}
 use Rattle.http_streams.specs.http_devices.Devices.{FailsAtLast}
@@ -10,21 +10,22 @@ use Rattle.http_streams.specs.Reads.{EndsByOneRead}
 use Rattle.state_exchanges.specs.declared.fault.NetworkFault.{NetworkFault}
 use Rattle.state_exchanges.specs.declared.fault.NetworkFault.TheVariants as network
 
--- the fault tells that the host is none exactly where it is none
+-- `TellsOfHost host fault` holds if `fault` is `NoHost` exactly if `host` is not a host.
 abbrev pub TellsOfHost : List ℕ → NetworkFault → Type 0
 TellsOfHost host fault = (fault ≡ network.NoHost) ↔ IsFalse (is_host host)
 
--- the fault tells that a body of this length is longer than a site takes exactly where it is, and the host is one
+-- `TellsOfSize host size fault` holds if `fault` is `TooLarge` exactly if `host` is a host and a body of `size` bytes
+-- is longer than a site accepts.
 abbrev pub TellsOfSize : List ℕ → ℕ → NetworkFault → Type 0
 TellsOfSize host size fault = (fault ≡ network.TooLarge) ↔ (IsTrue (is_host host) × (MAX_BODY < size))
 
 module _ {R W : Type 0} (left : R → Option (List ℕ)) (holds : W → Option (List ℕ)) where
-  -- the request was written, and this was read
+  -- `IsSent request r r2 w w2 bytes` holds if `request` was written and `bytes` were read.
   pub record IsSent (request : List ℕ) (r r2 : R) (w w2 : W) (bytes : List ℕ) : Type 0 where
     pub read : Consumes (left r) (left r2) bytes
     pub written : Appends (holds w) (holds w2) request
 
-  -- a first part of the request was written, or all of it
+  -- `IsRequestBegun request r r2 w w2` holds if a first part of `request`, or all of it, was written.
   pub record IsRequestBegun (request : List ℕ) (r r2 : R) (w w2 : W) : Type 0 where
     pub bytes : List ℕ
     pub front : List ℕ
@@ -35,8 +36,8 @@ module _ {R W : Type 0} (left : R → Option (List ℕ)) (holds : W → Option (
 
 module _ {R W : Type 0} (left : R → Option (List ℕ)) (reads : R → ℕ → List ℕ → R → Type 0)
     (holds : W → Option (List ℕ)) where
-  -- the request was written, and what was read begins with a reply of this status and body; before the last read less
-  -- than a reply had come
+  -- `IsAnswered request r r2 w w2 status body` holds if `request` was written, and what was read begins with a reply of
+  -- this status and body, which was not complete before the last read.
   pub record IsAnswered (request : List ℕ) (r r2 : R) (w w2 : W) (status : ℕ) (body : List ℕ) : Type 0 where
     pub bytes : List ℕ
     pub front : List ℕ
@@ -50,10 +51,13 @@ module _ {R W : Type 0} (left : R → Option (List ℕ)) (reads : R → ℕ → 
 module _ {R W : Type 0} (left : R → Option (List ℕ)) (reads : R → ℕ → List ℕ → R → Type 0) (read_failed : R → ℕ)
     (read_fails : R → R → Type 0) (holds : W → Option (List ℕ)) (write_failed : W → ℕ)
     (write_fails : W → W → Type 0) where
-  -- Why there is no reply of status 200: the host is none, or the body is too long, and nothing was sent; a read
-  -- failed, the last one, and less than a reply had come; a write failed, the last one, and nothing was read; what came
-  -- begins no reply that can be read, which was not known before the last read; the input is at its end, as the last
-  -- read reported; or the reply has another status.
+  -- `IsUnanswered request r r2 w w2 fault` holds if `fault` is why there is no reply of status 200:
+  -- NoHost, TooLarge: nothing was sent.
+  -- Read: the last read failed, before the reply was complete.
+  -- Write: the last write failed, and nothing was read.
+  -- BadReply: what was read is not the beginning of a reply, which the last read showed.
+  -- Ended: the last read reported the end of the input, before the reply was complete.
+  -- OtherStatus: the reply has another status.
   abbrev pub IsUnanswered : List ℕ → R → R → W → W → NetworkFault → Type 0
   IsUnanswered request r r2 w w2 network.NoHost = (r2 ≡ r) × (w2 ≡ w)
   IsUnanswered request r r2 w w2 network.TooLarge = (r2 ≡ r) × (w2 ≡ w)

@@ -1,5 +1,6 @@
--- What the texts of a schema and of two messages come to: the state of the store of the updates of both, or the first
--- refusal. Rules of this product: the schema is judged first, then the first message, then the second.
+-- Defines the merge of two messages under a schema: the state of the join of their updates, or the first error.
+-- Source: docs/formats.md, of states.
+-- Rules of this product: the schema is checked first, then the first message, then the second.
 use Rattle.std.specs.Prelude.{◌≡◌, ◌⊎◌, ℕ, List, ◌++◌}
 use Rattle.schema_decisions.specs.policy_grammar.declared.policy.Policy.{Policy}
 use Rattle.sync_messages.specs.schema.Schemas.{StatedSchema, IsSchemaOf}
@@ -15,7 +16,7 @@ use Rattle.state_exchanges.specs.Messages.{IsMessageRefused, IsReadBack}
 
 -- ---- under a schema
 
--- both are messages, and the store is that of the updates of both
+-- `IsStoreOfBoth s f g m` holds if `f` and `g` are messages of `s`, and `m` is the store of the updates of both.
 pub record IsStoreOfBoth (s : StatedSchema) (f g : List ℕ) (m : Store) : Type 0 where
   pub first : List (SentUpdate Policy Entity)
   pub second : List (SentUpdate Policy Entity)
@@ -23,19 +24,20 @@ pub record IsStoreOfBoth (s : StatedSchema) (f g : List ℕ) (m : Store) : Type 
   pub second_read : IsMessageOf s g second
   pub store_is : m ≡ store_of (plain_updates first ++ plain_updates second)
 
--- the first is a message, the second is none
+-- `IsSecondRefused s f g refusal` holds if `f` is a message of `s`, and `g` is rejected by `refusal`.
 pub record IsSecondRefused (s : StatedSchema) (f g : List ℕ) (refusal : Refusal) : Type 0 where
   pub first : List (SentUpdate Policy Entity)
   pub first_read : IsMessageOf s f first
   pub refused : IsMessageRefused s g refusal
 
--- which of the two is the first that is none, and why
+-- `AreRefusedUnder s f g refusal` holds if `refusal` rejects the first of the two that is not a message of `s`.
 abbrev pub AreRefusedUnder : StatedSchema → List ℕ → List ℕ → Refusal → Type 0
 AreRefusedUnder s f g refusal = IsMessageRefused s f refusal ⊎ IsSecondRefused s f g refusal
 
 -- ---- the three texts
 
--- all are read, and this is the state of the store of the updates of both messages
+-- `IsMerged schema f g text` holds if all three are accepted, and `text` is the state of the store of the updates of
+-- both messages.
 pub record IsMerged (schema f g text : List ℕ) : Type 0 where
   pub stated : StatedSchema
   pub schema_is : IsSchemaOf schema stated
@@ -43,15 +45,16 @@ pub record IsMerged (schema f g text : List ℕ) : Type 0 where
   pub both : IsStoreOfBoth stated f g store
   pub text_is : text ≡ state_text stated.label store
 
--- the state is a message of the schema again, of the updates of the store
+-- `IsMergedBack m` holds if the merged state is parsed again as a message, with the updates of the store.
 abbrev pub IsMergedBack : {schema f g text : List ℕ} → IsMerged schema f g text → Type 0
 IsMergedBack {schema} {f} {g} {text} m = IsReadBack m.stated m.store text
 
--- the messages are the first texts that are refused
+-- `AreNextRefused schema f g refusal` holds if the schema is accepted, and the messages are rejected by `refusal`.
 pub record AreNextRefused (schema f g : List ℕ) (refusal : Refusal) : Type 0 where
   pub stated : StatedSchema
   pub schema_is : IsSchemaOf schema stated
   pub refused : AreRefusedUnder stated f g refusal
 
+-- `AreRefused schema f g refusal` holds if `refusal` rejects the first of the three that is not accepted.
 abbrev pub AreRefused : List ℕ → List ℕ → List ℕ → Refusal → Type 0
 AreRefused schema f g refusal = IsSchemaRefused schema refusal ⊎ AreNextRefused schema f g refusal

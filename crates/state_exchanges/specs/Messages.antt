@@ -1,7 +1,7 @@
--- Messages of a schema and the stores that they are joined into.
--- Rules of this product: a message is a state or a delta; it is refused whole, with its first fault, or all of its
--- updates are taken in their order, those that lose included; a refusal is told by a number, a place and the number of
--- a refusal inside.
+-- Defines messages of a schema and the stores into which they are joined.
+-- Source: docs/formats.md, of states and deltas.
+-- Rules of this product: a message, a state or a delta, is rejected whole, with its first error, or all its updates are
+-- applied in order, including those that lose; an error has a code, a place and the code of an error inside.
 use Rattle.std.specs.Prelude.{◌≡◌, ℕ, List, ◌++◌, length}
 use Rattle.schema_decisions.specs.policy_grammar.declared.policy.Policy.{Policy}
 use Rattle.sync_messages.specs.schema.Schemas.{StatedSchema}
@@ -17,11 +17,11 @@ use Rattle.schema_decisions.specs.answer_lines.declared.refusal.Refusal.{Refusal
 
 -- ---- messages
 
--- the fault of a message as it is told
+-- `message_refusal f` is the error of a message as it is reported.
 abbrev pub message_refusal : MessageFault → Refusal
 message_refusal f = record { code = code_of f; place = place_of f; within = within_of f }
 
--- the bytes are no message of this schema, for this first fault
+-- `IsMessageRefused s bytes refusal` holds if `refusal` is the first error of `bytes` as a message of `s`.
 pub record IsMessageRefused (s : StatedSchema) (bytes : List ℕ) (refusal : Refusal) : Type 0 where
   pub fault : MessageFault
   pub due : IsMessageFaultOf s bytes fault
@@ -29,19 +29,20 @@ pub record IsMessageRefused (s : StatedSchema) (bytes : List ℕ) (refusal : Ref
 
 -- ---- stores
 
--- a message is joined into the store m: t is the store of the updates of both, and so many came
+-- `Joins s m bytes t count` holds if the message `bytes` has `count` updates, and `t` is the store of these and those
+-- of `m`.
 pub record Joins (s : StatedSchema) (m : Store) (bytes : List ℕ) (t : Store) (count : ℕ) : Type 0 where
   pub came : List (SentUpdate Policy Entity)
   pub message : IsMessageOf s bytes came
   pub store_is : t ≡ store_of (updates m ++ plain_updates came)
   pub count_is : count ≡ length came
 
--- each update of the store might stand in a message of the schema
+-- `IsSendable s m` holds if each update of the store `m` may occur in a message of `s`.
 pub record IsSendable (s : StatedSchema) (m : Store) : Type 0 where
   pub in_range : AreInRange (updates m)
   pub valid : AreValid (λ id. ReadsPolicy s) (ReadsEntity s) (updates m)
 
--- the bytes are a message again, of the updates of the store
+-- `IsReadBack s m bytes` holds if `bytes` are a message of `s` with the updates of the store `m`.
 pub record IsReadBack (s : StatedSchema) (m : Store) (bytes : List ℕ) : Type 0 where
   pub read : List (SentUpdate Policy Entity)
   pub message : IsMessageOf s bytes read

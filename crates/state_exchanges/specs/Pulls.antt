@@ -1,6 +1,7 @@
--- What a pull comes to: the state of the store with what another site sent, or a refusal.
--- Rules of this product: the schema is judged first, then the state, both before the network is used, then the message
--- that came; a state is answered only where nothing was refused.
+-- Defines the outcome of a pull: the state with the updates that another site sent, or an error.
+-- Source: docs/operating.md.
+-- Rules of this product: the schema is checked first, then the state, both before the network is used, then the message
+-- received; there is a new state only if none is rejected.
 use Rattle.std.specs.Prelude.{◌≡◌, ◌⊎◌, ℕ, List, Option, Some, None}
 use Rattle.sync_messages.specs.schema.Schemas.{StatedSchema, IsSchemaOf}
 use Rattle.sync_messages.specs.stamped_store.Store.{Store}
@@ -9,25 +10,25 @@ use Rattle.schema_decisions.specs.answer_lines.declared.refusal.Refusal.{Refusal
 use Rattle.schema_decisions.specs.Checks.{IsSchemaRefused}
 use Rattle.state_exchanges.specs.Messages.{IsMessageRefused, IsReadBack, Joins}
 
--- the message was joined into the store, and this is the state of what came of it, which is read back as its updates;
--- so many updates came
+-- `IsPulled s m message state taken` holds if `message` has `taken` updates, and `state` is the state of the store of
+-- these and those of `m`, and is parsed again as its updates.
 pub record IsPulled (s : StatedSchema) (m : Store) (message state : List ℕ) (taken : ℕ) : Type 0 where
   pub store : Store
   pub joins : Joins s m message store taken
   pub state_is : state ≡ state_text s.label store
   pub reads_back : IsReadBack s store state
 
--- a state that is there is no message of the schema
+-- `IsStateRefused s o refusal` holds if a state is given, and `refusal` is its first error as a message of `s`.
 abbrev pub IsStateRefused : StatedSchema → Option (List ℕ) → Refusal → Type 0
 IsStateRefused s None refusal = ⊥
 IsStateRefused s (Some bytes) refusal = IsMessageRefused s bytes refusal
 
--- the state is the first text that is refused
+-- `IsStateNext schema state refusal` holds if the schema is accepted, and the state is rejected by `refusal`.
 pub record IsStateNext (schema : List ℕ) (state : Option (List ℕ)) (refusal : Refusal) : Type 0 where
   pub stated : StatedSchema
   pub schema_is : IsSchemaOf schema stated
   pub refused : IsStateRefused stated state refusal
 
--- the texts are refused before anything is sent
+-- `IsRefusedFirst schema state refusal` holds if `refusal` rejects the first of both that is not accepted.
 abbrev pub IsRefusedFirst : List ℕ → Option (List ℕ) → Refusal → Type 0
 IsRefusedFirst schema state refusal = IsSchemaRefused schema refusal ⊎ IsStateNext schema state refusal

@@ -1,6 +1,6 @@
--- The request by which a site asks another for what is news to it.
--- Sources: RFC 9112, section 3; RFC 9110, sections 7.2, 7.6.1 and 8.6. A rule of this product: the summary of what is
--- there is posted to /v1/delta, and a state that is absent is an empty store.
+-- Defines the requests by which one site asks another for the entries that it lacks, and for a merge.
+-- Source: RFC 9112, section 3; RFC 9110, sections 7.2, 7.6.1 and 8.6.
+-- Rules of this product: the summary of a store is posted to /v1/delta; an absent state is an empty store.
 use Rattle.std.specs.Prelude.{◌≡◌, ℕ, List, [], ◌++◌, Option, Some, None, length, codes, decimal}
 use Rattle.schema_decisions.specs.policy_grammar.declared.policy.Policy.{Policy}
 use Rattle.sync_messages.specs.schema.Schemas.{StatedSchema, IsSchemaOf}
@@ -14,24 +14,24 @@ use Rattle.sync_messages.specs.Messages.{IsMessageOf}
 use Rattle.state_exchanges.specs.declared.asking.Call.{Call}
 use Rattle.state_exchanges.specs.declared.asking.Call.TheVariants as call
 
--- what a state holds: nothing where it is absent, else the updates of the message that it is
+-- `Holds s o m` holds if `m` is the store of the updates of the state `o`, which is empty if absent.
 abbrev pub Holds : StatedSchema → Option (List ℕ) → Store → Type 0
 Holds s None m = m ≡ store_of []
 Holds s (Some bytes) m = (us : List (SentUpdate Policy Entity)) × IsMessageOf s bytes us
     × (m ≡ store_of (plain_updates us))
 
--- this summary, posted to the host
+-- `delta_request host summary` posts `summary` to `host`, to get a delta.
 unfoldable pub delta_request : List ℕ → List ℕ → List ℕ
 delta_request host summary =
     codes "POST /v1/delta HTTP/1.1\r\nHost: " ++ host ++ codes "\r\nContent-Length: " ++ decimal (length summary)
     ++ codes "\r\nConnection: close\r\n\r\n" ++ summary
 
--- `summary_request host` asks `host` for its summary
+-- `summary_request host` asks `host` for its summary.
 unfoldable pub summary_request : List ℕ → List ℕ
 summary_request host =
     codes "GET /v1/summary HTTP/1.1\r\nHost: " ++ host ++ codes "\r\nConnection: close\r\n\r\n"
 
--- `merge_request host message` posts `message` to `host`, to be merged
+-- `merge_request host message` posts `message` to `host`, to be merged.
 unfoldable pub merge_request : List ℕ → List ℕ → List ℕ
 merge_request host message =
     codes "POST /v1/merge HTTP/1.1\r\nHost: " ++ host ++ codes "\r\nContent-Length: " ++ decimal (length message)
@@ -65,15 +65,15 @@ call_request call.Summary host body = summary_request host
 call_request call.Delta host body = delta_request host body
 call_request call.Merge host body = merge_request host body
 
--- the request of whoever has a store under a schema
+-- `request_for host s m` asks `host` for the entries that the store `m` lacks.
 abbrev pub request_for : List ℕ → StatedSchema → Store → List ℕ
 request_for host s m = delta_request host (summary_text s.label (summary_of m))
 
--- the length of its body
+-- `summary_size s m` is the length of its body.
 abbrev pub summary_size : StatedSchema → Store → ℕ
 summary_size s m = length (summary_text s.label (summary_of m))
 
--- the texts of a schema and a state are read, and are these
+-- `IsReady schema state s m` holds if `schema` states `s`, and `state` has the updates of the store `m`.
 pub record IsReady (schema : List ℕ) (state : Option (List ℕ)) (s : StatedSchema) (m : Store) : Type 0 where
   pub schema_is : IsSchemaOf schema s
   pub state_is : Holds s state m

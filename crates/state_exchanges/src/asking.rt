@@ -28,7 +28,7 @@ fn pull_fault(fault: FetchFault) -> PullFault
     }
 }
 
-/// What a site is asked for in an exchange.
+/// A call of an exchange.
 #[derive(Clone, Copy)]
 pub enum Call {
     /// The site's summary: `GET /v1/summary`.
@@ -61,7 +61,7 @@ fn call_path(call: Call) -> &'static [u8]
     }
 }
 
-/// Returns what a call sends of a body.
+/// Returns the body that a call sends.
 fn call_body(call: Call, body: &[u8]) -> Option<&[u8]>
     ensures { result ≡ call_body call body.entry }
 {
@@ -72,7 +72,7 @@ fn call_body(call: Call, body: &[u8]) -> Option<&[u8]>
     }
 }
 
-/// Returns the number of bytes that a call sends of a body.
+/// Returns the length in bytes of the body that a call sends.
 fn call_size(call: Call, body: &[u8]) -> usize
     ensures { result ≡ call_size call body.now }
 {
@@ -85,15 +85,15 @@ fn call_size(call: Call, body: &[u8]) -> usize
 
 /// Makes one call to the site behind a reader and a writer, and returns the body of the reply, which has status 200.
 ///
-/// `host` is what the field `Host` says. `body` is the summary or the message that the call sends; a call for a summary
-/// sends none. After an error a first part of the request was sent, or all of it, or nothing.
+/// `host` is the value of the field `Host`. `body` is the summary or the message that the call sends; a call for a
+/// summary sends none. After an error nothing, a first part of the request, or all of it was sent.
 ///
 /// # Errors
 ///
-/// - `Network(NoHost)` (75): `host` is no host. Nothing was sent.
-/// - `Network(TooLarge)` (77): the body is longer than a site takes, 8,388,608 bytes. Nothing was sent.
+/// - `Network(NoHost)` (75): `host` is not a host. Nothing was sent.
+/// - `Network(TooLarge)` (77): the body is longer than a site accepts, 8,388,608 bytes. Nothing was sent.
 /// - `Refused` with code 1: out of memory, at any point.
-/// - `Network`: no reply of status 200 came (70 to 74).
+/// - `Network` (70 to 74): there is no reply of status 200.
 pub fn ask<R: Source, W: Sink>(
     alloc: Global,
     call: Call,

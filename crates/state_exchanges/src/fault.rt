@@ -1,4 +1,4 @@
-//! Why nothing is pulled.
+//! Errors of pulls.
 ghost use Rattle.std.specs.Prelude.{◌≡◌};
 ghost use Rattle.schema_decisions.specs.answer_lines.Refusals.{no_memory};
 ghost use Rattle.state_exchanges.specs.declared.fault.PullFault.TheVariants as pull;
@@ -16,30 +16,30 @@ pub enum NetworkFault {
     /// The writer failed (71).
     #[error("network 71: writing failed")]
     Write,
-    /// What came begins no reply of one length within the limits (72).
+    /// The bytes read are not the beginning of a reply with one length within the limits (72).
     #[error("network 72: no HTTP reply of one length within the limits")]
     BadReply,
     /// The input ended before the reply did (73).
     #[error("network 73: connection closed before the end of the reply")]
     Ended,
-    /// The reply has this status, which is not 200. Its body is not looked at.
+    /// The reply has this status, which is not 200. Its body is ignored.
     #[error("network 74: reply with status {0}")]
     OtherStatus(u16),
-    /// The address has a byte that no field `Host` may have (75). Nothing was sent.
+    /// The address has a byte that is not allowed in the field `Host` (75). Nothing was sent.
     #[error("network 75: no host")]
     NoHost,
-    /// The body is longer than a site takes (77). Nothing was sent.
+    /// The body is longer than a site accepts (77). Nothing was sent.
     #[error("network 77: request larger than a site takes")]
     TooLarge,
 }
 
-/// Why nothing is pulled. There is no new state then.
+/// An error of a pull, after which there is no new state.
 #[derive(Clone, Copy, PartialEq, Eq, Debug, Error)]
 pub enum PullFault {
-    /// The schema, the state or the message that came is refused, or memory was (1).
+    /// The schema, the state or the message received is rejected, or memory is lacking (1).
     #[error(transparent)]
     Refused(Refusal),
-    /// No reply of status 200 came.
+    /// There is no reply of status 200.
     #[error(transparent)]
     Network(NetworkFault),
 }

@@ -1,4 +1,4 @@
-//! A message's updates, joined into a store.
+//! Joins the updates of a message into a store.
 ghost use Rattle.std.specs.Prelude.{◌≡◌, ◌++◌, ◌∷◌, [], length, IfOk, IfErr, OnOk};
 ghost use Rattle.sync_messages.specs.schema.Views.{schema_view};
 ghost use Rattle.sync_messages.specs.stamped_store.Store.{abstract_store, store_of, updates};
@@ -16,7 +16,7 @@ use sync_messages::{
     updates_have_one_store, valid_messages_are_read, write_state,
 };
 
-/// Returns a fault of a message (50 to 56, or 1), with its place and the number of the refusal inside.
+/// Returns an error of a message (50 to 56, or 1), with its place and the code of the error inside.
 pub fn message_refusal(fault: MessageFault) -> Refusal
     ensures { result ≡ message_refusal fault }
 {
@@ -47,7 +47,7 @@ fn take_one(
     }
 }
 
-/// Joins updates in their order, and counts them.
+/// Joins updates in order, and counts them.
 fn take_all(
     store: &mut StampedStore<Policy, Entity>,
     came: Vec<Update<Policy, Entity>>,
@@ -65,19 +65,23 @@ fn take_all(
     Ok(taken)
 }
 
-/// What a message was joined into, and how many updates came.
+/// A store into which a message was joined, and the number of its updates.
 #[derive(Drop)]
 pub struct Joined {
     /// The store of the updates of both.
     pub store: StampedStore<Policy, Entity>,
-    /// How many updates the message has, also those that lost.
+    /// The number of updates of the message, including those that lost.
     pub taken: usize,
 }
 
-/// Joins the updates of a state or a delta into a store, in their order: at each name the greater entry stands.
+/// Joins the updates of a state or a delta into a store, in order: at each name the greater entry wins.
 ///
-/// A message with any fault is refused whole (50 to 56, with its place and the number of the refusal inside). Where
-/// memory is refused (1), the store is dropped, so nothing is left half joined.
+/// # Errors
+///
+/// In both cases the store is dropped, so nothing is left half joined.
+///
+/// - The message is rejected whole, with its first error (50 to 56, with its place and the code of the error inside).
+/// - Out of memory (1), at any point.
 pub fn join_message(
     alloc: Global,
     schema: &Schema,
@@ -101,8 +105,8 @@ pub fn join_message(
     Ok(Joined { store, taken })
 }
 
-/// Returns a store as a state of the schema. Where its updates are those of messages of the schema, it is read back as
-/// them. Fails for memory alone.
+/// Returns a store as a state of the schema. If its updates came from messages of the schema, it is parsed again as
+/// these. Fails only if out of memory.
 pub fn state_of(
     alloc: Global,
     schema: &Schema,

@@ -1,4 +1,4 @@
-//! Laws of merged states; the functions do nothing.
+//! Theorems of merged states; the functions do nothing.
 ghost use Rattle.std.specs.Prelude.{ℕ, List};
 ghost use Rattle.schema_decisions.specs.schema_types.declared.fault.SchemaFault.{SchemaFault};
 ghost use Rattle.sync_messages.specs.schema.SchemaEntries.{SchemaEntries as SchemaKept};
@@ -13,8 +13,8 @@ use sync_messages::{
     stored_texts_have_one_reading, updates_have_one_store,
 };
 
-/// Proves that two messages come to the same state whichever way round they are merged, again with either of them, and,
-/// with a third, in whatever groups.
+/// Proves that two messages merge to the same state in either order, that merging either again changes nothing, and
+/// that a third may be merged in any grouping.
 pub fn order_and_repeats_do_not_matter()
     ensures order { OrderDoesNotMatter }
     ensures repeats { RepeatsDoNotMatter }
@@ -24,8 +24,8 @@ pub fn order_and_repeats_do_not_matter()
     bytes_have_one_outcome();
 }
 
-/// Proves that the texts of a schema and of two messages come to exactly one thing: a state or a refusal. It is said of
-/// bytes that state a schema, as it is kept, and of those that state none.
+/// Proves that the texts of a schema and of two messages have exactly one outcome, a state or an error: for bytes that
+/// state the schema `kept`, and for bytes that state none.
 pub fn merges_have_one_outcome()
     ensures stated { (bytes f g : List ℕ) (schema : SchemaKept) → IsSchemaOf bytes (schema_view schema)
         → HaveOneOutcome bytes f g }

@@ -1,6 +1,6 @@
-//! States and deltas joined without a site: from the bytes of a schema and of two messages to the state of the store of
-//! the updates of both, or to the first refusal; what is news to a site, asked of another over HTTP and joined into
-//! its state; and the calls by which two sites exchange.
+//! Merges and exchanges without a site: from the bytes of a schema and of two messages to the state with the updates of
+//! both, or to the first error; a pull, which asks another site over HTTP for missing entries and joins them into a
+//! state; and the calls of an exchange between two sites.
 //!
 //! Nothing here opens a socket or a file: the reader and the writer are any values of the traits `Source` and `Sink`,
 //! and the state is bytes.

@@ -1,4 +1,4 @@
-//! Two messages, merged.
+//! Merges two messages.
 ghost use Rattle.std.specs.Prelude.{◌≡◌, IfOk, IfErr, Err};
 ghost use Rattle.sync_messages.specs.schema.Views.{schema_view};
 ghost use Rattle.sync_messages.specs.stamped_store.Store.{abstract_store};
@@ -13,7 +13,7 @@ use stamped_store::laws::stores_are_joined;
 use std::alloc::Global;
 use sync_messages::{Entity, Schema, StampedStore, updates_have_one_store};
 
-/// Returns the join of a store and of what a message was joined into, or why that message was refused.
+/// Returns the join of a store and of that into which a message was joined, or the error of that message.
 fn joined_with(
     store: StampedStore<Policy, Entity>,
     other: Result<Joined, Refusal>,
@@ -31,7 +31,7 @@ fn joined_with(
     }
 }
 
-/// Returns the state of the store of the updates of two messages of a schema, or the refusal of the first that is none.
+/// Returns the state with the updates of two messages of a schema, or the error of the first that is rejected.
 fn merge_under(alloc: Global, schema: &Schema, f: &[u8], g: &[u8]) -> Result<Vec<u8>, Refusal>
     ensures merged { IfOk result (λ b. IsMergedUnder (schema_view schema.now) f.now g.now b.items) }
     ensures refused { IfErr result
@@ -45,12 +45,18 @@ fn merge_under(alloc: Global, schema: &Schema, f: &[u8], g: &[u8]) -> Result<Vec
     Ok(state_of(alloc, schema, &both)?)
 }
 
-/// Returns the state of the store of the updates of two messages, each a state or a delta, under the schema that bytes
-/// state. It is the same bytes whichever way round they are, and merged with either again; and it is read back as the
-/// updates of that store.
+/// Returns the state with the updates of two messages, each a state or a delta, under a schema.
 ///
-/// Refused in this order: the schema (20 to 25, without a place), the first message, the second (both 50 to 56, with
-/// its place and the number of the refusal inside). `NoMemory` (1) may come at any point; then there is no state.
+/// The bytes are the same in either order, and if the result is merged with either message again; they are parsed again
+/// as the updates of the joined store.
+///
+/// # Errors
+///
+/// In the order checked:
+///
+/// - 20 to 25, without a place: the schema is rejected.
+/// - 50 to 56, with the place and the code of the error inside: the first message is rejected, or else the second.
+/// - 1, at any point: out of memory.
 pub fn merge_texts(alloc: Global, schema: &[u8], f: &[u8], g: &[u8]) -> Result<Vec<u8>, Refusal>
     ensures merged { IfOk result
         (λ b. (m : IsMerged schema.now f.now g.now b.items) × IsMergedBack m) }

@@ -1,4 +1,4 @@
-//! What another site has that is news, pulled.
+//! Pulls the entries that a state lacks from another site.
 ghost use Rattle.std.specs.Prelude.{◌≡◌, ◌≢◌, ◌⊎◌, ℕ, List, Ok, Err, IfOk, IfErr, OnErr, IsTrue, MatchResult};
 ghost use Rattle.std.specs.Prelude.{option_map};
 ghost use Rattle.http_streams.specs.http_texts.Parts.{is_host};
@@ -22,16 +22,16 @@ use schema_decisions::{Policy, Refusal, schema_in};
 use std::alloc::Global;
 use sync_messages::{Entity, Schema, StampedStore, write_summary};
 
-/// What was pulled.
+/// The result of a pull.
 #[derive(Drop)]
 pub struct Pulled {
     /// The new state, as a message.
     pub state: Vec<u8>,
-    /// How many updates came, also those that lost.
+    /// The number of updates received, including those that lost.
     pub taken: usize,
 }
 
-/// Returns the store of a state; empty where it is absent.
+/// Returns the store of a state, which is empty if absent.
 fn store_in(
     alloc: Global,
     schema: &Schema,
@@ -55,7 +55,7 @@ fn store_in(
     }
 }
 
-/// Joins the message that came, and writes the new state.
+/// Joins the message received, and writes the new state.
 fn take_reply(
     alloc: Global,
     schema: &Schema,
@@ -73,7 +73,7 @@ fn take_reply(
     Ok(Pulled { state, taken })
 }
 
-/// Returns what was pulled, or why not, among the faults of a pull.
+/// Returns the result of a pull, or its error as one of a pull.
 fn told(pulled: Result<Pulled, Refusal>) -> Result<Pulled, PullFault>
     ensures { MatchResult pulled (λ p. result ≡ Ok p) (λ r. result ≡ Err (PullFault.Refused r)) }
 {
@@ -83,7 +83,7 @@ fn told(pulled: Result<Pulled, Refusal>) -> Result<Pulled, PullFault>
     }
 }
 
-/// Asks for what is news to whoever has a store of a schema, and answers the body of the reply.
+/// Asks for the entries that a store of a schema lacks, and returns the body of the reply.
 fn news_for<R: Source, W: Sink>(
     alloc: Global,
     schema: &Schema,
@@ -116,7 +116,7 @@ fn news_for<R: Source, W: Sink>(
     }
 }
 
-/// Pulls under a schema that is read, into a store whose updates are valid.
+/// Pulls under a parsed schema, into a store whose updates are valid.
 fn pull_under<R: Source, W: Sink>(
     alloc: Global,
     schema: &Schema,
@@ -155,18 +155,24 @@ fn pull_under<R: Source, W: Sink>(
     }
 }
 
-/// Asks the site behind a reader and a writer for what is news to whoever has a state, and joins it.
+/// Asks the site behind a reader and a writer for the entries that a state lacks, and joins them.
 ///
-/// `schema` is the text of the schema, `state` a state or a delta of it, absent for an empty store, and `host` what the
-/// field `Host` says. One request is written, `POST /v1/delta` with the summary of the state, and its reply is read;
-/// the updates of its body are joined, and the new state is answered, with their number. No site takes part
-/// in it on this side, and none is named: nothing is stamped.
+/// `schema` is the text of the schema, `state` a state or a delta of it, absent for an empty store, and `host` the
+/// value of the field `Host`. One request is written, `POST /v1/delta` with the summary of the state, and its reply is
+/// read; the updates of its body are joined, and the new state is returned, with their number. There is no site on this
+/// side: nothing is stamped.
 ///
-/// Refused in this order: the schema (20 to 25, without a place), the state (50 to 56, with its place and the number of
-/// the refusal inside), a host that is none (75) and a summary that is longer than a site takes (77), all before
-/// anything is sent; the network's faults (70 to 73, or a reply of another status than 200); the message that came (50
-/// to 56). `NoMemory` (1) may come at any point, also when the updates are taken. After any of these there is no new
-/// state.
+/// # Errors
+///
+/// In the order checked; after any of them there is no new state. The first four come before anything is sent.
+///
+/// - 20 to 25, without a place: the schema is rejected.
+/// - 50 to 56, with the place and the code of the error inside: the state is rejected.
+/// - 75: `host` is not a host.
+/// - 77: the summary is longer than a site accepts.
+/// - 70 to 74: the network failed, or the reply has another status than 200.
+/// - 50 to 56: the message received is rejected.
+/// - 1, at any point: out of memory.
 pub fn pull_over<R: Source, W: Sink>(
     alloc: Global,
     schema: &[u8],
@@ -175,14 +181,14 @@ pub fn pull_over<R: Source, W: Sink>(
     reader: &mut R,
     writer: &mut W,
 ) -> Result<Pulled, PullFault>
-    // The request was sent, a reply of status 200 came, and its body was joined.
+    // The request was sent, the reply has status 200, and its body was joined.
     ensures pulled { IfOk result (λ p. (s : StatedSchema) × (m : Store) × (body : List ℕ)
         × IsReady schema.now (option_map (λ b. b.now) state.entry) s m
         × IsAnswered R.left R.reads W.holds (request_for host.now s m) reader.old reader.new writer.old writer.new
         200 body
         × IsPulled s m body p.state.items p.taken) }
 
-    // The texts are refused, and nothing was sent; or a reply of status 200 came, and its body is refused.
+    // The texts are rejected, and nothing was sent; or the reply has status 200, and its body is rejected.
     ensures refused { (r : Refusal) → result ≡ Err (PullFault.Refused r) → r ≢ no_memory
         → (IsRefusedFirst schema.now (option_map (λ b. b.now) state.entry) r × (reader.new ≡ reader.old)
         × (writer.new ≡ writer.old))
@@ -192,25 +198,25 @@ pub fn pull_over<R: Source, W: Sink>(
         200 body
         × IsMessageRefused s body r) }
 
-    // The texts are read, and no reply of status 200 came.
+    // The texts are accepted, and there is no reply of status 200.
     ensures network { (f : NetworkFault) → result ≡ Err (PullFault.Network f) → (s : StatedSchema) × (m : Store)
         × IsReady schema.now (option_map (λ b. b.now) state.entry) s m
         × IsUnanswered R.left R.reads R.failed R.fails W.holds W.failed W.fails (request_for host.now s m)
         reader.old reader.new writer.old writer.new f }
 
-    // After any fault nothing was sent, or a first part of the request, or all of it.
+    // After any error nothing, a first part of the request, or all of it was sent.
     ensures err { OnErr result (((reader.new ≡ reader.old) × (writer.new ≡ writer.old))
         ⊎ ((s : StatedSchema) × (m : Store) × IsReady schema.now (option_map (λ b. b.now) state.entry) s m
         × IsRequestBegun R.left W.holds (request_for host.now s m) reader.old reader.new writer.old writer.new)) }
 
-    // The host is one, or it is told that it is none; and so of a summary that is longer than a site takes.
+    // `NoHost` exactly if the host is not one, and `TooLarge` exactly if the summary is longer than a site accepts.
     ensures host { IfOk result (λ _. IsTrue (is_host host.now)) }
     ensures no_host { (f : NetworkFault) → result ≡ Err (PullFault.Network f) → TellsOfHost host.now f }
     ensures too_large { (f : NetworkFault) → result ≡ Err (PullFault.Network f) → (s : StatedSchema) × (m : Store)
         × IsReady schema.now (option_map (λ b. b.now) state.entry) s m
         × TellsOfSize host.now (summary_size s m) f }
 
-    // No failure of a device is passed over.
+    // Each failure of a device is reported.
     ensures reads { result ≢ Err (PullFault.Network NetworkFault.Read) → R.failed reader.new ≡ R.failed reader.old }
     ensures writes { result ≢ Err (PullFault.Network NetworkFault.Write) → W.failed writer.new ≡ W.failed writer.old }
 {

@@ -7,7 +7,7 @@ use Rattle.grammar_trees.specs.grammar_tokens.declared.tree.UidTree.{UidTree}
 use Rattle.grammar_trees.specs.declared.tree.Access.{Access}
 use Rattle.grammar_trees.specs.declared.tree.Access.TheVariants as access
 use Rattle.grammar_trees.specs.declared.tree.Comparison.{Comparison}
-use Rattle.grammar_trees.specs.declared.tree.Entry.{Entry}
+use Rattle.grammar_trees.specs.declared.tree.RecordEntry.{RecordEntry}
 use Rattle.grammar_trees.specs.declared.tree.KeyTree.{KeyTree}
 use Rattle.grammar_trees.specs.declared.tree.KeyTree.TheVariants.{Word, Quoted}
 use Rattle.grammar_trees.specs.declared.tree.Term.{Term}
@@ -59,7 +59,7 @@ count-Parentheses a = ap tree_count (sym (t.rolls-Parentheses a)) ∙ fold-roll-
 pub count-Set : (members : List ExprTree) → tree_count (t.Set members) ≡ 1 + row_count (map tree_count members)
 count-Set members = ap tree_count (sym (t.rolls-Set members)) ∙ fold-roll-ExprTree ℕ count_step (tree.Set members)
 
-pub count-Record : (entries : List (Entry ExprTree)) → tree_count (t.Record entries) ≡ 1 + row_count (map entry_count entries)
+pub count-Record : (entries : List (RecordEntry ExprTree)) → tree_count (t.Record entries) ≡ 1 + row_count (map entry_count entries)
 count-Record entries = ap tree_count (sym (t.rolls-Record entries)) ∙ fold-roll-ExprTree ℕ count_step (tree.Record entries)
     ∙ ap (λ ns. 1 + row_count ns) (map_each entry_items entry_count _ (λ entry. refl) entries)
 

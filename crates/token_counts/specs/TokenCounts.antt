@@ -6,7 +6,7 @@ use Rattle.grammar_trees.specs.grammar_tokens.declared.tree.PathTree.{PathTree}
 use Rattle.grammar_trees.specs.grammar_tokens.declared.tree.UidTree.{UidTree}
 use Rattle.grammar_trees.specs.declared.tree.Access.{Access}
 use Rattle.grammar_trees.specs.declared.tree.Access.TheVariants as access
-use Rattle.grammar_trees.specs.declared.tree.Entry.{Entry}
+use Rattle.grammar_trees.specs.declared.tree.RecordEntry.{RecordEntry}
 use Rattle.grammar_trees.specs.declared.tree.KeyTree.TheVariants.{Word, Quoted}
 use Rattle.grammar_trees.specs.declared.tree.Term.{Term}
 use Rattle.grammar_trees.specs.declared.tree.ExprTree.{ExprTree}
@@ -48,7 +48,7 @@ access_count (access.Field (Quoted quoted)) = 3
 access_count (access.Method name arguments) = 3 + row_count arguments
 
 -- `entry_items entry` is the count of `key: value`.
-abbrev pub entry_items : Entry ℕ → ℕ
+abbrev pub entry_items : RecordEntry ℕ → ℕ
 entry_items entry = 2 + entry.value
 
 -- `count_step` is the count of a form, from the counts of its parts.
@@ -89,5 +89,5 @@ access_tree_count (access.Method name arguments) = 3 + row_count (map tree_count
 abbrev pub term_count : Term ExprTree → ℕ
 term_count term = tree_count term.operand
 
-abbrev pub entry_count : Entry ExprTree → ℕ
+abbrev pub entry_count : RecordEntry ExprTree → ℕ
 entry_count entry = 2 + tree_count entry.value

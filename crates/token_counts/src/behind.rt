@@ -4,7 +4,7 @@ ghost use Rattle.token_counts.specs.TokenCounts.{tree_count, access_tree_count, 
 ghost use Rattle.token_counts.specs.TokenCounts.{each_count, total, lone_count};
 
 use crate::leaves::{behind_opened, behind_path, skip};
-use grammar_trees::{Access, Entry, ExprTree, KeyTree, Term, Token};
+use grammar_trees::{Access, ExprTree, KeyTree, RecordEntry, Term, Token};
 use plain::Items;
 
 /// Returns the tokens behind the expression that `tokens` begin with, of which `tree` is the tree.
@@ -102,7 +102,7 @@ pub fn behind_terms<'t>(terms: &[Term<ExprTree>], tokens: &'t [Token]) -> &'t [T
 
 /// Returns the tokens behind entries of a record, each with its key, its colon, and a comma or bracket behind it.
 #[cycle(behind)]
-pub fn behind_entries<'t>(entries: &[Entry<ExprTree>], tokens: &'t [Token]) -> &'t [Token]
+pub fn behind_entries<'t>(entries: &[RecordEntry<ExprTree>], tokens: &'t [Token]) -> &'t [Token]
     ensures { result.now ≡ drop (each_count (map entry_count entries.now)) tokens.entry.now }
 {
     let mut rest = tokens;

@@ -12,7 +12,7 @@ use Rattle.plain.proofs.Members.{Contains-here, Contains-there, Contains-cases, 
 use Rattle.values.specs.Uids.{equal-is}
 use Rattle.type_capabilities.specs.Pairs.{PairValue, pair_of, pairs, pair_cmp, borrowed_cmp, pair_cmp-IsTotalOrder, pair_cmp-IsAntisymmetric}
 use Rattle.type_capabilities.specs.Stacks.{place_of, AreFound}
-use Rattle.type_capabilities.specs.declared.pair.Pair.{Pair}
+use Rattle.type_capabilities.specs.declared.pair.Capability.{Capability}
 
 -- ---- items by their places
 
@@ -86,7 +86,7 @@ apart p q n = elim (cases_Bool (is_eq (pair_cmp p q))) [
 ]
 
 -- what is noted, after the place of a pair was
-pub noted_so : (m n : BTreeMap Pair ℕ) (k : Pair) (w : Option ℕ) → Updates borrowed_cmp m n k w → (p : PairValue)
+pub noted_so : (m n : BTreeMap Capability ℕ) (k : Capability) (w : Option ℕ) → Updates borrowed_cmp m n k w → (p : PairValue)
     → place_of n p ≡ cond (is_eq (pair_cmp (pair_of k) p)) w (place_of m p)
 noted_so m n k w u p =
     u.0 (record { whole = record { ref_ptr = (0, 0); now = p.0 }; name = record { ref_ptr = (0, 0); now = p.1 } })
@@ -167,17 +167,17 @@ taken_more (suc h) (q ∷ ps) p e = ap (λ qs. q ∷ qs) (taken_more h ps p e)
 
 -- ---- what code finds
 
-pub at_value : (ps : List Pair) (i : ℕ) (f : Pair) → slice_get ps i ≡ Some f → slice_get (pairs ps) i ≡ Some (pair_of f)
+pub at_value : (ps : List Capability) (i : ℕ) (f : Capability) → slice_get ps i ≡ Some f → slice_get (pairs ps) i ≡ Some (pair_of f)
 at_value ps i f e = slice_get-map pair_of ps i ∙ ap (option_map pair_of) e
 
-pub stands_so : (ps : List Pair) (i : ℕ) (f : Pair) (p : PairValue) (r : Bool) → slice_get ps i ≡ Some f
+pub stands_so : (ps : List Capability) (i : ℕ) (f : Capability) (p : PairValue) (r : Bool) → slice_get ps i ≡ Some f
     → (IsTrue r ↔ (pair_of f ≡ p)) → (IsTrue r ↔ (slice_get (pairs ps) i ≡ Some p))
 stands_so ps i f p r e h = (
   λ t. at_value ps i f e ∙ ap Some (h.0 t),
   λ s. h.1 (some_same (sym (at_value ps i f e) ∙ s)),
 )
 
-pub stands_nowhere : (ps : List Pair) (i : ℕ) (p : PairValue) → slice_get ps i ≡ None
+pub stands_nowhere : (ps : List Capability) (i : ℕ) (p : PairValue) → slice_get ps i ≡ None
     → (IsTrue false ↔ (slice_get (pairs ps) i ≡ Some p))
 stands_nowhere ps i p e = (
   λ t. absurd (false≢true t),
@@ -211,17 +211,17 @@ pub taken_all : (ps : List PairValue) → take (length ps) ps ≡ ps
 taken_all [] = refl
 taken_all (p ∷ ps) = ap (λ qs. p ∷ qs) (taken_all ps)
 
-pub one_behind : (ps : List Pair) (p : Pair) → pairs (ps ++ p ∷ []) ≡ pairs ps ++ pair_of p ∷ []
+pub one_behind : (ps : List Capability) (p : Capability) → pairs (ps ++ p ∷ []) ≡ pairs ps ++ pair_of p ∷ []
 one_behind ps p = map-append pair_of ps (p ∷ [])
 
 -- ---- what was taken away
 
-pub taken_pairs : (h : ℕ) (items : List Pair) → pairs (take h items) ≡ take h (pairs items)
+pub taken_pairs : (h : ℕ) (items : List Capability) → pairs (take h items) ≡ take h (pairs items)
 taken_pairs zero items = refl
 taken_pairs (suc h) [] = refl
 taken_pairs (suc h) (p ∷ items) = ap (λ ps. pair_of p ∷ ps) (taken_pairs h items)
 
-taken_length : (h : ℕ) (items : List Pair) → h ≤ length items → length (take h items) ≡ h
+taken_length : (h : ℕ) (items : List Capability) → h ≤ length items → length (take h items) ≡ h
 taken_length zero items le = refl
 taken_length (suc h) [] le = absurd (omega (arith, le))
 taken_length (suc h) (p ∷ items) le = ap suc (taken_length h items (omega (arith, le)))
@@ -234,7 +234,7 @@ taken_twice (suc h) (p ∷ ps) = ap (λ qs. p ∷ qs) (taken_twice h ps)
 whole_taken : (n : ℕ) (ps : List PairValue) → length ps ≡ n → take n ps ≡ ps
 whole_taken n ps e = ap (λ m. take m ps) (sym e) ∙ taken_all ps
 
-module _ (h : ℕ) (items after : List Pair) (v : List PairValue) (le : h ≤ length items) (seen : take h (pairs items) ≡ v) where
+module _ (h : ℕ) (items after : List Capability) (v : List PairValue) (le : h ≤ length items) (seen : take h (pairs items) ≡ v) where
   -- nothing is put behind what is left
   pub left : after ≡ take h items → (h ≤ length after) × (take h (pairs after) ≡ v)
   left e = (
@@ -243,7 +243,7 @@ module _ (h : ℕ) (items after : List Pair) (v : List PairValue) (le : h ≤ le
   )
 
   -- one is
-  pub put_behind : (p : Pair) → after ≡ take h items ++ p ∷ [] → (suc h ≤ length after) × (take (suc h) (pairs after) ≡ v ++ pair_of p ∷ [])
+  pub put_behind : (p : Capability) → after ≡ take h items ++ p ∷ [] → (suc h ≤ length after) × (take (suc h) (pairs after) ≡ v ++ pair_of p ∷ [])
   put_behind p e =
       let apart : pairs after ≡ take h (pairs items) ++ pair_of p ∷ [] =
       ap pairs e ∙ (one_behind (take h items) p ∙ ap (λ ps. ps ++ pair_of p ∷ []) (taken_pairs h items)) in
@@ -252,7 +252,7 @@ module _ (h : ℕ) (items after : List Pair) (v : List PairValue) (le : h ≤ le
         whole_taken (suc h) (pairs after) (length-map after pair_of ∙ long) ∙ (apart ∙ ap (λ ps. ps ++ pair_of p ∷ []) seen),
       )
     where
-      longer : (xs : List Pair) (x : Pair) → length (xs ++ x ∷ []) ≡ suc (length xs)
+      longer : (xs : List Capability) (x : Capability) → length (xs ++ x ∷ []) ≡ suc (length xs)
       longer [] x = refl
       longer (y ∷ xs) x = ap suc (longer xs x)
 
@@ -265,15 +265,15 @@ on_err (Err e) h = h
 
 -- ---- several are put
 
-pub none_put : (K : List PairValue) (ps : List Pair) → K ≡ K ++ pairs (take 0 ps)
+pub none_put : (K : List PairValue) (ps : List Capability) → K ≡ K ++ pairs (take 0 ps)
 none_put K ps = sym (append-nil K)
 
-pub one_put : (K L M : List PairValue) (ps : List Pair) (i : ℕ) (x : Pair) → i < length ps → x ≡ get_or ps i x
+pub one_put : (K L M : List PairValue) (ps : List Capability) (i : ℕ) (x : Capability) → i < length ps → x ≡ get_or ps i x
     → L ≡ K ++ pairs (take i ps) → M ≡ L ++ pair_of x ∷ [] → M ≡ K ++ pairs (take (i + 1) ps)
 one_put K L M ps i x lt e l m =
     let more = take_more ps i x lt ∙ ap (λ y. take i ps ++ y ∷ []) (sym e) in
     m ∙ (ap (λ N. N ++ pair_of x ∷ []) l ∙ (append_assoc K (pairs (take i ps)) (pair_of x ∷ [])
     ∙ ap (λ N. K ++ N) (sym (ap pairs more ∙ one_behind (take i ps) x))))
 
-pub all_put : (K L : List PairValue) (ps : List Pair) (i : ℕ) → length ps ≤ i → L ≡ K ++ pairs (take i ps) → L ≡ K ++ pairs ps
+pub all_put : (K L : List PairValue) (ps : List Capability) (i : ℕ) → length ps ≤ i → L ≡ K ++ pairs (take i ps) → L ≡ K ++ pairs ps
 all_put K L ps i le l = l ∙ ap (λ qs. K ++ pairs qs) (take_all i ps le)

@@ -9,21 +9,14 @@ use Rattle.std.specs.Cmp.Lexicographic.{slice_cmp}
 use Rattle.values.specs.Uids.{text_cmp, uid_cmp}
 use Rattle.grammar_core.specs.declared.leaf.Literal.{Literal}
 use Rattle.grammar_core.specs.declared.leaf.Literal.TheVariants as literal
-use Rattle.grammar_core.specs.declared.leaf.Variable.{Variable}
-use Rattle.grammar_core.specs.declared.leaf.Variable.TheVariants as variable
 use Rattle.grammar_core.specs.declared.operator.Unary.{Unary}
 use Rattle.grammar_core.specs.declared.operator.Unary.TheVariants as unary
-use Rattle.grammar_core.specs.declared.operator.Binary.{Binary}
-use Rattle.grammar_core.specs.declared.operator.Binary.TheVariants as binary
-use Rattle.grammar_core.specs.declared.operator.UnaryCall.{UnaryCall}
-use Rattle.grammar_core.specs.declared.operator.UnaryCall.TheVariants as unary_call
-use Rattle.grammar_core.specs.declared.operator.BinaryCall.{BinaryCall}
-use Rattle.grammar_core.specs.declared.operator.BinaryCall.TheVariants as binary_call
 use Rattle.grammar_core.specs.declared.expr.Named.{Named}
 use Rattle.grammar_core.specs.declared.expr.Expr.{Expr}
 use Rattle.grammar_core.specs.declared.expr.Expr.TheViews.{out-Expr}
 use Rattle.grammar_core.specs.declared.expr.Expr.TheOpen.{Expr-F}
 use Rattle.grammar_core.specs.declared.expr.Expr.TheFolds.{fold-Expr}
+use Rattle.type_capabilities.specs.Ranks.{variable_rank, binary_rank, unary_call_rank, binary_call_rank}
 
 -- `literal_rank l` is the rank of the kind of the literal `l`.
 abbrev pub literal_rank : Literal → ℕ
@@ -39,13 +32,6 @@ literal_cmp (literal.Long y) (literal.Long z) = int_cmp y z
 literal_cmp (literal.Text s) (literal.Text t) = text_cmp s t
 literal_cmp (literal.Entity u) (literal.Entity v) = uid_cmp u v
 literal_cmp l m = nat_cmp (literal_rank l) (literal_rank m)
-
--- `variable_rank x` is the rank of the variable `x`.
-abbrev pub variable_rank : Variable → ℕ
-variable_rank variable.Principal = 0
-variable_rank variable.Action = 1
-variable_rank variable.Resource = 2
-variable_rank variable.Context = 3
 
 -- `unary_rank o` is the rank of the operator `o`.
 abbrev pub unary_rank : Unary → ℕ
@@ -63,36 +49,6 @@ abbrev pub unary_cmp : Unary → Unary → Ordering
 unary_cmp (unary.Like p) (unary.Like q) = pattern_cmp p q
 unary_cmp (unary.Is m) (unary.Is n) = text_cmp m n
 unary_cmp o p = nat_cmp (unary_rank o) (unary_rank p)
-
--- `binary_rank o` is the rank of the operator `o`.
-abbrev pub binary_rank : Binary → ℕ
-binary_rank binary.Equal = 0
-binary_rank binary.In = 1
-binary_rank binary.Less = 2
-binary_rank binary.LessOrEqual = 3
-binary_rank binary.Add = 4
-binary_rank binary.Subtract = 5
-binary_rank binary.Multiply = 6
-binary_rank binary.Contains = 7
-binary_rank binary.ContainsAll = 8
-binary_rank binary.ContainsAny = 9
-
--- `unary_call_rank c` is the rank of the function or method `c`.
-abbrev pub unary_call_rank : UnaryCall → ℕ
-unary_call_rank unary_call.Ip = 0
-unary_call_rank unary_call.Decimal = 1
-unary_call_rank unary_call.IsIpv4 = 2
-unary_call_rank unary_call.IsIpv6 = 3
-unary_call_rank unary_call.IsLoopback = 4
-unary_call_rank unary_call.IsMulticast = 5
-
--- `binary_call_rank c` is the rank of the method `c`.
-abbrev pub binary_call_rank : BinaryCall → ℕ
-binary_call_rank binary_call.LessThan = 0
-binary_call_rank binary_call.LessThanOrEqual = 1
-binary_call_rank binary_call.GreaterThan = 2
-binary_call_rank binary_call.GreaterThanOrEqual = 3
-binary_call_rank binary_call.IsInRange = 4
 
 -- `kind x` is the rank of a kind of expression.
 abbrev pub kind : {X : Type 0} → Expr-F X → ℕ

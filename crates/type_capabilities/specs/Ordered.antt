@@ -28,7 +28,7 @@ use Rattle.grammar_core.proofs.Forms.{Every, Cases, by_forms, fold_literal, fold
 use Rattle.grammar_core.proofs.Forms.{fold_or, fold_unary, fold_binary, fold_field, fold_has, fold_set, fold_record}
 use Rattle.grammar_core.proofs.Forms.{fold_unary_call, fold_binary_call}
 use Rattle.type_capabilities.specs.Order.{expr_cmp, layers_cmp, literal_cmp, unary_cmp, each_cmp, names, names_cmp}
-use Rattle.type_capabilities.specs.Order.{variable_rank, binary_rank, unary_call_rank, binary_call_rank}
+use Rattle.type_capabilities.specs.Ranks.{variable_rank, binary_rank, unary_call_rank, binary_call_rank}
 use Rattle.type_capabilities.specs.Tokens.{Content, Token, literal_content, unary_content, joined}
 use Rattle.type_capabilities.specs.Tokens.{tokens, tokens_step, layer_tokens, tokens_out, tokens_set, tokens_record}
 use Rattle.type_capabilities.specs.Tokens.{same_length, every_value, same_from_tokens, as_number}

@@ -13,18 +13,18 @@ use Rattle.values.specs.Uids.{text_cmp, text_cmp-IsAntisymmetric, both_equal}
 use Rattle.grammar_core.specs.declared.expr.Expr.{Expr}
 use Rattle.type_capabilities.specs.Order.{expr_cmp}
 use Rattle.type_capabilities.specs.Ordered.{expr_cmp-IsTotalOrder, expr_cmp-IsAntisymmetric}
-use Rattle.type_capabilities.specs.declared.pair.Pair.{Pair}
+use Rattle.type_capabilities.specs.declared.pair.Capability.{Capability}
 
 -- A `PairValue` is an expression and the name of a field.
 abbrev pub PairValue : Type 0
 PairValue = Expr × List ℕ
 
 -- `pair_of p` is the pair `p` without its borrows.
-abbrev pub pair_of : Pair → PairValue
+abbrev pub pair_of : Capability → PairValue
 pair_of p = (p.whole.now, p.name.now)
 
 -- `pairs ps` are the pairs `ps` without their borrows.
-abbrev pub pairs : List Pair → List PairValue
+abbrev pub pairs : List Capability → List PairValue
 pairs ps = map pair_of ps
 
 -- `pair_cmp p q` orders pairs by names, and then by expressions.
@@ -32,7 +32,7 @@ abbrev pub pair_cmp : PairValue → PairValue → Ordering
 pair_cmp p q = ordering_then (text_cmp p.1 q.1) (expr_cmp p.0 q.0)
 
 -- `borrowed_cmp p q` orders the pairs of the code.
-abbrev pub borrowed_cmp : Pair → Pair → Ordering
+abbrev pub borrowed_cmp : Capability → Capability → Ordering
 borrowed_cmp p q = pair_cmp (pair_of p) (pair_of q)
 
 pub pair_cmp-IsTotalOrder : IsTotalOrder pair_cmp

@@ -4,10 +4,10 @@ use Rattle.std.specs.Prelude.{◌≡◌, ◌≤◌, ℕ, List, Option, Some}
 use Rattle.std.specs.List.{slice_get}
 use Rattle.std.specs.BTreeMap.{BTreeMap, get_by}
 use Rattle.type_capabilities.specs.Pairs.{PairValue, pair_of, pair_cmp}
-use Rattle.type_capabilities.specs.declared.pair.Pair.{Pair}
+use Rattle.type_capabilities.specs.declared.pair.Capability.{Capability}
 
 -- `place_of m p` is the recorded index of the pair `p`.
-abbrev pub place_of : BTreeMap Pair ℕ → PairValue → Option ℕ
+abbrev pub place_of : BTreeMap Capability ℕ → PairValue → Option ℕ
 place_of m p = get_by (λ k. pair_cmp p (pair_of k)) m
 
 -- `IsFound ps at i p` holds if the recorded index of the pair `p` at index `i` is at most `i`, and `p` is there.

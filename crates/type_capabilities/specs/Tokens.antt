@@ -26,16 +26,8 @@ use Rattle.std.proofs.Common.{ap, sym, ◌∙◌, append_assoc}
 use Rattle.std.proofs.lemmas.List.{append-nil}
 use Rattle.grammar_core.specs.declared.leaf.Literal.{Literal}
 use Rattle.grammar_core.specs.declared.leaf.Literal.TheVariants as literal
-use Rattle.grammar_core.specs.declared.leaf.Variable.{Variable}
-use Rattle.grammar_core.specs.declared.leaf.Variable.TheVariants as variable
 use Rattle.grammar_core.specs.declared.operator.Unary.{Unary}
 use Rattle.grammar_core.specs.declared.operator.Unary.TheVariants as unary
-use Rattle.grammar_core.specs.declared.operator.Binary.{Binary}
-use Rattle.grammar_core.specs.declared.operator.Binary.TheVariants as binary
-use Rattle.grammar_core.specs.declared.operator.UnaryCall.{UnaryCall}
-use Rattle.grammar_core.specs.declared.operator.UnaryCall.TheVariants as unary_call
-use Rattle.grammar_core.specs.declared.operator.BinaryCall.{BinaryCall}
-use Rattle.grammar_core.specs.declared.operator.BinaryCall.TheVariants as binary_call
 use Rattle.grammar_core.specs.declared.expr.Named.{Named}
 use Rattle.grammar_core.specs.declared.expr.Expr.{Expr}
 use Rattle.grammar_core.specs.declared.expr.Expr.TheVariants as form
@@ -45,7 +37,11 @@ use Rattle.grammar_core.specs.declared.expr.Expr.TheFolds.{fold-Expr}
 use Rattle.grammar_core.proofs.Forms.{Every, Cases, by_forms, field_all, fold_literal, fold_variable, fold_if, fold_and}
 use Rattle.grammar_core.proofs.Forms.{fold_or, fold_unary, fold_binary, fold_field, fold_has, fold_set, fold_record}
 use Rattle.grammar_core.proofs.Forms.{fold_unary_call, fold_binary_call}
-use Rattle.type_capabilities.specs.Order.{variable_rank, binary_rank, unary_call_rank, binary_call_rank, names}
+use Rattle.type_capabilities.specs.Order.{names}
+use Rattle.type_capabilities.specs.Ranks.{variable_rank, variable_of, variable_back}
+use Rattle.type_capabilities.specs.Ranks.{binary_rank, binary_of, binary_back}
+use Rattle.type_capabilities.specs.Ranks.{unary_call_rank, unary_call_of, unary_call_back}
+use Rattle.type_capabilities.specs.Ranks.{binary_call_rank, binary_call_of, binary_call_back}
 
 -- A `Content` is the rank of an expression's content, a count, a number, and strings.
 abbrev pub Content : Type 0
@@ -206,29 +202,9 @@ literal_of r z ts =
     cond (r == 0) (literal.Boolean (is_one z)) (cond (r == 1) (literal.Long z)
     (cond (r == 2) (literal.Text (text_1 ts)) (literal.Entity (record { type_name = text_1 ts; id = text_2 ts }))))
 
-abbrev variable_of : ℕ → Variable
-variable_of r =
-    cond (r == 0) variable.Principal (cond (r == 1) variable.Action (cond (r == 2) variable.Resource variable.Context))
-
 abbrev unary_of : ℕ → List (List ℕ) → Unary
 unary_of r ts =
     cond (r == 0) unary.Not (cond (r == 1) unary.Negate (cond (r == 2) (unary.Like ts) (unary.Is (text_1 ts))))
-
-abbrev binary_of : ℕ → Binary
-binary_of r =
-    cond (r == 0) binary.Equal (cond (r == 1) binary.In (cond (r == 2) binary.Less (cond (r == 3) binary.LessOrEqual
-    (cond (r == 4) binary.Add (cond (r == 5) binary.Subtract (cond (r == 6) binary.Multiply
-    (cond (r == 7) binary.Contains (cond (r == 8) binary.ContainsAll binary.ContainsAny))))))))
-
-abbrev unary_call_of : ℕ → UnaryCall
-unary_call_of r =
-    cond (r == 0) unary_call.Ip (cond (r == 1) unary_call.Decimal (cond (r == 2) unary_call.IsIpv4
-    (cond (r == 3) unary_call.IsIpv6 (cond (r == 4) unary_call.IsLoopback unary_call.IsMulticast))))
-
-abbrev binary_call_of : ℕ → BinaryCall
-binary_call_of r =
-    cond (r == 0) binary_call.LessThan (cond (r == 1) binary_call.LessThanOrEqual
-    (cond (r == 2) binary_call.GreaterThan (cond (r == 3) binary_call.GreaterThanOrEqual binary_call.IsInRange)))
 
 -- the expressions read so far, of which a node takes as many as it has operands
 
@@ -273,44 +249,11 @@ literal_read (literal.Long z) st = refl
 literal_read (literal.Text s) st = refl
 literal_read (literal.Entity u) st = refl
 
-variable_back : (x : Variable) → variable_of (variable_rank x) ≡ x
-variable_back variable.Principal = refl
-variable_back variable.Action = refl
-variable_back variable.Resource = refl
-variable_back variable.Context = refl
-
 unary_back : (o : Unary) → unary_of (unary_content o).0 (unary_content o).1.1.1 ≡ o
 unary_back unary.Not = refl
 unary_back unary.Negate = refl
 unary_back (unary.Like p) = refl
 unary_back (unary.Is n) = refl
-
-binary_back : (o : Binary) → binary_of (binary_rank o) ≡ o
-binary_back binary.Equal = refl
-binary_back binary.In = refl
-binary_back binary.Less = refl
-binary_back binary.LessOrEqual = refl
-binary_back binary.Add = refl
-binary_back binary.Subtract = refl
-binary_back binary.Multiply = refl
-binary_back binary.Contains = refl
-binary_back binary.ContainsAll = refl
-binary_back binary.ContainsAny = refl
-
-unary_call_back : (c : UnaryCall) → unary_call_of (unary_call_rank c) ≡ c
-unary_call_back unary_call.Ip = refl
-unary_call_back unary_call.Decimal = refl
-unary_call_back unary_call.IsIpv4 = refl
-unary_call_back unary_call.IsIpv6 = refl
-unary_call_back unary_call.IsLoopback = refl
-unary_call_back unary_call.IsMulticast = refl
-
-binary_call_back : (c : BinaryCall) → binary_call_of (binary_call_rank c) ≡ c
-binary_call_back binary_call.LessThan = refl
-binary_call_back binary_call.LessThanOrEqual = refl
-binary_call_back binary_call.GreaterThan = refl
-binary_call_back binary_call.GreaterThanOrEqual = refl
-binary_call_back binary_call.IsInRange = refl
 
 take_front : (xs st : List Expr) → take (length xs) (xs ++ st) ≡ xs
 take_front [] st = refl

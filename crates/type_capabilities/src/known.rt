@@ -6,7 +6,7 @@ ghost use Rattle.std.specs.Ordering.{is_eq};
 ghost use Rattle.type_capabilities.specs.Pairs.{PairValue, pair_of, pairs, pair_cmp};
 ghost use Rattle.type_capabilities.specs.Stacks.{AreFound, place_of};
 
-use crate::pair::{Pair, is_same};
+use crate::pair::{Capability, is_same};
 use plain::NoMemory;
 use std::alloc::Global;
 use std::collections::BTreeMap;
@@ -19,10 +19,10 @@ use std::marker::Model;
 #[derive(Drop)]
 pub struct Capabilities<'a> {
     /// The pairs, followed by some that were popped.
-    stack: Vec<Pair<'a>>,
+    stack: Vec<Capability<'a>>,
     height: usize,
     /// For each pair in `stack`, its lowest index.
-    places: BTreeMap<Pair<'a>, usize>,
+    places: BTreeMap<Capability<'a>, usize>,
 }
 
 impl<'a> Model for Capabilities<'a> {
@@ -43,7 +43,7 @@ impl<'a> Model for Capabilities<'a> {
 }
 
 /// Returns whether the pair is at this index.
-fn stands_at(stack: &[Pair<'_>], at: usize, pair: &Pair<'_>) -> bool
+fn stands_at(stack: &[Capability<'_>], at: usize, pair: &Capability<'_>) -> bool
     ensures { IsTrue result ↔ (slice_get (pairs stack.now) at ≡ Some (pair_of pair.now)) }
 {
     match stack.get(at) {
@@ -54,9 +54,9 @@ fn stands_at(stack: &[Pair<'_>], at: usize, pair: &Pair<'_>) -> bool
 
 /// Returns whether the pair is below this height.
 fn stands_below<'a>(
-    stack: &[Pair<'a>],
-    places: &BTreeMap<Pair<'a>, usize>,
-    pair: &Pair<'a>,
+    stack: &[Capability<'a>],
+    places: &BTreeMap<Capability<'a>, usize>,
+    pair: &Capability<'a>,
     height: usize,
 ) -> bool
     ensures { AreFound (pairs stack.now) (λ p. place_of places.now p)
@@ -70,8 +70,8 @@ fn stands_below<'a>(
 
 /// Records the index of a pair.
 fn note<'a>(
-    places: &mut BTreeMap<Pair<'a>, usize>,
-    pair: Pair<'a>,
+    places: &mut BTreeMap<Capability<'a>, usize>,
+    pair: Capability<'a>,
     at: usize,
 ) -> Result<(), NoMemory>
     ensures ok { OnOk result ((p : PairValue) → place_of places.new p
@@ -84,9 +84,9 @@ fn note<'a>(
 
 /// Appends a pair that is not in the stack, and records its index.
 fn put_new<'a>(
-    stack: &mut Vec<Pair<'a>>,
-    places: &mut BTreeMap<Pair<'a>, usize>,
-    pair: Pair<'a>,
+    stack: &mut Vec<Capability<'a>>,
+    places: &mut BTreeMap<Capability<'a>, usize>,
+    pair: Capability<'a>,
 ) -> Result<(), NoMemory>
     ensures found { AreFound (pairs stack.old.items) (λ p. place_of places.old p)
         → ¬ Contains (pairs stack.old.items) (pair_of pair.entry)
@@ -101,9 +101,9 @@ fn put_new<'a>(
 
 /// Appends a pair.
 fn put<'a>(
-    stack: &mut Vec<Pair<'a>>,
-    places: &mut BTreeMap<Pair<'a>, usize>,
-    pair: Pair<'a>,
+    stack: &mut Vec<Capability<'a>>,
+    places: &mut BTreeMap<Capability<'a>, usize>,
+    pair: Capability<'a>,
 ) -> Result<(), NoMemory>
     ensures found { AreFound (pairs stack.old.items) (λ p. place_of places.old p)
         → AreFound (pairs stack.new.items) (λ p. place_of places.new p) }
@@ -137,7 +137,7 @@ impl<'a> Capabilities<'a> {
     }
 
     /// Returns whether the pair is known. O(log n) in all pairs that were ever pushed. Does not allocate.
-    pub fn knows(&self, pair: &Pair<'a>) -> bool
+    pub fn knows(&self, pair: &Capability<'a>) -> bool
         ensures { IsTrue result ↔ Contains self.now (pair_of pair.now) }
     {
         stands_below(self.stack.as_slice(), &self.places, pair, self.height)
@@ -146,7 +146,7 @@ impl<'a> Capabilities<'a> {
     /// Pushes a pair. If it is the one that was last popped from there, takes one comparison and does not allocate.
     ///
     /// After `NoMemory` the stack is unchanged.
-    pub fn push(&mut self, pair: Pair<'a>) -> Result<(), NoMemory>
+    pub fn push(&mut self, pair: Capability<'a>) -> Result<(), NoMemory>
         ensures ok { OnOk result (self.new ≡ self.old ++ pair_of pair.entry ∷ []) }
         ensures err { OnErr result (self.new ≡ self.old) }
     {
@@ -161,7 +161,7 @@ impl<'a> Capabilities<'a> {
     }
 
     /// Pushes these pairs, in order. After `NoMemory` only some of them, the first ones, are pushed.
-    pub fn push_all(&mut self, these: &[Pair<'a>]) -> Result<(), NoMemory>
+    pub fn push_all(&mut self, these: &[Capability<'a>]) -> Result<(), NoMemory>
         ensures ok { OnOk result (self.new ≡ self.old ++ pairs these.now) }
         ensures err { OnErr result
             ((n : ℕ) × (n < length these.now) × (self.new ≡ self.old ++ pairs (take n these.now))) }

@@ -1,7 +1,7 @@
 //! The content of expressions other than operands.
 ghost use Rattle.std.specs.Prelude.{◌≡◌};
-ghost use Rattle.type_capabilities.specs.Order.{literal_rank, literal_cmp, variable_rank, unary_rank, unary_cmp};
-ghost use Rattle.type_capabilities.specs.Order.{binary_rank, unary_call_rank, binary_call_rank, pattern_cmp};
+ghost use Rattle.type_capabilities.specs.Order.{literal_rank, literal_cmp, unary_rank, unary_cmp, pattern_cmp};
+ghost use Rattle.type_capabilities.specs.Ranks.{variable_rank, binary_rank, unary_call_rank, binary_call_rank};
 
 use grammar_core::{Binary, BinaryCall, Literal, Pattern, Unary, UnaryCall, Variable};
 use std::cmp::Ordering;
@@ -31,16 +31,11 @@ pub(crate) fn compare_literals(one: &Literal, other: &Literal) -> Ordering
     }
 }
 
-/// Returns the rank of a variable.
+/// Returns the rank of a variable: its index in the declaration.
 pub(crate) fn variable_rank(variable: Variable) -> u8
     ensures { result ≡ variable_rank variable }
 {
-    match variable {
-        Variable::Principal => 0,
-        Variable::Action => 1,
-        Variable::Resource => 2,
-        Variable::Context => 3,
-    }
+    variable as u8
 }
 
 /// Returns the rank of an operator with one operand.
@@ -78,47 +73,23 @@ pub(crate) fn compare_unary(one: &Unary, other: &Unary) -> Ordering
     }
 }
 
-/// Returns the rank of an operator with two operands.
+/// Returns the rank of an operator with two operands: its index in the declaration.
 pub(crate) fn binary_rank(operator: Binary) -> u8
     ensures { result ≡ binary_rank operator }
 {
-    match operator {
-        Binary::Equal => 0,
-        Binary::In => 1,
-        Binary::Less => 2,
-        Binary::LessOrEqual => 3,
-        Binary::Add => 4,
-        Binary::Subtract => 5,
-        Binary::Multiply => 6,
-        Binary::Contains => 7,
-        Binary::ContainsAll => 8,
-        Binary::ContainsAny => 9,
-    }
+    operator as u8
 }
 
-/// Returns the rank of a call with one operand.
+/// Returns the rank of a call with one operand: its index in the declaration.
 pub(crate) fn unary_call_rank(called: UnaryCall) -> u8
     ensures { result ≡ unary_call_rank called }
 {
-    match called {
-        UnaryCall::Ip => 0,
-        UnaryCall::Decimal => 1,
-        UnaryCall::IsIpv4 => 2,
-        UnaryCall::IsIpv6 => 3,
-        UnaryCall::IsLoopback => 4,
-        UnaryCall::IsMulticast => 5,
-    }
+    called as u8
 }
 
-/// Returns the rank of a call with two operands.
+/// Returns the rank of a call with two operands: its index in the declaration.
 pub(crate) fn binary_call_rank(called: BinaryCall) -> u8
     ensures { result ≡ binary_call_rank called }
 {
-    match called {
-        BinaryCall::LessThan => 0,
-        BinaryCall::LessThanOrEqual => 1,
-        BinaryCall::GreaterThan => 2,
-        BinaryCall::GreaterThanOrEqual => 3,
-        BinaryCall::IsInRange => 4,
-    }
+    called as u8
 }

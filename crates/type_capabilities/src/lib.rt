@@ -14,4 +14,4 @@ mod pair;
 pub use compared::compare;
 pub use known::Capabilities;
 pub use laws::pairs_are_ordered;
-pub use pair::Pair;
+pub use pair::Capability;

@@ -13,7 +13,7 @@ use std::cmp::Ordering;
 ///
 /// Pairs are equal if names and expressions are, and ordered by names and then by expressions.
 #[derive(Clone, Copy)]
-pub struct Pair<'a> {
+pub struct Capability<'a> {
     /// The expression.
     pub whole: &'a Expr,
     /// The name of the field.
@@ -21,38 +21,38 @@ pub struct Pair<'a> {
 }
 
 /// Returns whether two pairs are equal.
-pub(crate) fn is_same(one: &Pair<'_>, other: &Pair<'_>) -> bool
+pub(crate) fn is_same(one: &Capability<'_>, other: &Capability<'_>) -> bool
     ensures { IsTrue result ↔ (pair_of one.now ≡ pair_of other.now) }
 {
     one.cmp(other).is_eq()
 }
 
-impl<'a> PartialEq for Pair<'a> {
+impl<'a> PartialEq for Capability<'a> {
     ghost eq = { λ p q. is_eq (borrowed_cmp p q) };
 
     ghost laws = { partial_equiv_from_equiv (eq_by_cmp_equiv borrowed_cmp-IsTotalOrder) };
 
-    fn eq(&self, other: &Pair<'a>) -> bool {
+    fn eq(&self, other: &Capability<'a>) -> bool {
         self.cmp(other).is_eq()
     }
 }
 
-impl<'a> Eq for Pair<'a> {
+impl<'a> Eq for Capability<'a> {
     ghost laws = { eq_by_cmp_equiv borrowed_cmp-IsTotalOrder };
 }
 
-impl<'a> PartialOrd for Pair<'a> {
+impl<'a> PartialOrd for Capability<'a> {
     ghost partial_cmp = { λ p q. Some (borrowed_cmp p q) };
 
     ghost laws = { partial_order_from_agreeing_total borrowed_cmp borrowed_cmp-IsTotalOrder (λ p q. refl)
         (λ p q. refl) };
 
-    fn partial_cmp(&self, other: &Pair<'a>) -> Option<Ordering> {
+    fn partial_cmp(&self, other: &Capability<'a>) -> Option<Ordering> {
         Some(self.cmp(other))
     }
 }
 
-impl<'a> Ord for Pair<'a> {
+impl<'a> Ord for Capability<'a> {
     ghost cmp = { borrowed_cmp };
 
     ghost total = { borrowed_cmp-IsTotalOrder };
@@ -61,7 +61,7 @@ impl<'a> Ord for Pair<'a> {
 
     ghost matches_eq = { λ p q. refl };
 
-    fn cmp(&self, other: &Pair<'a>) -> Ordering {
+    fn cmp(&self, other: &Capability<'a>) -> Ordering {
         match self.name.cmp(other.name) {
             Ordering::Equal => compare(self.whole, other.whole),
             Ordering::Less => Ordering::Less,

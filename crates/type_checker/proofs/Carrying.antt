@@ -104,7 +104,7 @@ module _ (env : Environment) (K after : Pairs) where
       plain_judged x t refl l same (f (static_view t.kind) (subst (λ q. Answers q j) e a))
   row_judged x j row (Err n) a e same f g = λ h. g (fault_view n) (subst (λ q. Answers q j) e a h)
 
-  pub has_judged : (x : Expr) (p : learned.Pair) (j : Row) (row : Result StaticType ExpressionFault)
+  pub has_judged : (x : Expr) (p : learned.Capability) (j : Row) (row : Result StaticType ExpressionFault)
       (r : Result Typed ExpressionFault) → Answers row j → IsHasRow p row r → after ≡ K
       → ((t : types.StaticType) → j ≡ Ok t → Types env K x t (has_learns t p))
       → ((n : environment.ExpressionFault) → j ≡ Err n → Faults env K x n) → Judged env K x r after
@@ -182,7 +182,7 @@ false_so truth.True n = absurd (n rows.surely)
 false_so truth.Either n = absurd (n rows.perhaps)
 false_so truth.False n = refl
 
-pub none_learned : (t : types.StaticType) (p : learned.Pair) → ¬ types.IsBoolean t → has_learns t p ≡ []
+pub none_learned : (t : types.StaticType) (p : learned.Capability) → ¬ types.IsBoolean t → has_learns t p ≡ []
 none_learned types.boolean_type p n = absurd (n types.is_either)
 none_learned t p n = refl
 

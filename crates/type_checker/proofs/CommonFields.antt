@@ -8,7 +8,7 @@ use Rattle.type_checker.specs.inner.Parts.{part_view, built_view, fields_count, 
 use Rattle.type_checker.specs.inner.Rows.{paired}
 use Rattle.type_checker.specs.declared.static_type.StaticType.{StaticType}
 use Rattle.type_checker.specs.declared.parts.FieldPart.{FieldPart}
-use Rattle.type_checker.specs.declared.parts.Pair.{Pair}
+use Rattle.type_checker.specs.declared.parts.FieldPair.{FieldPair}
 use Rattle.type_checker.proofs.FieldLists.{Built, behind_past}
 use Rattle.type_checker.proofs.Weighing.{weight, weights, lighter}
 
@@ -42,7 +42,7 @@ field_some k r u None = refl
 field_some k r u (Some ts) = refl
 
 -- two fields that go together, with the common type of both
-pub step_both : (o p : Option FieldPart) (q : Pair) (u : types.StaticType) (xs ys : FieldTypes) → paired o p ≡ some q
+pub step_both : (o p : Option FieldPart) (q : FieldPair) (u : types.StaticType) (xs ys : FieldTypes) → paired o p ≡ some q
     → common (part_view q.left) (part_view q.right) ≡ some u
     → common_fields (before o xs) (before p ys) ≡ option_map (field_type q.key.now u q.required) (common_fields xs ys)
 step_both None p q u xs ys e h = absurd cc
@@ -56,13 +56,13 @@ step_both (Some a) (Some b) q u xs ys e h = at (bytes_eq a.key.now b.key.now && 
     at false f = absurd cc
     at true f =
         let same = some_same _ _ f in
-        subst (λ (z : Pair). common (part_view z.left) (part_view z.right) ≡ some u
+        subst (λ (z : FieldPair). common (part_view z.left) (part_view z.right) ≡ some u
         → field_before a.key.now a.required (common (part_view a.part) (part_view b.part)) (common_fields xs ys)
         ≡ option_map (field_type z.key.now u z.required) (common_fields xs ys)) same
         (λ g. rw g (field_some a.key.now a.required u (common_fields xs ys))) h
 
 -- and without one
-pub step_none : (o p : Option FieldPart) (q : Pair) (xs ys : FieldTypes) → paired o p ≡ some q
+pub step_none : (o p : Option FieldPart) (q : FieldPair) (xs ys : FieldTypes) → paired o p ≡ some q
     → common (part_view q.left) (part_view q.right) ≡ None → common_fields (before o xs) (before p ys) ≡ None
 step_none None p q xs ys e h = absurd cc
 step_none (Some a) None q xs ys e h = absurd cc
@@ -75,7 +75,7 @@ step_none (Some a) (Some b) q xs ys e h = at (bytes_eq a.key.now b.key.now && sa
     at false f = refl
     at true f =
         let same = some_same _ _ f in
-        subst (λ (z : Pair). common (part_view z.left) (part_view z.right) ≡ None
+        subst (λ (z : FieldPair). common (part_view z.left) (part_view z.right) ≡ None
         → field_before a.key.now a.required (common (part_view a.part) (part_view b.part)) (common_fields xs ys) ≡ None) same
         (λ g. rw g refl) h
 
@@ -87,7 +87,7 @@ step_apart (Some a) None xs ys e n = refl
 step_apart (Some a) (Some b) xs ys e n = at (bytes_eq a.key.now b.key.now && same_requirement a.required b.required) e
   where
     at : (c : Bool)
-        → (if c then some {A = Pair} (record { key = a.key; left = a.part; right = b.part; required = a.required }) else None) ≡ None
+        → (if c then some {A = FieldPair} (record { key = a.key; left = a.part; right = b.part; required = a.required }) else None) ≡ None
         → (if c then field_before a.key.now a.required (common (part_view a.part) (part_view b.part)) (common_fields xs ys) else None)
         ≡ None
     at false f = refl
@@ -118,7 +118,7 @@ pub ends_none : (vl vr : FieldTypes) (fs : List Built) (a b : FieldTypes)
     → None ≡ option_map record_type (common_fields vl vr)
 ends_none vl vr fs a b inv e = sym (ap (λ z. option_map record_type z) (inv ∙ (ap (λ z. after fs z) e ∙ after_none fs)))
 
-pub more : (vl vr : FieldTypes) (fs : List Built) (i j : ℕ) (o p : Option FieldPart) (q : Pair) (ty : StaticType)
+pub more : (vl vr : FieldTypes) (fs : List Built) (i j : ℕ) (o p : Option FieldPart) (q : FieldPair) (ty : StaticType)
     → j ≡ suc i
     → common_fields vl vr ≡ after fs (common_fields (fields_behind i vl) (fields_behind i vr))
     → fields_behind i vl ≡ before o (fields_behind (suc i) vl) → fields_behind i vr ≡ before p (fields_behind (suc i) vr)
@@ -151,16 +151,16 @@ last_none vl vr fs i n inv count same e =
     sym (ap (λ z. option_map record_type z) (inv ∙ (ap (λ z. after fs z) (at_end vl vr i n no_field_types count same e) ∙ after_all fs)))
 
 -- the recursion goes down
-pub pair_lighter : (vl : FieldTypes) (i : ℕ) (o p : Option FieldPart) (q : Pair) (rest : FieldTypes)
+pub pair_lighter : (vl : FieldTypes) (i : ℕ) (o p : Option FieldPart) (q : FieldPair) (rest : FieldTypes)
     → fields_behind i vl ≡ before o rest → some q ≡ paired o p → weight (part_view q.left) < weights vl
 pair_lighter vl i None p q rest hl e = absurd cc
 pair_lighter vl i (Some a) None q rest hl e = absurd cc
 pair_lighter vl i (Some a) (Some b) q rest hl e = at (bytes_eq a.key.now b.key.now && same_requirement a.required b.required) e
   where
     at : (c : Bool)
-        → some q ≡ (if c then some {A = Pair} (record { key = a.key; left = a.part; right = b.part; required = a.required }) else None)
+        → some q ≡ (if c then some {A = FieldPair} (record { key = a.key; left = a.part; right = b.part; required = a.required }) else None)
         → weight (part_view q.left) < weights vl
     at false f = absurd cc
     at true f =
-        subst (λ (z : Pair). weight (part_view z.left) < weights vl) (sym (some_same _ _ f))
+        subst (λ (z : FieldPair). weight (part_view z.left) < weights vl) (sym (some_same _ _ f))
         (lighter vl i a.key.now (part_view a.part) a.required rest hl)

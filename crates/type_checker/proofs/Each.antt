@@ -14,7 +14,7 @@ use Rattle.typing.specs.Faults.{Faults, FaultsEach}
 use Rattle.type_checker.specs.Views.{static_view}
 use Rattle.type_checker.specs.declared.static_type.StaticType.{StaticType}
 use Rattle.type_checker.specs.declared.fault.ExpressionFault.{ExpressionFault}
-use Rattle.type_capabilities.specs.declared.pair.Pair.{Pair}
+use Rattle.type_capabilities.specs.declared.pair.Capability.{Capability}
 use Rattle.type_checker.specs.declared.typed.Typed.{Typed}
 use Rattle.type_capabilities.specs.Pairs.{pair_of, pairs}
 use Rattle.type_checker.specs.inner.Judged.{Judged, JudgedBehind, AddsLearned, IsNext}
@@ -76,7 +76,7 @@ module _ (env : Environment) (K : Pairs) where
       (sym (map-append value (take i xs) (x ∷ [])) ∙ ap (map value) (with_it xs i x at)) (each_more g h))
 
 -- one behind pairs that were put on top of those that were known
-pub behind_judged : (env : Environment) (x : Expr) (K : Pairs) (ls : List Pair) (M : Pairs) (typed r : Result Typed ExpressionFault)
+pub behind_judged : (env : Environment) (x : Expr) (K : Pairs) (ls : List Capability) (M : Pairs) (typed r : Result Typed ExpressionFault)
     → Judged env (K ++ pairs ls) x typed M → AddsLearned ls typed r
     → JudgedBehind env K (pairs ls) x r (take (length K) M)
 behind_judged env x K ls M typed (Ok t) h (u, e, k, l) =

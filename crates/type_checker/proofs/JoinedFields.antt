@@ -8,7 +8,7 @@ use Rattle.type_checker.specs.inner.Rows.{paired}
 use Rattle.type_checker.specs.declared.type_joins.Join.{Join}
 use Rattle.type_checker.specs.declared.type_joins.Join.TheVariants as join
 use Rattle.type_checker.specs.declared.parts.FieldPart.{FieldPart}
-use Rattle.type_checker.specs.declared.parts.Pair.{Pair}
+use Rattle.type_checker.specs.declared.parts.FieldPair.{FieldPair}
 use Rattle.type_checker.proofs.FieldLists.{behind_past}
 
 abbrev some : {A : Type 0} → A → Option A
@@ -77,7 +77,7 @@ told_field k q t ts join.Wider join.Wider (Some s) None e h = none_there h.0
 told_field k q t ts join.Wider join.Wider (Some s) (Some us) e h = (refl, λ g. e.1 (type_same k q s t us ts g))
 
 -- two fields that go together
-step_told : (o p : Option FieldPart) (q : Pair) (j r : Join) (xs ys : FieldTypes) → some q ≡ paired o p
+step_told : (o p : Option FieldPart) (q : FieldPair) (j r : Join) (xs ys : FieldTypes) → some q ≡ paired o p
     → Tells j (part_view q.left) (common (part_view q.left) (part_view q.right)) → Tells r xs (common_fields xs ys)
     → Tells (join_with r j) (before o xs) (common_fields (before o xs) (before p ys))
 step_told None p q j r xs ys e h g = absurd cc
@@ -85,12 +85,12 @@ step_told (Some a) None q j r xs ys e h g = absurd cc
 step_told (Some a) (Some b) q j r xs ys e h g = at (bytes_eq a.key.now b.key.now && same_requirement a.required b.required) e
   where
     at : (c : Bool)
-        → some q ≡ (if c then some {A = Pair} (record { key = a.key; left = a.part; right = b.part; required = a.required }) else None)
+        → some q ≡ (if c then some {A = FieldPair} (record { key = a.key; left = a.part; right = b.part; required = a.required }) else None)
         → Tells (join_with r j) (field_type a.key.now (part_view a.part) a.required xs)
         (if c then field_before a.key.now a.required (common (part_view a.part) (part_view b.part)) (common_fields xs ys) else None)
     at false f = absurd cc
     at true f =
-        let told = subst (λ (z : Pair). Tells j (part_view z.left) (common (part_view z.left) (part_view z.right)))
+        let told = subst (λ (z : FieldPair). Tells j (part_view z.left) (common (part_view z.left) (part_view z.right)))
         (some_same _ _ f) h in
         told_field a.key.now a.required (part_view a.part) xs j r (common (part_view a.part) (part_view b.part)) (common_fields xs ys) told g
 
@@ -116,7 +116,7 @@ at_first vl vr join.Apart h = h
 at_first vl vr join.Left h = h
 at_first vl vr join.Wider h = h
 
-pub one_more : (vl vr : FieldTypes) (i n : ℕ) (o p : Option FieldPart) (q : Pair) (j s t : Join) → n ≡ suc i
+pub one_more : (vl vr : FieldTypes) (i n : ℕ) (o p : Option FieldPart) (q : FieldPair) (j s t : Join) → n ≡ suc i
     → SoFar s vl vr i → fields_behind i vl ≡ before o (fields_behind (suc i) vl)
     → fields_behind i vr ≡ before p (fields_behind (suc i) vr) → some q ≡ paired o p
     → Tells j (part_view q.left) (common (part_view q.left) (part_view q.right)) → t ≡ join_with j s → SoFar t vl vr n

@@ -3,23 +3,23 @@ use Rattle.std.proofs.Common.{◌≡◌, ◌+◌, ◌<◌, ℕ, List, [], ◌∷
 use Rattle.std.proofs.lemmas.List.{take_more, map-append}
 use Rattle.typing.specs.Learned as learned
 use Rattle.typing.specs.Learned.{Pairs, InBoth}
-use Rattle.type_capabilities.specs.declared.pair.Pair.{Pair}
+use Rattle.type_capabilities.specs.declared.pair.Capability.{Capability}
 use Rattle.type_capabilities.specs.Pairs.{pair_of, pairs}
 
 -- the pairs that both lists have, where one more of the first is looked at
 
-pub one_more_kept : {L M N : Pairs} (p : learned.Pair) → Contains M p → InBoth L M N → InBoth (L ++ p ∷ []) M (N ++ p ∷ [])
+pub one_more_kept : {L M N : Pairs} (p : learned.Capability) → Contains M p → InBoth L M N → InBoth (L ++ p ∷ []) M (N ++ p ∷ [])
 one_more_kept p c learned.both_none = learned.both_kept c learned.both_none
 one_more_kept p c (learned.both_kept d h) = learned.both_kept d (one_more_kept p c h)
 one_more_kept p c (learned.both_dropped n h) = learned.both_dropped n (one_more_kept p c h)
 
-pub one_more_dropped : {L M N : Pairs} (p : learned.Pair) → ¬ Contains M p → InBoth L M N → InBoth (L ++ p ∷ []) M N
+pub one_more_dropped : {L M N : Pairs} (p : learned.Capability) → ¬ Contains M p → InBoth L M N → InBoth (L ++ p ∷ []) M N
 one_more_dropped p c learned.both_none = learned.both_dropped c learned.both_none
 one_more_dropped p c (learned.both_kept d h) = learned.both_kept d (one_more_dropped p c h)
 one_more_dropped p c (learned.both_dropped n h) = learned.both_dropped n (one_more_dropped p c h)
 
 -- the pairs up to and with the one at this place
-pub up_to_here : (ps : List Pair) (i : ℕ) (x : Pair) → i < length ps → x ≡ get_or ps i x
+pub up_to_here : (ps : List Capability) (i : ℕ) (x : Capability) → i < length ps → x ≡ get_or ps i x
     → pairs (take i ps) ++ pair_of x ∷ [] ≡ pairs (take (i + 1) ps)
 up_to_here ps i x lt e =
     ap (λ y. pairs (take i ps) ++ pair_of y ∷ []) e

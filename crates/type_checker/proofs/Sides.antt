@@ -6,10 +6,10 @@ use Rattle.typing.specs.Learned.{Pairs, InBoth}
 use Rattle.type_checker.specs.Views.{boolean_view}
 use Rattle.type_checker.specs.declared.static_type.BooleanType.{BooleanType}
 use Rattle.type_checker.specs.declared.static_type.BooleanType.TheVariants as truth
-use Rattle.type_capabilities.specs.declared.pair.Pair.{Pair}
+use Rattle.type_capabilities.specs.declared.pair.Capability.{Capability}
 use Rattle.type_capabilities.specs.Pairs.{pairs}
 
-pub or_none : {b : BooleanType} {L M : Pairs} {ps : List Pair} → b ≡ truth.True → ps ≡ []
+pub or_none : {b : BooleanType} {L M : Pairs} {ps : List Capability} → b ≡ truth.True → ps ≡ []
     → learned.OrLearns (boolean_view b) L M (pairs ps)
 or_none {b} {L} {M} {ps} e f =
     subst (λ c. learned.OrLearns (boolean_view c) L M (pairs ps)) (sym e)

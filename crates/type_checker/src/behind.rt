@@ -12,7 +12,7 @@ use crate::known::stacked;
 use crate::typed::Typed;
 use grammar_core::Expr;
 use std::alloc::Global;
-use type_capabilities::Pair;
+use type_capabilities::Capability;
 
 /// Returns the type of an expression under these known capabilities, with the capabilities that it gains.
 ///
@@ -25,7 +25,7 @@ use type_capabilities::Pair;
 pub fn judge_behind<'a>(
     alloc: Global,
     env: TypingEnvironment<'a>,
-    known: &[Pair<'a>],
+    known: &[Capability<'a>],
     expr: &'a Expr,
 ) -> Result<Typed<'a>, ExpressionFault>
     ensures typed { IfOk result (λ t. Types (typing_environment env.entry) (pairs known.now) expr.entry.now

@@ -20,7 +20,7 @@ use crate::static_type::{BooleanType, StaticType};
 use crate::typed::Typed;
 use plain::NoMemory;
 use std::alloc::Global;
-use type_capabilities::Pair;
+use type_capabilities::Capability;
 
 /// Returns the type of `&&`, by those of its sides, the left of which may be true.
 pub(crate) fn and_truth(left: BooleanType, right: BooleanType) -> BooleanType
@@ -102,9 +102,9 @@ fn or_truth(right: BooleanType) -> BooleanType
 fn or_learns<'a>(
     alloc: Global,
     right: BooleanType,
-    of_left: Vec<Pair<'a>>,
-    of_right: &Vec<Pair<'a>>,
-) -> Result<Vec<Pair<'a>>, NoMemory>
+    of_left: Vec<Capability<'a>>,
+    of_right: &Vec<Capability<'a>>,
+) -> Result<Vec<Capability<'a>>, NoMemory>
     ensures { IfOk result (λ both. OrLearns (boolean_view right) (pairs of_left.entry.items)
         (pairs of_right.now.items) (pairs both.items)) }
 {
@@ -118,7 +118,7 @@ fn or_learns<'a>(
 /// Returns the judgement on `||`, whose left side may be true or false, and gains these capabilities.
 pub(crate) fn or_typed<'a>(
     alloc: Global,
-    left: Vec<Pair<'a>>,
+    left: Vec<Capability<'a>>,
     right: Result<Typed<'a>, ExpressionFault>,
 ) -> Result<Typed<'a>, ExpressionFault>
     ensures { (env : environment.Environment) (K after : Pairs) (a b : Expr)
@@ -170,8 +170,8 @@ fn branch_type<'a>(
 fn with_both<'a>(
     alloc: Global,
     kind: Result<StaticType<'a>, ExpressionFault>,
-    consequent: &Vec<Pair<'a>>,
-    alternative: &Vec<Pair<'a>>,
+    consequent: &Vec<Capability<'a>>,
+    alternative: &Vec<Capability<'a>>,
 ) -> Result<Typed<'a>, ExpressionFault>
     ensures { MatchResult result
         (λ t. (kind.entry ≡ Ok t.kind)

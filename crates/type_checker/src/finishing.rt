@@ -27,7 +27,7 @@ use crate::typed::{Typed, plain, typed_row};
 use grammar_core::{Binary, BinaryCall, Expr, Named, Unary, UnaryCall};
 use plain::NoMemory;
 use std::alloc::Global;
-use type_capabilities::{Capabilities, Pair};
+use type_capabilities::{Capabilities, Capability};
 
 /// Returns the judgement on an operator with its operand.
 pub(crate) fn unary_typed<'a>(
@@ -135,7 +135,7 @@ pub(crate) fn field_typed<'a>(
 /// Returns whether `has` of this type gains its capability: if it is neither known nor impossible.
 #[tactic(auto, using(crate::proofs::Carrying::none_learned))]
 fn is_learned(kind: &StaticType<'_>) -> bool
-    ensures { (p : learned.Pair) → has_learns (static_view kind.now) p ≡ if_learned result p }
+    ensures { (p : learned.Capability) → has_learns (static_view kind.now) p ≡ if_learned result p }
 {
     match kind.as_boolean() {
         Some(BooleanType::Either) => true,
@@ -151,13 +151,13 @@ fn learned<'a>(
     kind: &StaticType<'a>,
     owner: &'a Expr,
     name: &'a str,
-) -> Result<Vec<Pair<'a>>, NoMemory>
+) -> Result<Vec<Capability<'a>>, NoMemory>
     ensures { IfOk result (λ ps. pairs ps.items
         ≡ has_learns (static_view kind.now) (owner.entry.now, name.entry.now)) }
 {
     let mut learns = Vec::new(alloc);
     if is_learned(kind) {
-        learns.push(Pair { whole: owner, name })?;
+        learns.push(Capability { whole: owner, name })?;
     }
     Ok(learns)
 }

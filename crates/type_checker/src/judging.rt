@@ -25,7 +25,7 @@ use crate::typed::{Then, Typed, both, is_looked_at, learned_too, only, plain, tr
 use grammar_core::{Binary, BinaryCall, Expr, Named};
 use plain::{Items, Shared};
 use std::alloc::Global;
-use type_capabilities::{Capabilities, Pair};
+use type_capabilities::{Capabilities, Capability};
 
 /// Returns the judgement on an expression under these known capabilities. They are a stack, which is unchanged if
 /// there is a type.
@@ -87,7 +87,7 @@ fn type_behind<'a>(
     expr: &'a Shared<Expr>,
     env: TypingEnvironment<'a>,
     known: &mut Capabilities<'a>,
-    learns: Vec<Pair<'a>>,
+    learns: Vec<Capability<'a>>,
 ) -> Result<Typed<'a>, ExpressionFault>
     ensures { JudgedBehind (typing_environment env.entry) known.old (pairs learns.entry.items)
         expr.entry.now result known.new }

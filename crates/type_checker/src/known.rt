@@ -6,19 +6,19 @@ ghost use Rattle.type_capabilities.specs.Pairs.{pair_of, pairs};
 use grammar_core::Expr;
 use plain::NoMemory;
 use std::alloc::Global;
-use type_capabilities::{Capabilities, Pair};
+use type_capabilities::{Capabilities, Capability};
 
 /// Returns whether the capability is known.
 pub(crate) fn knows<'a>(known: &Capabilities<'a>, whole: &'a Expr, name: &'a str) -> bool
     ensures { IsTrue result ↔ Contains known.now (whole.entry.now, name.entry.now) }
 {
-    known.knows(&Pair { whole, name })
+    known.knows(&Capability { whole, name })
 }
 
 /// Appends the capability to those of both lists, if it is in the second.
 fn keep<'a>(
-    both: &mut Vec<Pair<'a>>,
-    pair: Pair<'a>,
+    both: &mut Vec<Capability<'a>>,
+    pair: Capability<'a>,
     right: &Capabilities<'a>,
 ) -> Result<(), NoMemory>
     ensures { (L : Pairs) → InBoth L right.now (pairs both.old.items)
@@ -34,9 +34,9 @@ fn keep<'a>(
 /// Returns those of the capabilities that are known.
 fn known_of<'a>(
     alloc: Global,
-    these: &[Pair<'a>],
+    these: &[Capability<'a>],
     known: &Capabilities<'a>,
-) -> Result<Vec<Pair<'a>>, NoMemory>
+) -> Result<Vec<Capability<'a>>, NoMemory>
     ensures { IfOk result (λ both. InBoth (pairs these.now) known.now (pairs both.items)) }
 {
     let mut both = Vec::new(alloc);
@@ -47,7 +47,10 @@ fn known_of<'a>(
 }
 
 /// Returns the capabilities as a stack, with a look-up for each.
-pub(crate) fn stacked<'a>(alloc: Global, these: &[Pair<'a>]) -> Result<Capabilities<'a>, NoMemory>
+pub(crate) fn stacked<'a>(
+    alloc: Global,
+    these: &[Capability<'a>],
+) -> Result<Capabilities<'a>, NoMemory>
     ensures { IfOk result (λ known. known ≡ pairs these.now) }
 {
     let mut known = Capabilities::new(alloc);
@@ -58,9 +61,9 @@ pub(crate) fn stacked<'a>(alloc: Global, these: &[Pair<'a>]) -> Result<Capabilit
 /// Returns the capabilities of the first list that are in the second too, which is made a stack for its look-ups.
 pub(crate) fn in_both<'a>(
     alloc: Global,
-    left: &[Pair<'a>],
-    right: &[Pair<'a>],
-) -> Result<Vec<Pair<'a>>, NoMemory>
+    left: &[Capability<'a>],
+    right: &[Capability<'a>],
+) -> Result<Vec<Capability<'a>>, NoMemory>
     ensures { IfOk result (λ both. InBoth (pairs left.now) (pairs right.now) (pairs both.items)) }
 {
     let known = stacked(alloc, right)?;
@@ -70,9 +73,9 @@ pub(crate) fn in_both<'a>(
 /// Returns the capabilities of the first list that are in the second too.
 pub(crate) fn in_both_lists<'a>(
     alloc: Global,
-    left: &Vec<Pair<'a>>,
-    right: &Vec<Pair<'a>>,
-) -> Result<Vec<Pair<'a>>, NoMemory>
+    left: &Vec<Capability<'a>>,
+    right: &Vec<Capability<'a>>,
+) -> Result<Vec<Capability<'a>>, NoMemory>
     ensures { IfOk result (λ both. InBoth (pairs left.now.items) (pairs right.now.items) (pairs both.items)) }
 {
     in_both(alloc, left.as_slice(), right.as_slice())
@@ -81,7 +84,7 @@ pub(crate) fn in_both_lists<'a>(
 /// Pushes gained capabilities onto the known ones.
 pub(crate) fn know_too<'a>(
     known: &mut Capabilities<'a>,
-    learns: &Vec<Pair<'a>>,
+    learns: &Vec<Capability<'a>>,
 ) -> Result<(), NoMemory>
     ensures { IfOk result (λ _. known.new ≡ known.old ++ pairs learns.now.items) }
 {
@@ -90,7 +93,10 @@ pub(crate) fn know_too<'a>(
 }
 
 /// Appends gained capabilities to those gained before.
-pub(crate) fn learn_too<'a>(learns: &mut Vec<Pair<'a>>, own: &Vec<Pair<'a>>) -> Result<(), NoMemory>
+pub(crate) fn learn_too<'a>(
+    learns: &mut Vec<Capability<'a>>,
+    own: &Vec<Capability<'a>>,
+) -> Result<(), NoMemory>
     ensures { IfOk result (λ _. learns.new.items ≡ learns.old.items ++ own.now.items) }
 {
     learns.extend_from_slice(own.as_slice())?;

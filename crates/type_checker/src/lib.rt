@@ -41,7 +41,7 @@ pub use laws::environments_are_well_behaved;
 pub use literal_types::{literal_type, record_literal_type, set_literal_type};
 pub use operators::{address_test_type, binary_type, call_type, unary_type};
 pub use static_type::{BooleanType, Leaf, StaticType};
-pub use type_capabilities::Pair;
+pub use type_capabilities::Capability;
 pub use typed::Typed;
 pub use typing::{
     expressions_have_one_judgement, parents_tell_ancestors, typed_expressions_are_sound,

@@ -43,7 +43,7 @@ pub(crate) struct FieldPart<'r, 'a> {
 
 /// Two fields of one key with the same requirement.
 #[derive(Clone, Copy)]
-pub(crate) struct Pair<'r, 's, 'a> {
+pub(crate) struct FieldPair<'r, 's, 'a> {
     pub(crate) key: &'a str,
     pub(crate) left: Part<'r, 'a>,
     pub(crate) right: Part<'s, 'a>,

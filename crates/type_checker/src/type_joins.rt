@@ -7,7 +7,7 @@ ghost use Rattle.type_checker.specs.inner.Joins.{Tells, join_with};
 ghost use Rattle.type_checker.specs.inner.Parts.{part_view, fields_view};
 ghost use Rattle.type_checker.specs.inner.Rows.{paired};
 
-use crate::parts::{FieldPart, Fields, Pair, Part, TypeKind};
+use crate::parts::{FieldPair, FieldPart, Fields, Part, TypeKind};
 use crate::same_types::same_fields;
 use crate::static_type::{BooleanType, Leaf};
 
@@ -87,14 +87,14 @@ fn join_of_leaves(left: Leaf<'_>, right: Leaf<'_>) -> Join
 pub(crate) fn paired<'r, 's, 'a>(
     left: Option<FieldPart<'r, 'a>>,
     right: Option<FieldPart<'s, 'a>>,
-) -> Option<Pair<'r, 's, 'a>>
+) -> Option<FieldPair<'r, 's, 'a>>
     ensures { result ≡ paired left.entry right.entry }
 {
     match left {
         Some(a) => match right {
             Some(b) => {
                 if a.key == b.key && a.required == b.required {
-                    Some(Pair {
+                    Some(FieldPair {
                         key: a.key,
                         left: a.part,
                         right: b.part,

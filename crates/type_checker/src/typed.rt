@@ -9,7 +9,7 @@ use crate::fault::ExpressionFault;
 use crate::known::learn_too;
 use crate::static_type::{BooleanType, StaticType};
 use std::alloc::Global;
-use type_capabilities::Pair;
+use type_capabilities::Capability;
 
 /// The type of an expression, and the capabilities that it gains.
 #[derive(Drop)]
@@ -17,7 +17,7 @@ pub struct Typed<'a> {
     /// Its type.
     pub kind: StaticType<'a>,
     /// The capabilities that are known if it is true.
-    pub learns: Vec<Pair<'a>>,
+    pub learns: Vec<Capability<'a>>,
 }
 
 /// The judgement on an `if` up to its `then`.
@@ -75,7 +75,7 @@ pub(crate) fn typed_row<'a>(
 
 /// Returns the judgement with these gained capabilities in front of its own.
 pub(crate) fn learned_too<'a>(
-    learns: Vec<Pair<'a>>,
+    learns: Vec<Capability<'a>>,
     typed: Result<Typed<'a>, ExpressionFault>,
 ) -> Result<Typed<'a>, ExpressionFault>
     ensures { AddsLearned learns.entry.items typed.entry result }

@@ -6,7 +6,7 @@ use Rattle.evaluator.specs.grammar_core.declared.expr.Expr.{Expr}
 use Rattle.typing.specs.Types.{StaticType}
 use Rattle.typing.specs.Environment.{Environment, ExpressionFault}
 use Rattle.typing.specs.Learned
-use Rattle.typing.specs.Learned.{Pair, Pairs, InBoth, OrLearns, has_learns}
+use Rattle.typing.specs.Learned.{Capability, Pairs, InBoth, OrLearns, has_learns}
 use Rattle.typing.specs.Typing
 use Rattle.typing.specs.Typing.{Types, TypesEach}
 use Rattle.typing.specs.Faults
@@ -16,7 +16,7 @@ use Rattle.std.proofs.lemmas.List.Elements.{Contains-append_cases}
 use Rattle.plain.proofs.Members.{Contains-here, Contains-there, Contains-cases, Contains-none}
 use Rattle.typing.proofs.KnownPairs.{in_both, in_both_holds}
 
-pub both_members : {L M N : Pairs} → InBoth L M N → (p : Pair) → Contains N p → Contains L p × Contains M p
+pub both_members : {L M N : Pairs} → InBoth L M N → (p : Capability) → Contains N p → Contains L p × Contains M p
 both_members Learned.both_none p c = Contains-none p c
 both_members (Learned.both_kept {p = x} {left = L} {right = M} {both = N} m h) p c = elim (Contains-cases x N p c) [
   | inl e ↦ (subst (λ y. Contains (x ∷ L) y) e (Contains-here x L), subst (λ y. Contains M y) e m)
@@ -24,7 +24,7 @@ both_members (Learned.both_kept {p = x} {left = L} {right = M} {both = N} m h) p
 ]
 both_members (Learned.both_dropped {p = x} {left = L} {right = M} {both = N} n h) p c = let r = both_members h p c in (Contains-there x L p r.0, r.1)
 
-members_both : {L M N : Pairs} → InBoth L M N → (p : Pair) → Contains L p → Contains M p → Contains N p
+members_both : {L M N : Pairs} → InBoth L M N → (p : Capability) → Contains L p → Contains M p → Contains N p
 members_both Learned.both_none p c d = c
 members_both (Learned.both_kept {p = x} {left = L} {right = M} {both = N} m h) p c d = elim (Contains-cases x L p c) [
   | inl e ↦ subst (λ y. Contains (x ∷ N) y) e (Contains-here x N)
@@ -35,19 +35,19 @@ members_both (Learned.both_dropped {p = x} {left = L} {right = M} {both = N} n h
   | inr l ↦ members_both h p l d
 ]
 
-joined_first : (K L : Pairs) (p : Pair) → Contains K p → Contains (K ++ L) p
+joined_first : (K L : Pairs) (p : Capability) → Contains K p → Contains (K ++ L) p
 joined_first [] L p c = Contains-none p c
 joined_first (x ∷ K) L p c = elim (Contains-cases x K p c) [
   | inl e ↦ subst (λ y. Contains (x ∷ (K ++ L)) y) e (Contains-here x (K ++ L))
   | inr m ↦ Contains-there x (K ++ L) p (joined_first K L p m)
 ]
 
-joined_second : (K L : Pairs) (p : Pair) → Contains L p → Contains (K ++ L) p
+joined_second : (K L : Pairs) (p : Capability) → Contains L p → Contains (K ++ L) p
 joined_second [] L p c = c
 joined_second (x ∷ K) L p c = Contains-there x (K ++ L) p (joined_second K L p c)
 
-one_way : (K L M N : Pairs) → ((p : Pair) → Contains K p → Contains M p) → ((p : Pair) → Contains L p → Contains N p)
-    → (p : Pair) → Contains (K ++ L) p → Contains (M ++ N) p
+one_way : (K L M N : Pairs) → ((p : Capability) → Contains K p → Contains M p) → ((p : Capability) → Contains L p → Contains N p)
+    → (p : Capability) → Contains (K ++ L) p → Contains (M ++ N) p
 one_way K L M N f g p c = elim (Contains-append_cases K L p c) [
   | inl k ↦ joined_first M N p (f p k)
   | inr l ↦ joined_second M N p (g p l)
@@ -73,7 +73,7 @@ or_alike s t Learned.or_learns_none = ([], itself [], Learned.or_learns_none)
 or_alike {P} s t Learned.or_learns_left = (P, s, Learned.or_learns_left)
 or_alike {P} {Q} s t (Learned.or_learns_both h) = (in_both P Q, in_both_alike s t h, Learned.or_learns_both (in_both_holds P Q))
 
-known_alike : {K M : Pairs} (p : Pair) (r : Bool) → AreSamePairs K M → Decides r (Contains K p) → Decides r (Contains M p)
+known_alike : {K M : Pairs} (p : Capability) (r : Bool) → AreSamePairs K M → Decides r (Contains K p) → Decides r (Contains M p)
 known_alike p r s d = (λ e. s.there p (d.0 e), λ c. d.1 (s.back p c))
 
 module _ (env : Environment) where

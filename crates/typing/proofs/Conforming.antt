@@ -21,7 +21,7 @@ use Rattle.typing.specs.Types.{StaticType, declared_as, field_declared_at}
 use Rattle.typing.specs.Membership
 use Rattle.typing.specs.Membership.{Of, FieldOf}
 use Rattle.typing.specs.Conforming.{Conforms}
-use Rattle.typing.specs.Learned.{Pair}
+use Rattle.typing.specs.Learned.{Capability}
 use Rattle.typing.specs.Literals.{IsUnsettled}
 use Rattle.typing.specs.Rows
 use Rattle.typing.specs.Typing
@@ -158,10 +158,10 @@ something_conforms = (conforms, λ u a m. has_parents u a (edge u a m))
 unsettled : (a b : Expr) → IsUnsettled environment binary.Less a b
 unsettled a b r s = elim s [ ]
 
-nothing_known : (p : Pair) → Decides false (Contains [] p)
+nothing_known : (p : Capability) → Decides false (Contains [] p)
 nothing_known p = ((λ e. absurd (false≢true e)), (λ c. Contains-none p c))
 
-principal_age : Pair
+principal_age : Capability
 principal_age = (form.Variable variable.Principal, codes "age")
 
 age_known : Decides true (Contains (principal_age ∷ []) principal_age)

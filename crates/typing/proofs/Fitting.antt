@@ -23,7 +23,7 @@ use Rattle.evaluator.specs.Outcomes.{EvaluationResult, IsTruthOf, IsChecked}
 use Rattle.evaluator.specs.ancestor_search.Hierarchy.{IsIn}
 use Rattle.evaluator.specs.evaluator_steps.Attributes
 use Rattle.evaluator.specs.Operators
-use Rattle.evaluator.specs.Operators.{World, UnaryGives, BinaryGives, FieldGives, HasGives, UnaryCallGives}
+use Rattle.evaluator.specs.Operators.{Entities, UnaryGives, BinaryGives, FieldGives, HasGives, UnaryCallGives}
 use Rattle.evaluator.specs.Operators.{BinaryCallGives, TakesAddress, TakesDecimals}
 use Rattle.typing.specs.Types
 use Rattle.typing.specs.Types.{StaticType, Declared, field_declared_at, common, truth_type}
@@ -110,7 +110,7 @@ unary_fits (unary.Is n) h g = is_fits n h g
 
 -- ---- two operands
 
-equal_tells : {W : World} {v w : PlainValue} {r : EvaluationResult} → BinaryGives W binary.Equal v w r → IsTruthOf (v ≡ w) r
+equal_tells : {W : Entities} {v w : PlainValue} {r : EvaluationResult} → BinaryGives W binary.Equal v w r → IsTruthOf (v ≡ w) r
 equal_tells (Operators.equal t) = t
 equal_tells (Operators.of_numbers n) = absurd n
 equal_tells (Operators.no_numbers i e) = absurd i
@@ -124,50 +124,50 @@ equal_row (Membership.of_entity {u = a} {n = m} e) (Membership.of_entity {u = b}
     no_more (bytes_eq m n) (λ p. (bytes_eq-Decides m n).1 (sym e ∙ (ap (λ u. u.type_name) (same_entity p) ∙ f))) k
 equal_row {s} {t} h g k = common_fits (common s t) k
 
-less_fits : {W : World} (env : Environment) {v w : PlainValue} {s t : StaticType} {r : EvaluationResult} → Of v s → Of w t → BinaryGives W binary.Less v w r → FitsRow (Rows.binary_type env binary.Less s t) r
+less_fits : {W : Entities} (env : Environment) {v w : PlainValue} {s t : StaticType} {r : EvaluationResult} → Of v s → Of w t → BinaryGives W binary.Less v w r → FitsRow (Rows.binary_type env binary.Less s t) r
 less_fits env Membership.of_long Membership.of_long (Operators.of_numbers n) = truth_fits n
 less_fits env Membership.of_long Membership.of_long (Operators.no_numbers i e) = neither e
 less_fits env Membership.of_long Membership.of_long (Operators.no_sets i e) = absurd i
 less_fits env h g k = tt
 
-less_or_equal_fits : {W : World} (env : Environment) {v w : PlainValue} {s t : StaticType} {r : EvaluationResult} → Of v s → Of w t → BinaryGives W binary.LessOrEqual v w r → FitsRow (Rows.binary_type env binary.LessOrEqual s t) r
+less_or_equal_fits : {W : Entities} (env : Environment) {v w : PlainValue} {s t : StaticType} {r : EvaluationResult} → Of v s → Of w t → BinaryGives W binary.LessOrEqual v w r → FitsRow (Rows.binary_type env binary.LessOrEqual s t) r
 less_or_equal_fits env Membership.of_long Membership.of_long (Operators.of_numbers n) = truth_fits n
 less_or_equal_fits env Membership.of_long Membership.of_long (Operators.no_numbers i e) = neither e
 less_or_equal_fits env Membership.of_long Membership.of_long (Operators.no_sets i e) = absurd i
 less_or_equal_fits env h g k = tt
 
-add_fits : {W : World} (env : Environment) {v w : PlainValue} {s t : StaticType} {r : EvaluationResult} → Of v s → Of w t → BinaryGives W binary.Add v w r → FitsRow (Rows.binary_type env binary.Add s t) r
+add_fits : {W : Entities} (env : Environment) {v w : PlainValue} {s t : StaticType} {r : EvaluationResult} → Of v s → Of w t → BinaryGives W binary.Add v w r → FitsRow (Rows.binary_type env binary.Add s t) r
 add_fits env Membership.of_long Membership.of_long (Operators.of_numbers n) = comes_fits n
 add_fits env Membership.of_long Membership.of_long (Operators.no_numbers i e) = neither e
 add_fits env Membership.of_long Membership.of_long (Operators.no_sets i e) = absurd i
 add_fits env h g k = tt
 
-subtract_fits : {W : World} (env : Environment) {v w : PlainValue} {s t : StaticType} {r : EvaluationResult} → Of v s → Of w t → BinaryGives W binary.Subtract v w r → FitsRow (Rows.binary_type env binary.Subtract s t) r
+subtract_fits : {W : Entities} (env : Environment) {v w : PlainValue} {s t : StaticType} {r : EvaluationResult} → Of v s → Of w t → BinaryGives W binary.Subtract v w r → FitsRow (Rows.binary_type env binary.Subtract s t) r
 subtract_fits env Membership.of_long Membership.of_long (Operators.of_numbers n) = comes_fits n
 subtract_fits env Membership.of_long Membership.of_long (Operators.no_numbers i e) = neither e
 subtract_fits env Membership.of_long Membership.of_long (Operators.no_sets i e) = absurd i
 subtract_fits env h g k = tt
 
-multiply_fits : {W : World} (env : Environment) {v w : PlainValue} {s t : StaticType} {r : EvaluationResult} → Of v s → Of w t → BinaryGives W binary.Multiply v w r → FitsRow (Rows.binary_type env binary.Multiply s t) r
+multiply_fits : {W : Entities} (env : Environment) {v w : PlainValue} {s t : StaticType} {r : EvaluationResult} → Of v s → Of w t → BinaryGives W binary.Multiply v w r → FitsRow (Rows.binary_type env binary.Multiply s t) r
 multiply_fits env Membership.of_long Membership.of_long (Operators.of_numbers n) = comes_fits n
 multiply_fits env Membership.of_long Membership.of_long (Operators.no_numbers i e) = neither e
 multiply_fits env Membership.of_long Membership.of_long (Operators.no_sets i e) = absurd i
 multiply_fits env h g k = tt
 
-contains_fits : {W : World} (env : Environment) {v w : PlainValue} {s t : StaticType} {r : EvaluationResult} → Of v s → Of w t → BinaryGives W binary.Contains v w r → FitsRow (Rows.binary_type env binary.Contains s t) r
+contains_fits : {W : Entities} (env : Environment) {v w : PlainValue} {s t : StaticType} {r : EvaluationResult} → Of v s → Of w t → BinaryGives W binary.Contains v w r → FitsRow (Rows.binary_type env binary.Contains s t) r
 contains_fits env {t} (Membership.of_set {t = s} h) g (Operators.contains k) = common_fits (common s t) k
 contains_fits env (Membership.of_set h) g (Operators.other_contains e) = none_there e
 contains_fits env (Membership.of_set h) g (Operators.no_numbers i e) = absurd i
 contains_fits env (Membership.of_set h) g (Operators.no_sets i e) = absurd i
 contains_fits env h g k = tt
 
-contains_all_fits : {W : World} (env : Environment) {v w : PlainValue} {s t : StaticType} {r : EvaluationResult} → Of v s → Of w t → BinaryGives W binary.ContainsAll v w r → FitsRow (Rows.binary_type env binary.ContainsAll s t) r
+contains_all_fits : {W : Entities} (env : Environment) {v w : PlainValue} {s t : StaticType} {r : EvaluationResult} → Of v s → Of w t → BinaryGives W binary.ContainsAll v w r → FitsRow (Rows.binary_type env binary.ContainsAll s t) r
 contains_all_fits env (Membership.of_set {t = s} h) (Membership.of_set {t} g) (Operators.contains_all k) = common_fits (common s t) k
 contains_all_fits env (Membership.of_set h) (Membership.of_set g) (Operators.no_numbers i e) = absurd i
 contains_all_fits env (Membership.of_set h) (Membership.of_set g) (Operators.no_sets i e) = neither e
 contains_all_fits env h g k = tt
 
-contains_any_fits : {W : World} (env : Environment) {v w : PlainValue} {s t : StaticType} {r : EvaluationResult} → Of v s → Of w t → BinaryGives W binary.ContainsAny v w r → FitsRow (Rows.binary_type env binary.ContainsAny s t) r
+contains_any_fits : {W : Entities} (env : Environment) {v w : PlainValue} {s t : StaticType} {r : EvaluationResult} → Of v s → Of w t → BinaryGives W binary.ContainsAny v w r → FitsRow (Rows.binary_type env binary.ContainsAny s t) r
 contains_any_fits env (Membership.of_set {t = s} h) (Membership.of_set {t} g) (Operators.contains_any k) = common_fits (common s t) k
 contains_any_fits env (Membership.of_set h) (Membership.of_set g) (Operators.no_numbers i e) = absurd i
 contains_any_fits env (Membership.of_set h) (Membership.of_set g) (Operators.no_sets i e) = neither e
@@ -187,7 +187,7 @@ entity_named (Membership.of_entity e) = e
 no_entity : {v : PlainValue} {n : List ℕ} {G : Type 0} → Of v (Types.entity_type n) → Outcomes.entity_uid_in v ≡ None → G
 no_entity (Membership.of_entity e) f = none_there f
 
-module _ (env : Environment) (W : World) (q : Request) (C : Conforms env W q) where
+module _ (env : Environment) (W : Entities) (q : Request) (C : Conforms env W q) where
   -- where an entity is in another their types allow it
   in_allowed : (a b : EntityUid) → IsIn W.parents a b → may_be_in env a.type_name b.type_name ≡ true
   in_allowed a b (inl e) =

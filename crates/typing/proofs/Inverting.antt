@@ -11,13 +11,13 @@ use Rattle.evaluator.specs.grammar_core.declared.expr.Expr.TheViews.{out-Expr}
 use Rattle.evaluator.specs.grammar_core.declared.expr.Expr.TheOpen.{Expr-F}
 use Rattle.evaluator.specs.declared.fault.EvalFault.{EvalFault}
 use Rattle.evaluator.specs.Outcomes.{EvaluationResult}
-use Rattle.evaluator.specs.Operators.{World, UnaryGives, BinaryGives, FieldGives, HasGives, UnaryCallGives}
+use Rattle.evaluator.specs.Operators.{Entities, UnaryGives, BinaryGives, FieldGives, HasGives, UnaryCallGives}
 use Rattle.evaluator.specs.Operators.{BinaryCallGives}
 use Rattle.evaluator.specs.Evaluation as rule
 use Rattle.evaluator.specs.Evaluation.{EvaluatesTo, TestFails, EachEvaluatesTo, HasOperands, literal_value}
 use Rattle.evaluator.specs.Evaluation.{variable_value, put_each}
 
-module _ (W : World) (q : Request) where
+module _ (W : Entities) (q : Request) where
   pub data IfGives (a b c : Expr) : EvaluationResult → Type 0 where
     then_gives : {r : EvaluationResult} → EvaluatesTo W q a (Ok (boolean true)) → EvaluatesTo W q b r → IfGives a b c r
     else_gives : {r : EvaluationResult} → EvaluatesTo W q a (Ok (boolean false)) → EvaluatesTo W q c r → IfGives a b c r

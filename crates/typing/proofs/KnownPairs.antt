@@ -8,32 +8,32 @@ use Rattle.values.specs.extensions.inner.Deciding.{decided_as, both_decided, tex
 use Rattle.typing.specs.Types
 use Rattle.typing.specs.Types.{StaticType}
 use Rattle.typing.specs.Learned
-use Rattle.typing.specs.Learned.{Pair, Pairs, InBoth, OrLearns}
+use Rattle.typing.specs.Learned.{Capability, Pairs, InBoth, OrLearns}
 use Rattle.typing.proofs.Same.{two, same_decided}
 use Rattle.typing.proofs.Members.{told_iff, contains_decided, told_not}
 
-pair_of : Expr → List ℕ → Pair
+pair_of : Expr → List ℕ → Capability
 pair_of x k = (x, k)
 
-pair_decided : (p q : Pair) → Decided (p ≡ q)
+pair_decided : (p q : Capability) → Decided (p ≡ q)
 unfolding pair_of
 pair_decided p q =
     decided_as (λ e. two pair_of e.0 e.1) (λ e. (ap (λ x. x.0) e, ap (λ x. x.1) e))
     (both_decided (same_decided p.0 q.0) (text_decided p.1 q.1))
 
-pub known : (K : Pairs) (p : Pair) → Decided (Contains K p)
+pub known : (K : Pairs) (p : Capability) → Decided (Contains K p)
 known K p = contains_decided pair_decided K p
 
-abbrev pub knows : Pairs → Pair → Bool
+abbrev pub knows : Pairs → Capability → Bool
 knows K p = told (known K p)
 
-pub knows_is : (K : Pairs) (p : Pair) (r : Bool) → Decides r (Contains K p) → knows K p ≡ r
+pub knows_is : (K : Pairs) (p : Capability) (r : Bool) → Decides r (Contains K p) → knows K p ≡ r
 knows_is K p r h = one_answer (knows K p) r (told_iff (known K p)) h
 
-pub knows_holds : (K : Pairs) (p : Pair) → Decides (knows K p) (Contains K p)
+pub knows_holds : (K : Pairs) (p : Capability) → Decides (knows K p) (Contains K p)
 knows_holds K p = told_iff (known K p)
 
-abbrev pub kept : Bool → Pair → Pairs → Pairs
+abbrev pub kept : Bool → Capability → Pairs → Pairs
 kept true p L = p ∷ L
 kept false p L = L
 
@@ -48,7 +48,7 @@ in_both_is (Learned.both_kept {p} {left = L} {right = M} {both = N} c h) =
 in_both_is (Learned.both_dropped {p} {left = L} {right = M} {both = N} n h) =
     ap (λ b. kept b p (in_both L M)) (told_not (known M p) n) ∙ in_both_is h
 
-keep : (p : Pair) (L M N : Pairs) (d : Decided (Contains M p)) → InBoth L M N → InBoth (p ∷ L) M (kept (told d) p N)
+keep : (p : Capability) (L M N : Pairs) (d : Decided (Contains M p)) → InBoth L M N → InBoth (p ∷ L) M (kept (told d) p N)
 keep p L M N (inl c) h = Learned.both_kept c h
 keep p L M N (inr n) h = Learned.both_dropped n h
 

@@ -10,7 +10,7 @@ pub mod Judging
 pub mod KnownPairs
 pub mod Members
 pub mod Policies
-pub mod Right
+pub mod Sound
 pub mod Same
 pub mod SettledByLiterals
 pub mod Tests

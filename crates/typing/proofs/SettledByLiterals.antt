@@ -25,7 +25,7 @@ use Rattle.evaluator.specs.Outcomes
 use Rattle.evaluator.specs.Outcomes.{EvaluationResult, IsTruthOf}
 use Rattle.evaluator.specs.ancestor_search.Hierarchy.{IsIn}
 use Rattle.evaluator.specs.Operators
-use Rattle.evaluator.specs.Operators.{World, BinaryGives, UnaryCallGives}
+use Rattle.evaluator.specs.Operators.{Entities, BinaryGives, UnaryCallGives}
 use Rattle.evaluator.specs.Evaluation as rule
 use Rattle.evaluator.specs.Evaluation.{EvaluatesTo, EachEvaluatesTo, literal_value}
 use Rattle.evaluator.specs.Laws.{HasOneOutcome}
@@ -52,7 +52,7 @@ never h = absurd (cc)
 pub Ok-same : {v w : PlainValue} → (let m : EvaluationResult = Ok v in m ≡ Ok w) → v ≡ w
 Ok-same e = cc
 
-module _ (env : Environment) (W : World) (q : Request) (C : Conforms env W q) (one : (x : Expr) → HasOneOutcome W q x) where
+module _ (env : Environment) (W : Entities) (q : Request) (C : Conforms env W q) (one : (x : Expr) → HasOneOutcome W q x) where
   literal_gives : {x : Expr} {l : Literal} {r : EvaluationResult} → IsLiteral env x l → EvaluatesTo W q x r → r ≡ Ok (literal_value l)
   literal_gives (Literals.stated {l}) g = layer W q (Expr-F.Literal l) (form.outs-Literal l) g
   literal_gives Literals.action g = layer W q (Expr-F.Variable variable.Action) (form.outs-Variable variable.Action) g ∙ ap (λ u. Ok (entity u)) C.action

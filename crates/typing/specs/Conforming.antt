@@ -13,17 +13,17 @@ use Rattle.evaluator.specs.grammar_core.declared.expr.Expr.TheVariants as form
 use Rattle.evaluator.specs.declared.fault.EvalFault.{EvalFault}
 use Rattle.evaluator.specs.declared.fault.EvalFault.TheVariants.{EntityDoesNotExist, ArithBoundsError}
 use Rattle.evaluator.specs.Outcomes.{EvaluationResult}
-use Rattle.evaluator.specs.Operators.{World}
+use Rattle.evaluator.specs.Operators.{Entities}
 use Rattle.evaluator.specs.Evaluation.{EvaluatesTo}
 use Rattle.typing.specs.Types.{StaticType, record_type}
 use Rattle.typing.specs.Membership.{Of}
 use Rattle.typing.specs.Environment.{Environment}
-use Rattle.typing.specs.Learned.{Pair, Pairs}
+use Rattle.typing.specs.Learned.{Capability, Pairs}
 
 -- `Conforms env W q` holds if the request `q` is of the environment's kind, the attributes of each stored entity are
 -- those of its type, the ancestors of an action are those that the schema states, and those of another entity are of
 -- types that may be ancestor types of its own.
-pub record Conforms (env : Environment) (W : World) (q : Request) : Type 0 where
+pub record Conforms (env : Environment) (W : Entities) (q : Request) : Type 0 where
   pub principal : q.principal.type_name ≡ env.principal
   pub action : q.action ≡ env.action
   pub resource : q.resource.type_name ≡ env.resource
@@ -46,14 +46,15 @@ Fits t (Ok v) = Of v t
 Fits t (Err e) = IsPermittedError e
 
 -- `IsPresent W q p` holds if the expression of the capability `p` has its field.
-abbrev pub IsPresent : World → Request → Pair → Type 0
+abbrev pub IsPresent : Entities → Request → Capability → Type 0
 IsPresent W q p = EvaluatesTo W q (form.Has p.0 p.1) (Ok (boolean true))
 
 -- `ArePresent W q K` holds if each capability of `K` holds.
-pub record ArePresent (W : World) (q : Request) (K : Pairs) : Type 0 where
-  pub each : (p : Pair) → Contains K p → IsPresent W q p
+pub record ArePresent (W : Entities) (q : Request) (K : Pairs) : Type 0 where
+  pub each : (p : Capability) → Contains K p → IsPresent W q p
 
 -- `IsSoundOutcome W q t L r` holds if `r` fits the type `t`, and each capability of `L` holds if `r` is true.
-pub record IsSoundOutcome (W : World) (q : Request) (t : StaticType) (L : Pairs) (r : EvaluationResult) : Type 0 where
+pub record IsSoundOutcome (W : Entities) (q : Request) (t : StaticType) (L : Pairs) (r : EvaluationResult)
+    : Type 0 where
   pub fits : Fits t r
   pub learned : r ≡ Ok (boolean true) → ArePresent W q L

@@ -14,10 +14,10 @@ use Rattle.evaluator.specs.grammar_core.declared.leaf.Variable.TheVariants.{Prin
 use Rattle.evaluator.specs.grammar_core.declared.operator.Binary.TheVariants.{Less}
 use Rattle.evaluator.specs.grammar_core.declared.expr.Expr.{Expr}
 use Rattle.evaluator.specs.grammar_core.declared.expr.Expr.TheVariants as form
-use Rattle.evaluator.specs.Operators.{World}
+use Rattle.evaluator.specs.Operators.{Entities}
 use Rattle.typing.specs.Types.{FieldTypes, no_field_types, field_type, boolean_type, long_type}
 use Rattle.typing.specs.Environment.{Environment}
-use Rattle.typing.specs.Learned.{Pair}
+use Rattle.typing.specs.Learned.{Capability}
 
 -- `uid type_name id` is the uid of these parts.
 abbrev pub uid : List ℕ → List ℕ → EntityUid
@@ -71,7 +71,7 @@ stored u =
     else (if is_eq (uid_cmp plan u) then Some [] else None)
 
 -- `world` has these attributes and parents.
-abbrev pub world : World
+abbrev pub world : Entities
 world = record { stored = stored; parents = parents }
 
 -- `request` is the request: its sender is known.
@@ -79,7 +79,7 @@ abbrev pub request : Request
 request = record { principal = alice; action = view; resource = plan; context = (codes "known", boolean true) ∷ [] }
 
 -- the capability that the principal has an age
-abbrev pub age_of_principal : Pair
+abbrev pub age_of_principal : Capability
 age_of_principal = (form.Variable Principal, codes "age")
 
 -- `principal has age`

@@ -8,11 +8,11 @@ use Rattle.evaluator.specs.ancestor_search.Decided.{Decides, HaveAllParents}
 use Rattle.evaluator.specs.grammar_core.declared.expr.Expr.{Expr}
 use Rattle.evaluator.specs.grammar_core.declared.expr.Expr.TheVariants as form
 use Rattle.evaluator.specs.Outcomes.{EvaluationResult}
-use Rattle.evaluator.specs.Operators.{World}
+use Rattle.evaluator.specs.Operators.{Entities}
 use Rattle.evaluator.specs.Evaluation.{EvaluatesTo}
 use Rattle.typing.specs.Types.{StaticType, false_type, boolean_type, IsBoolean}
 use Rattle.typing.specs.Environment.{Environment, ExpressionFault, attribute_may_be_missing}
-use Rattle.typing.specs.Learned.{Pair, Pairs}
+use Rattle.typing.specs.Learned.{Capability, Pairs}
 use Rattle.typing.specs.Ordered.{IsOrdered, HasOrderedTypes}
 use Rattle.typing.specs.Typing.{Types}
 use Rattle.typing.specs.Faults.{Faults}
@@ -28,8 +28,8 @@ HaveOneJudgement = (env : Environment) (K : Pairs) (x : Expr)
 
 -- `AreSamePairs K M` holds if `K` and `M` have the same capabilities.
 pub record AreSamePairs (K M : Pairs) : Type 0 where
-  pub there : (p : Pair) → Contains K p → Contains M p
-  pub back : (p : Pair) → Contains M p → Contains K p
+  pub there : (p : Capability) → Contains K p → Contains M p
+  pub back : (p : Capability) → Contains M p → Contains K p
 
 -- `KnownPairsAreASet`: judgements see the known capabilities as a set: whatever their order and repeats, an
 -- expression has the same type and the same error, and gains the same capabilities.
@@ -44,27 +44,28 @@ abbrev pub TypesAreOrdered : Type 0
 TypesAreOrdered = (env : Environment) → HasOrderedTypes env → (K L : Pairs) (x : Expr) (t : StaticType)
     → Types env K x t L → IsOrdered t
 
--- `GoRightIn W` holds if typing is sound in `W`: if a request and the entities conform and each known capability
+-- `AreSoundIn W` holds if typing is sound in `W`: if a request and the entities conform and each known capability
 -- holds, each outcome of an expression of type `t` is a value of `t` or one of two errors, and if it is true each
 -- gained capability holds.
-abbrev pub GoRightIn : World → Type 0
-GoRightIn W = (env : Environment) (q : Request) → Conforms env W q → (K L : Pairs) (x : Expr) (t : StaticType)
+abbrev pub AreSoundIn : Entities → Type 0
+AreSoundIn W = (env : Environment) (q : Request) → Conforms env W q → (K L : Pairs) (x : Expr) (t : StaticType)
     → ArePresent W q K → Types env K x t L → (r : EvaluationResult) → EvaluatesTo W q x r → IsSoundOutcome W q t L r
 
--- `TypedGoesRight`: typing is sound if a test decides the ancestor relation.
-abbrev pub TypedGoesRight : Type 0
-TypedGoesRight = (W : World) (above : EntityUid → EntityUid → Bool) → Decides W.parents above → GoRightIn W
+-- `TypedIsSound`: typing is sound if a test decides the ancestor relation.
+abbrev pub TypedIsSound : Type 0
+TypedIsSound = (W : Entities) (above : EntityUid → EntityUid → Bool) → Decides W.parents above → AreSoundIn W
 
--- `TypedGoesRightInFiniteHierarchies`: typing is sound if finitely many entities have parents.
-abbrev pub TypedGoesRightInFiniteHierarchies : Type 0
-TypedGoesRightInFiniteHierarchies = (W : World) (stored : List EntityUid) → HaveAllParents W.parents stored
-    → GoRightIn W
+-- `TypedIsSoundInFiniteHierarchies`: typing is sound if finitely many entities have parents.
+abbrev pub TypedIsSoundInFiniteHierarchies : Type 0
+TypedIsSoundInFiniteHierarchies = (W : Entities) (stored : List EntityUid) → HaveAllParents W.parents stored
+    → AreSoundIn W
 
--- `PoliciesGoRight`: an expression of boolean type, without known capabilities, gives a boolean or one of the two
+-- `PoliciesAreSound`: an expression of boolean type, without known capabilities, gives a boolean or one of the two
 -- errors, and never true if its type is False.
-abbrev pub PoliciesGoRight : Type 0
-PoliciesGoRight = (W : World) (above : EntityUid → EntityUid → Bool) → Decides W.parents above → (env : Environment)
-    (q : Request) → Conforms env W q → (x : Expr) (t : StaticType) (L : Pairs) → IsBoolean t → Types env [] x t L
+abbrev pub PoliciesAreSound : Type 0
+PoliciesAreSound = (W : Entities) (above : EntityUid → EntityUid → Bool) → Decides W.parents above
+    → (env : Environment) (q : Request) → Conforms env W q → (x : Expr) (t : StaticType) (L : Pairs) → IsBoolean t
+    → Types env [] x t L
     → (r : EvaluationResult) → EvaluatesTo W q x r → Fits boolean_type r × (t ≡ false_type → r ≢ Ok (boolean true))
 
 -- `SomethingConforms`: the example conforms, where two entities have parents.

@@ -1,7 +1,7 @@
 //! Theorems about the definitions. The functions are no-ops.
-ghost use Rattle.typing.specs.Laws.{HaveOneJudgement, KnownPairsAreASet, TypesAreOrdered, TypedGoesRight};
-ghost use Rattle.typing.specs.Laws.{TypedGoesRightInFiniteHierarchies, ParentsTellAncestors};
-ghost use Rattle.typing.specs.Laws.{PoliciesGoRight, SomethingConforms, SomethingIsTyped, SomethingIsFaulty};
+ghost use Rattle.typing.specs.Laws.{HaveOneJudgement, KnownPairsAreASet, TypesAreOrdered, TypedIsSound};
+ghost use Rattle.typing.specs.Laws.{TypedIsSoundInFiniteHierarchies, ParentsTellAncestors};
+ghost use Rattle.typing.specs.Laws.{PoliciesAreSound, SomethingConforms, SomethingIsTyped, SomethingIsFaulty};
 
 use evaluator::expressions_have_one_outcome;
 
@@ -30,9 +30,9 @@ pub fn types_are_ordered()
 /// type, `EntityDoesNotExist` or `ArithBoundsError`; and if it gives true, each capability that it gains holds. So a
 /// policy's condition of boolean type gives a boolean or one of these errors, and is never true if its type is False.
 pub fn typed_expressions_are_sound()
-    ensures decided { TypedGoesRight }
-    ensures finite { TypedGoesRightInFiniteHierarchies }
-    ensures policies { PoliciesGoRight }
+    ensures decided { TypedIsSound }
+    ensures finite { TypedIsSoundInFiniteHierarchies }
+    ensures policies { PoliciesAreSound }
 {
     expressions_have_one_outcome();
 }

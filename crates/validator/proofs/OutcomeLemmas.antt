@@ -19,7 +19,7 @@ use Rattle.type_checker.specs.typing.Typing
 use Rattle.type_checker.specs.typing.Typing.{Types}
 use Rattle.type_checker.specs.typing.Faults.{Faults}
 use Rattle.type_checker.specs.typing.Judgement.{Judgement, typed, faulty, Judges}
-use Rattle.type_checker.specs.typing.Laws.{HaveOneJudgement, PoliciesGoRight}
+use Rattle.type_checker.specs.typing.Laws.{HaveOneJudgement, PoliciesAreSound}
 use Rattle.type_checker.specs.FromSchemas.{typing_environment_of}
 use Rattle.validator.specs.declared.fault.TypeFault.{TypeFault}
 use Rattle.validator.specs.Faults.{of_typing}
@@ -29,7 +29,7 @@ use Rattle.validator.specs.Passing
 use Rattle.validator.specs.Passing.{environments_of, HasType, HasBooleanType, FirstFaulty, Passes, IsCheckRefused}
 use Rattle.validator.specs.Outcomes
 use Rattle.validator.specs.Outcomes.{CheckResult, IsCheckResult, PoliciesHaveOneOutcome, NoEnvironmentIsImpossible}
-use Rattle.validator.specs.Outcomes.{PassingPoliciesGoRight, PassingIsNotRefused}
+use Rattle.validator.specs.Outcomes.{PassingPoliciesAreSound, PassingIsNotRefused}
 use Rattle.validator.specs.inner.Walking.{WalkResult, names_told}
 use Rattle.validator.proofs.KnownLemmas.{ReportsNames, names_tell, one_first, none_first}
 
@@ -229,7 +229,7 @@ no_environment_is_impossible s policy e h = record {
 
 -- ---- what passes goes right
 
-pub passing_policies_are_sound : HaveOneJudgement → PoliciesGoRight → PassingPoliciesGoRight
+pub passing_policies_are_sound : HaveOneJudgement → PoliciesAreSound → PassingPoliciesAreSound
 passing_policies_are_sound one right s policy passes W above D env m q C r g =
     let h = All-contains (HasBooleanType (expression_of policy)) (environments_of s) env passes.typed m in
     let k = right W above D env q C (expression_of policy) h.0 h.2.0 h.1 h.2.1 r g in (

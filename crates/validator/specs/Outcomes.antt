@@ -7,7 +7,7 @@ use Rattle.type_checker.specs.ancestor_search.Decided as hierarchy
 use Rattle.type_checker.specs.policy_grammar.declared.policy.Policy.{Policy}
 use Rattle.type_checker.specs.policy_grammar.Whole.{expression_of}
 use Rattle.type_checker.specs.schema.Schemas.{StatedSchema}
-use Rattle.type_checker.specs.evaluator.Operators.{World}
+use Rattle.type_checker.specs.evaluator.Operators.{Entities}
 use Rattle.type_checker.specs.evaluator.Outcomes as evaluation
 use Rattle.type_checker.specs.evaluator.Evaluation.{EvaluatesTo}
 use Rattle.type_checker.specs.typing.Types.{boolean_type}
@@ -46,9 +46,9 @@ NoEnvironmentIsImpossible = (s : StatedSchema) (policy : Policy) → s.environme
 -- Validation is sound: if the request and the entities conform to an environment of the schema, each result of a
 -- passing policy's expression is a boolean, `EntityDoesNotExist` or `ArithBoundsError`; if the policy is impossible,
 -- it is never true.
-abbrev pub PassingPoliciesGoRight : Type 0
-PassingPoliciesGoRight = (s : StatedSchema) (policy : Policy) → Passes s policy
-    → (W : World) (above : EntityUid → EntityUid → Bool) → hierarchy.Decides W.parents above
+abbrev pub PassingPoliciesAreSound : Type 0
+PassingPoliciesAreSound = (s : StatedSchema) (policy : Policy) → Passes s policy
+    → (W : Entities) (above : EntityUid → EntityUid → Bool) → hierarchy.Decides W.parents above
     → (env : Environment) → Contains (environments_of s) env → (q : Request) → Conforms env W q
     → (r : evaluation.EvaluationResult) → EvaluatesTo W q (expression_of policy) r
     → Fits boolean_type r × (IsImpossible s policy → r ≢ Ok (boolean true))

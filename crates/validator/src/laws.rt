@@ -1,6 +1,6 @@
 //! Theorems about the definitions; their functions do nothing.
 ghost use Rattle.validator.specs.Outcomes.{PoliciesHaveOneOutcome, NoEnvironmentIsImpossible};
-ghost use Rattle.validator.specs.Outcomes.{PassingIsNotRefused, PassingPoliciesGoRight};
+ghost use Rattle.validator.specs.Outcomes.{PassingIsNotRefused, PassingPoliciesAreSound};
 
 use type_checker::{expressions_have_one_judgement, typed_expressions_are_sound};
 
@@ -18,7 +18,7 @@ pub fn policies_have_one_outcome()
 /// Proves that validation is sound: on a request and entities that conform, a policy that passes gives a boolean,
 /// `EntityDoesNotExist` or `ArithBoundsError`; one that is impossible never gives true. No-op.
 pub fn passing_policies_are_sound()
-    ensures { PassingPoliciesGoRight }
+    ensures { PassingPoliciesAreSound }
 {
     expressions_have_one_judgement();
     typed_expressions_are_sound();

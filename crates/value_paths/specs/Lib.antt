@@ -6,3 +6,5 @@ pub mod Pointers
 pub mod TypePaths
 pub mod Laws
 pub mod inner
+-- Specifications of lower crates, re-exported.
+pub use Rattle.entities.specs as entities

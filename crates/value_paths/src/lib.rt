@@ -15,6 +15,7 @@ mod steps;
 mod type_paths;
 mod wholes;
 
+pub use entities::Schema;
 pub use entity_paths::entity_fault;
 pub use laws::{
     rejected_entities_have_one_path, rejected_requests_have_one_path, rejected_values_have_one_path,

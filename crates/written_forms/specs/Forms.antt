@@ -12,7 +12,7 @@ use Rattle.grammar_trees.specs.declared.tree.Access.{Access}
 use Rattle.grammar_trees.specs.declared.tree.Access.TheVariants as access
 use Rattle.grammar_trees.specs.declared.tree.Comparison.{Comparison}
 use Rattle.grammar_trees.specs.declared.tree.Comparison.TheVariants as is
-use Rattle.grammar_trees.specs.declared.tree.Entry.{Entry}
+use Rattle.grammar_trees.specs.declared.tree.RecordEntry.{RecordEntry}
 use Rattle.grammar_trees.specs.declared.tree.Term.{Term}
 use Rattle.grammar_trees.specs.declared.tree.ExprTree.{ExprTree}
 use Rattle.grammar_trees.specs.declared.tree.ExprTree.TheOpen.{ExprTree-F as tree}
@@ -103,7 +103,7 @@ row_at items ts i =
     option_map (λ b. whole b (drop (each_count (map tree_count (take i items))) ts)) (slice_get items i)
 
 -- `entry_at entries ts i` is the value of entry i of a record: behind the entries before it, its key and its colon.
-abbrev pub entry_at : List (Entry ExprTree) → List Token → ℕ → Option Form
+abbrev pub entry_at : List (RecordEntry ExprTree) → List Token → ℕ → Option Form
 entry_at entries ts i =
     option_map (λ e. whole e.value (drop 2 (drop (each_count (map entry_count (take i entries))) ts)))
     (slice_get entries i)

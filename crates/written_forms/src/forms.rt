@@ -5,7 +5,7 @@ ghost use Rattle.grammar_trees.specs.declared.tree.ExprTree.{ExprTree};
 ghost use Rattle.grammar_trees.specs.declared.tree.ExprTree.TheViews.{out-ExprTree};
 ghost use Rattle.written_forms.specs.Forms as spec;
 
-use grammar_trees::{Access, Comparison, Entry, ExprTree, PathTree, Term, Token};
+use grammar_trees::{Access, Comparison, ExprTree, PathTree, RecordEntry, Term, Token};
 use plain::Items;
 use token_counts::{
     behind_accesses, behind_each, behind_entries, behind_path, behind_terms, behind_tree, skip,
@@ -183,7 +183,7 @@ fn row_operand<'a>(items: &'a [ExprTree], tokens: &'a [Token], index: usize) -> 
 
 /// Returns the value of an entry of a record.
 fn entry_operand<'a>(
-    entries: &'a [Entry<ExprTree>],
+    entries: &'a [RecordEntry<ExprTree>],
     tokens: &'a [Token],
     index: usize,
 ) -> Option<Form<'a>>

@@ -8,7 +8,7 @@ use Rattle.evaluator.specs.ancestor_search.Hierarchy.{Parents, IsAllAbove, IsAsc
 use Rattle.grammar_core.specs.declared.expr.Expr.{Expr}
 use Rattle.scope_index.specs.policy_grammar.declared.policy.Scope.{Scope}
 use Rattle.scope_index.specs.policy_grammar.declared.policy.Effect.TheVariants.{Permit, Forbid}
-use Rattle.evaluator.specs.Operators.{World}
+use Rattle.evaluator.specs.Operators.{Entities}
 use Rattle.evaluator.specs.Evaluation.{EvaluatesTo, TestFails}
 use Rattle.authoriser.specs.declared.answer.ErringPolicy.{ErringPolicy}
 use Rattle.authoriser.specs.declared.others.Other.{Other}
@@ -46,23 +46,23 @@ pub record AllHaveTheirAncestors (parents : Parents) (s : RequestEntities) : Typ
 
 -- `HasItsAttributes W entity p` holds if `p` has the stored attributes of `entity`; an entity that is not stored has
 -- no parents.
-pub record HasItsAttributes (W : World) (entity : EntityUid) (p : KnownEntity) : Type 0 where
+pub record HasItsAttributes (W : Entities) (entity : EntityUid) (p : KnownEntity) : Type 0 where
   pub given : option_map (λ r. r.now) p.attributes ≡ W.stored entity
   pub alone : MatchOption p.attributes (W.parents entity ≡ []) (λ _. ⊤)
 
 -- `HasRequestAttributes W q s` holds if each of `s` has the stored attributes of that entity of `q`.
-pub record HasRequestAttributes (W : World) (q : Request) (s : RequestEntities) : Type 0 where
+pub record HasRequestAttributes (W : Entities) (q : Request) (s : RequestEntities) : Type 0 where
   pub principal : HasItsAttributes W q.principal s.principal
   pub action : HasItsAttributes W q.action s.action
   pub resource : HasItsAttributes W q.resource s.resource
 
 -- `AreLookedUp W q s` holds if `s` are the request's three entities as they are in `W`.
-pub record AreLookedUp (W : World) (q : Request) (s : RequestEntities) : Type 0 where
+pub record AreLookedUp (W : Entities) (q : Request) (s : RequestEntities) : Type 0 where
   pub ancestors : HasRequestAncestors W.parents q s
   pub attributes : HasRequestAttributes W q s
 
 -- `AllHaveTheirAttributes W s` holds if each of the three entities has its stored attributes.
-pub record AllHaveTheirAttributes (W : World) (s : RequestEntities) : Type 0 where
+pub record AllHaveTheirAttributes (W : Entities) (s : RequestEntities) : Type 0 where
   pub principal : HasItsAttributes W s.principal.uid.now s.principal
   pub action : HasItsAttributes W s.action.uid.now s.action
   pub resource : HasItsAttributes W s.resource.uid.now s.resource
@@ -83,7 +83,7 @@ abbrev pub HaveAllAbove : Parents → AncestorMemo → Type 0
 HaveAllAbove parents others = All (HasAllAbove parents) others.kept.items
 
 -- `IsKnown W q s others` holds if the three entities `s` and the memo `others` agree with `W`.
-pub record IsKnown (W : World) (q : Request) (s : RequestEntities) (others : AncestorMemo) : Type 0 where
+pub record IsKnown (W : Entities) (q : Request) (s : RequestEntities) (others : AncestorMemo) : Type 0 where
   pub three : AreLookedUp W q s
   pub rest : HaveAllAbove W.parents others
 
@@ -95,7 +95,7 @@ IsTrueOf scope s =
     × IsEntityScopeTrue (IsWithin s.resource) scope.resource s.resource.uid.now
 
 -- `ConditionEvaluatesTo W q x outcome` holds if `outcome` is the result of the condition `x`.
-abbrev pub ConditionEvaluatesTo : World → Request → Expr → Outcome → Type 0
+abbrev pub ConditionEvaluatesTo : Entities → Request → Expr → Outcome → Type 0
 ConditionEvaluatesTo W q x Satisfied = EvaluatesTo W q x (Ok (boolean true))
 ConditionEvaluatesTo W q x NotSatisfied = EvaluatesTo W q x (Ok (boolean false))
 ConditionEvaluatesTo W q x (Errs error) = TestFails W q x (fault_of error)

@@ -6,7 +6,7 @@ use Rattle.values.specs.declared.entity_uid.EntityUid.{EntityUid}
 use Rattle.values.specs.declared.request.Request.{Request}
 use Rattle.json_words.specs.ReadsAs.{◌>>=◌, demand, Fails}
 use Rattle.entity_data.specs.ancestor_search.Decided.{is_same}
-use Rattle.entity_data.specs.evaluator.Operators.{World}
+use Rattle.entity_data.specs.evaluator.Operators.{Entities}
 use Rattle.entity_data.specs.declared.entity.Entity.{Entity}
 use Rattle.entity_data.specs.Entities.{with_actions, world_in}
 use Rattle.entity_data.specs.Keeping.{Entries, kept_in}
@@ -25,7 +25,7 @@ abbrev pub Holds : Entries → List Entity → Type 0
 Holds store es = (q : EntityUid) → kept_in store q ≡ stated es q
 
 -- `world_held r store` is the entity data of a store, with the declared actions.
-abbrev pub world_held : Reading → Entries → World
+abbrev pub world_held : Reading → Entries → Entities
 world_held r store = world_in (with_actions r.actions (kept_in store))
 
 -- `is_among uid es` tests whether one of the entities `es` has the uid `uid`.
@@ -58,13 +58,13 @@ ReadsStore (Ok store) read = Keeps read store
 ReadsStore (Err refusal) read = Fails no_memory refusal read
 
 -- `IsLineIn policies W asked line` holds if `line` is that of the answer over these policies and the entities of `W`.
-pub record IsLineIn (policies : List NamedPolicy) (W : World) (asked : Request) (line : List ℕ) : Type 0 where
+pub record IsLineIn (policies : List NamedPolicy) (W : Entities) (asked : Request) (line : List ℕ) : Type 0 where
   pub answer : Answer
   pub answers : IsAnswerTo policies W asked answer
   pub line_is : line ≡ answer_line answer
 
 -- `IsLineTo r policies W request line` is the same, for the request that a text states.
-pub record IsLineTo (r : Reading) (policies : List NamedPolicy) (W : World) (request line : List ℕ) : Type 0 where
+pub record IsLineTo (r : Reading) (policies : List NamedPolicy) (W : Entities) (request line : List ℕ) : Type 0 where
   pub asked : Request
   pub question : IsRequestText r request asked
   pub told : IsLineIn policies W asked line

@@ -5,18 +5,18 @@ use Rattle.values.specs.declared.request.Request.{Request}
 use Rattle.ancestor_search.specs.Decided.{Decides}
 use Rattle.grammar_core.specs.declared.expr.Expr.{Expr}
 use Rattle.evaluator.specs.Outcomes.{EvaluationResult}
-use Rattle.evaluator.specs.Operators.{World}
+use Rattle.evaluator.specs.Operators.{Entities}
 use Rattle.evaluator.specs.Evaluation.{EvaluatesTo}
 use Rattle.evaluator.specs.inner.Computing.{decided_world, meaning}
 
 -- `GivesOnly W q x m` holds if `m` is the only outcome of `x`.
-pub record GivesOnly (W : World) (q : Request) (x : Expr) (m : EvaluationResult) : Type 0 where
+pub record GivesOnly (W : Entities) (q : Request) (x : Expr) (m : EvaluationResult) : Type 0 where
   pub given : EvaluatesTo W q x m
   pub only : (r : EvaluationResult) → EvaluatesTo W q x r → r ≡ m
 
 -- `MeaningsAreGiven`: if a test decides the ancestor relation, the computed meaning of each expression is its only
 -- outcome.
 abbrev pub MeaningsAreGiven : Type 0
-MeaningsAreGiven = (W : World) (above : EntityUid → EntityUid → Bool) → Decides W.parents above
+MeaningsAreGiven = (W : Entities) (above : EntityUid → EntityUid → Bool) → Decides W.parents above
     → (q : Request) (x : Expr) →
     GivesOnly W q x (meaning q (decided_world W.stored above) x)

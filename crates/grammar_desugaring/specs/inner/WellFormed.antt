@@ -8,7 +8,7 @@ use Rattle.grammar_trees.specs.grammar_tokens.declared.tree.PathTree.{PathTree}
 use Rattle.grammar_trees.specs.grammar_tokens.declared.tree.UidTree.{UidTree}
 use Rattle.grammar_trees.specs.declared.tree.Access.{Access}
 use Rattle.grammar_trees.specs.declared.tree.Access.TheVariants as access
-use Rattle.grammar_trees.specs.declared.tree.Entry.{Entry}
+use Rattle.grammar_trees.specs.declared.tree.RecordEntry.{RecordEntry}
 use Rattle.grammar_trees.specs.declared.tree.KeyTree.{KeyTree}
 use Rattle.grammar_trees.specs.declared.tree.KeyTree.TheVariants.{Word, Quoted}
 use Rattle.grammar_trees.specs.declared.tree.Term.{Term}
@@ -48,7 +48,7 @@ abbrev pub AllWellFormed : List ℕ → List ExprTree → Type 0
 AllWellFormed text = AllByRecursion (WellFormed text)
 
 -- `WellFormedEntry text entry` holds if the key and the value of a record's entry are well formed.
-pub record WellFormedEntry (text : List ℕ) (entry : Entry ExprTree) : Type 0 where
+pub record WellFormedEntry (text : List ℕ) (entry : RecordEntry ExprTree) : Type 0 where
   pub key : KeyIn text entry.key
   pub value : WellFormed text entry.value
 

@@ -7,7 +7,7 @@ use Rattle.std.specs.List.{list_any}
 use Rattle.std.specs.Str.{IsCharBoundary}
 use Rattle.grammar_tokens.specs.declared.token.TokenKind.{TokenKind}
 use Rattle.grammar_tokens.specs.declared.token.TokenKind.TheVariants.{StarText}
-use Rattle.grammar_tokens.specs.declared.token.Found.{Found}
+use Rattle.grammar_tokens.specs.declared.token.ScannedToken.{ScannedToken}
 use Rattle.grammar_tokens.specs.declared.piece.Piece.{Piece}
 use Rattle.grammar_tokens.specs.declared.piece.Piece.TheVariants.{Byte, Char, Star}
 use Rattle.grammar_tokens.specs.declared.piece.Escape.{Escape}
@@ -18,7 +18,7 @@ use Rattle.grammar_tokens.specs.Strings.{bytes_of, is_wildcard}
 -- ## Tokens at the front of a text
 
 -- `IsFirst found text` holds if `found` is the token at the front of `text`.
-pub record IsFirst (found : Found) (text : List ℕ) : Type 0 where
+pub record IsFirst (found : ScannedToken) (text : List ℕ) : Type 0 where
   pub w : List ℕ
   pub rest : List ℕ
   pub cut : text ≡ w ++ rest
@@ -26,22 +26,22 @@ pub record IsFirst (found : Found) (text : List ℕ) : Type 0 where
   pub len : length w ≡ found.len
 
 -- `ReportsToken text o` holds if `o` is the token at the front of `text`, or `None` if no token starts there.
-abbrev pub ReportsToken : List ℕ → Option Found → Type 0
+abbrev pub ReportsToken : List ℕ → Option ScannedToken → Type 0
 ReportsToken text None = NoToken text
 ReportsToken text (Some found) = IsFirst found text
 
 -- `sized n k` is a token of kind `k`, if there is one, of `n` bytes.
-abbrev pub sized : ℕ → Option TokenKind → Option Found
+abbrev pub sized : ℕ → Option TokenKind → Option ScannedToken
 sized n None = None
 sized n (Some k) = Some (record { kind = k; len = n })
 
 -- `first_found o other` is the token `o`, or `other` if there is none.
-abbrev pub first_found : Option Found → Option Found → Option Found
+abbrev pub first_found : Option ScannedToken → Option ScannedToken → Option ScannedToken
 first_found None other = other
 first_found (Some f) other = Some f
 
 -- `mark_of text` is the punctuation at the front of `text`: one of two bytes, else one of one byte.
-abbrev pub mark_of : List ℕ → Option Found
+abbrev pub mark_of : List ℕ → Option ScannedToken
 mark_of [] = None
 mark_of (c ∷ []) = sized 1 (listed singles (c ∷ []))
 mark_of (c ∷ d ∷ rest) = first_found (sized 2 (listed pairs (c ∷ d ∷ []))) (sized 1 (listed singles (c ∷ [])))

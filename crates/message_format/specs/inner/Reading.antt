@@ -8,12 +8,12 @@ use Rattle.stamped_store.specs.Store.{Update as PlainUpdate, issued}
 use Rattle.message_format.specs.declared.fault.MessageFault.{MessageFault}
 use Rattle.message_format.specs.Summaries.{judged}
 use Rattle.message_format.specs.declared.bodies.BodyFault.{BodyFault}
-use Rattle.message_format.specs.declared.stated.Stated.{Stated}
+use Rattle.message_format.specs.declared.stated.ReadEntry.{ReadEntry}
 use Rattle.message_format.specs.declared.update.Update.{Update}
 use Rattle.message_format.specs.Updates.{plain_update, stamped, IsUpdateRead, IsValid, IsFaultAt}
 
 -- `stated_update s` is the update that the entry `s` states.
-abbrev pub stated_update : Stated → PlainUpdate
+abbrev pub stated_update : ReadEntry → PlainUpdate
 stated_update s = (s.stamped.0, issued s.stamped.1 s.body)
 
 -- `IsBodyReadAs Reads body t` holds if `t` is `body` with a value of its text by `Reads`.

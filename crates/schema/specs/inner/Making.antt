@@ -12,7 +12,7 @@ use Rattle.schema_types.specs.Mentions.{IsClosed}
 use Rattle.schema_types.specs.Outcome.{TypeRefused}
 use Rattle.schema_types.specs.declared.fault.SchemaFault.{SchemaFault}
 use Rattle.schema_types.specs.declared.cedar.CedarType.{CedarType}
-use Rattle.schema_names.specs.Qualifying.{FoundEntityType, FoundUse, FoundAction}
+use Rattle.schema_names.specs.Qualifying.{ResolvedEntityType, ResolvedUse, ResolvedAction}
 use Rattle.schema.specs.declared.parts.Place.{Place}
 use Rattle.schema.specs.declared.parts.EntityDecl.{EntityDecl}
 use Rattle.schema.specs.Places.{place_cmp, place_of}
@@ -47,35 +47,35 @@ shape_in shapes n = option_map (λ d. cedar_view d.shape) (get text_cmp shapes n
 -- ---- shapes
 
 -- `ShapeMay commons e n d` holds if `n` is the name of `e`, and `d` has its shape.
-abbrev pub ShapeMay : Declarations → FoundEntityType → List ℕ → EntityDecl → Type 0
+abbrev pub ShapeMay : Declarations → ResolvedEntityType → List ℕ → EntityDecl → Type 0
 ShapeMay commons e n d = (e.name ≡ n) × IsRecordOf commons e.shape (cedar_view d.shape)
 
 -- `ShapeMust e n` holds if `n` is the name of `e`.
-abbrev pub ShapeMust : FoundEntityType → List ℕ → Type 0
+abbrev pub ShapeMust : ResolvedEntityType → List ℕ → Type 0
 ShapeMust e n = e.name ≡ n
 
 -- `AddsShape commons e old new` holds if the shape of `e` was added, within the limits.
-abbrev pub AddsShape : Declarations → FoundEntityType → BTreeMap (List ℕ) EntityDecl → BTreeMap (List ℕ) EntityDecl
+abbrev pub AddsShape : Declarations → ResolvedEntityType → BTreeMap (List ℕ) EntityDecl → BTreeMap (List ℕ) EntityDecl
     → Type 0
 AddsShape commons e old new =
     Adds (ShapeMay commons e) (ShapeMust e) (IsWrittenAt commons e.shape) (get text_cmp old) (get text_cmp new)
 
 -- `AddsShapes commons es old new` holds if the shapes of `es` were added, within the limits.
-abbrev pub AddsShapes : Declarations → List FoundEntityType → BTreeMap (List ℕ) EntityDecl
+abbrev pub AddsShapes : Declarations → List ResolvedEntityType → BTreeMap (List ℕ) EntityDecl
     → BTreeMap (List ℕ) EntityDecl → Type 0
 AddsShapes commons es old new =
     AddsEach (ShapeMay commons) ShapeMust (λ e. IsWrittenAt commons e.shape) es (get text_cmp old) (get text_cmp new)
 
 -- `AreShapesClosed commons es` holds if each common type that is named in a shape is declared.
-abbrev pub AreShapesClosed : Declarations → List FoundEntityType → Type 0
-AreShapesClosed commons es = (e : FoundEntityType) → Contains es e → IsClosedAt commons e.shape
+abbrev pub AreShapesClosed : Declarations → List ResolvedEntityType → Type 0
+AreShapesClosed commons es = (e : ResolvedEntityType) → Contains es e → IsClosedAt commons e.shape
 
 -- `SomeShapeIsRefused commons es f` holds if `f` is the error of some shape.
-abbrev pub SomeShapeIsRefused : Declarations → List FoundEntityType → SchemaFault → Type 0
-SomeShapeIsRefused commons es f = (e : FoundEntityType) × Contains es e × IsRefusedAt commons e.shape f
+abbrev pub SomeShapeIsRefused : Declarations → List ResolvedEntityType → SchemaFault → Type 0
+SomeShapeIsRefused commons es f = (e : ResolvedEntityType) × Contains es e × IsRefusedAt commons e.shape f
 
 -- `AreShapes commons es shapes` holds if these are exactly the shapes of these entity types.
-abbrev pub AreShapes : Declarations → List FoundEntityType → BTreeMap (List ℕ) EntityDecl → Type 0
+abbrev pub AreShapes : Declarations → List ResolvedEntityType → BTreeMap (List ℕ) EntityDecl → Type 0
 AreShapes commons es shapes =
     AddsEach (ShapeMay commons) ShapeMust (λ e. IsWrittenAt commons e.shape) es (λ n. None) (get text_cmp shapes)
 
@@ -114,85 +114,85 @@ AddsPrincipals action context resources principals old new =
     (λ p. AllTold (λ r. ⊤) resources) principals (get place_cmp old) (get place_cmp new)
 
 -- `UseMust action u p` holds if `p` is a place of what the action applies to.
-abbrev pub UseMust : EntityUid → FoundUse → Place → Type 0
+abbrev pub UseMust : EntityUid → ResolvedUse → Place → Type 0
 UseMust action u p = (action ≡ p.action) × Contains u.principals p.principal × Contains u.resources p.resource
 
 -- `UseMay commons action u p c` holds if it is one, and `c` is its context.
-abbrev pub UseMay : Declarations → EntityUid → FoundUse → Place → CedarType → Type 0
+abbrev pub UseMay : Declarations → EntityUid → ResolvedUse → Place → CedarType → Type 0
 UseMay commons action u p c = UseMust action u p × IsRecordOf commons u.context (cedar_view c)
 
 -- `AddsUse commons action u old new` holds if these places were added, with a context within the limits.
-abbrev pub AddsUse : Declarations → EntityUid → FoundUse → Places → Places → Type 0
+abbrev pub AddsUse : Declarations → EntityUid → ResolvedUse → Places → Places → Type 0
 AddsUse commons action u old new =
     Adds (UseMay commons action u) (UseMust action u) (IsWrittenAt commons u.context)
     (get place_cmp old) (get place_cmp new)
 
 -- `ActionMust a p` holds if `p` is a place of the action `a`.
-abbrev pub ActionMust : FoundAction → Place → Type 0
-ActionMust a p = (u : FoundUse) × (a.applies_to ≡ Some u) × UseMust a.uid u p
+abbrev pub ActionMust : ResolvedAction → Place → Type 0
+ActionMust a p = (u : ResolvedUse) × (a.applies_to ≡ Some u) × UseMust a.uid u p
 
 -- `ActionMay commons a p c` holds if it is one, and `c` is its context.
-abbrev pub ActionMay : Declarations → FoundAction → Place → CedarType → Type 0
-ActionMay commons a p c = (u : FoundUse) × (a.applies_to ≡ Some u) × UseMay commons a.uid u p c
+abbrev pub ActionMay : Declarations → ResolvedAction → Place → CedarType → Type 0
+ActionMay commons a p c = (u : ResolvedUse) × (a.applies_to ≡ Some u) × UseMay commons a.uid u p c
 
 -- `IsContextWritten commons a` holds if the context of `a`, if it has one, is within the limits.
-abbrev pub IsContextWritten : Declarations → FoundAction → Type 0
-IsContextWritten commons a = (u : FoundUse) → a.applies_to ≡ Some u → IsWrittenAt commons u.context
+abbrev pub IsContextWritten : Declarations → ResolvedAction → Type 0
+IsContextWritten commons a = (u : ResolvedUse) → a.applies_to ≡ Some u → IsWrittenAt commons u.context
 
 -- `IsContextClosed commons a` holds if each common type that is named in the context of `a` is declared.
-abbrev pub IsContextClosed : Declarations → FoundAction → Type 0
-IsContextClosed commons a = (u : FoundUse) → a.applies_to ≡ Some u → IsClosedAt commons u.context
+abbrev pub IsContextClosed : Declarations → ResolvedAction → Type 0
+IsContextClosed commons a = (u : ResolvedUse) → a.applies_to ≡ Some u → IsClosedAt commons u.context
 
 -- `IsContextRefused commons a f` holds if `f` is the error of the context of `a`.
-abbrev pub IsContextRefused : Declarations → FoundAction → SchemaFault → Type 0
-IsContextRefused commons a f = (u : FoundUse) × (a.applies_to ≡ Some u) × IsRefusedAt commons u.context f
+abbrev pub IsContextRefused : Declarations → ResolvedAction → SchemaFault → Type 0
+IsContextRefused commons a f = (u : ResolvedUse) × (a.applies_to ≡ Some u) × IsRefusedAt commons u.context f
 
 -- `AddsAction commons a old new` holds if the places of `a` were added.
-abbrev pub AddsAction : Declarations → FoundAction → Places → Places → Type 0
+abbrev pub AddsAction : Declarations → ResolvedAction → Places → Places → Type 0
 AddsAction commons a old new =
     Adds (ActionMay commons a) (ActionMust a) (IsContextWritten commons a) (get place_cmp old) (get place_cmp new)
 
 -- `AddsActions commons us old new` holds if the places of the actions `us` were added.
-abbrev pub AddsActions : Declarations → List FoundAction → Places → Places → Type 0
+abbrev pub AddsActions : Declarations → List ResolvedAction → Places → Places → Type 0
 AddsActions commons us old new =
     AddsEach (ActionMay commons) ActionMust (IsContextWritten commons) us (get place_cmp old) (get place_cmp new)
 
 -- `AreContextsClosed commons us` holds if each common type that is named in their contexts is declared.
-abbrev pub AreContextsClosed : Declarations → List FoundAction → Type 0
-AreContextsClosed commons us = (a : FoundAction) → Contains us a → IsContextClosed commons a
+abbrev pub AreContextsClosed : Declarations → List ResolvedAction → Type 0
+AreContextsClosed commons us = (a : ResolvedAction) → Contains us a → IsContextClosed commons a
 
 -- `SomeContextIsRefused commons us f` holds if `f` is the error of some context.
-abbrev pub SomeContextIsRefused : Declarations → List FoundAction → SchemaFault → Type 0
-SomeContextIsRefused commons us f = (a : FoundAction) × Contains us a × IsContextRefused commons a f
+abbrev pub SomeContextIsRefused : Declarations → List ResolvedAction → SchemaFault → Type 0
+SomeContextIsRefused commons us f = (a : ResolvedAction) × Contains us a × IsContextRefused commons a f
 
 -- `ArePlaces commons us places` holds if these are exactly the places of these actions.
-abbrev pub ArePlaces : Declarations → List FoundAction → Places → Type 0
+abbrev pub ArePlaces : Declarations → List ResolvedAction → Places → Type 0
 ArePlaces commons us places =
     AddsEach (ActionMay commons) ActionMust (IsContextWritten commons) us (λ p. None) (get place_cmp places)
 
 -- ---- hierarchies
 
 -- `MemberMay parents a u us` holds if `u` is the uid of `a`, and `us` are its parents.
-abbrev pub MemberMay : Parents → FoundAction → EntityUid → List EntityUid → Type 0
+abbrev pub MemberMay : Parents → ResolvedAction → EntityUid → List EntityUid → Type 0
 MemberMay parents a u us = (a.uid ≡ u) × (us ≡ parents u)
 
 -- `MemberMust a u` holds if `u` is the uid of `a`.
-abbrev pub MemberMust : FoundAction → EntityUid → Type 0
+abbrev pub MemberMust : ResolvedAction → EntityUid → Type 0
 MemberMust a u = a.uid ≡ u
 
 -- `AddsMember parents a old new` holds if the parents of `a` were added.
-abbrev pub AddsMember : Parents → FoundAction → BTreeMap EntityUid (List EntityUid)
+abbrev pub AddsMember : Parents → ResolvedAction → BTreeMap EntityUid (List EntityUid)
     → BTreeMap EntityUid (List EntityUid) → Type 0
 AddsMember parents a old new =
     Adds (MemberMay parents a) (MemberMust a) ⊤ (get uid_cmp old) (get uid_cmp new)
 
 -- `AddsMembers parents us old new` holds if the parents of the actions `us` were added.
-abbrev pub AddsMembers : Parents → List FoundAction → BTreeMap EntityUid (List EntityUid)
+abbrev pub AddsMembers : Parents → List ResolvedAction → BTreeMap EntityUid (List EntityUid)
     → BTreeMap EntityUid (List EntityUid) → Type 0
 AddsMembers parents us old new =
     AddsEach (MemberMay parents) MemberMust (λ a. ⊤) us (get uid_cmp old) (get uid_cmp new)
 
 -- `AreMembers parents us members` holds if these are exactly the parents of these actions.
-abbrev pub AreMembers : Parents → List FoundAction → BTreeMap EntityUid (List EntityUid) → Type 0
+abbrev pub AreMembers : Parents → List ResolvedAction → BTreeMap EntityUid (List EntityUid) → Type 0
 AreMembers parents us members =
     AddsEach (MemberMay parents) MemberMust (λ a. ⊤) us (λ u. None) (get uid_cmp members)

@@ -7,7 +7,7 @@ use Rattle.schema.specs.Spans.{has_number}
 use Rattle.values.specs.declared.entity_uid.EntityUid.{EntityUid}
 use Rattle.values.specs.Names.{uid_cmp, text_cmp}
 use Rattle.ancestor_search.specs.Hierarchy.{Parents, IsAncestor, names}
-use Rattle.schema_names.specs.Qualifying.{FoundEntityType}
+use Rattle.schema_names.specs.Qualifying.{ResolvedEntityType}
 use Rattle.schema.specs.LookUps.{has_number_at}
 use Rattle.schema.specs.declared.numbering.Numbered.{Numbered}
 use Rattle.schema.specs.declared.type_numbers.TypeNumbers.{TypeNumbers}
@@ -117,11 +117,11 @@ abbrev pub AreNames : Numbers → List EntityUid → BTreeMap (List ℕ) ℕ →
 AreNames at us named = AddsNames at us (λ n. None) (get text_cmp named)
 
 -- `type_points es` are the uids that stand for these entity types.
-abbrev pub type_points : List FoundEntityType → List EntityUid
+abbrev pub type_points : List ResolvedEntityType → List EntityUid
 type_points es = map (λ e. type_uid e.name) es
 
 -- `AreNumbers parents es t` holds if each of these types has a number, and at it are the numbers of its ancestors.
-pub record AreNumbers (parents : Parents) (es : List FoundEntityType) (t : TypeNumbers) : Type 0 where
+pub record AreNumbers (parents : Parents) (es : List ResolvedEntityType) (t : TypeNumbers) : Type 0 where
   pub exact : (n q : List ℕ) (i j : ℕ) → get text_cmp t.numbers n ≡ Some i → get text_cmp t.numbers q ≡ Some j
       → IsTrue (has_number_at (slice_get t.spans i) j) ↔ IsAncestor parents (type_uid q) (type_uid n)
-  pub all : (e : FoundEntityType) → Contains es e → IsSome (get text_cmp t.numbers e.name)
+  pub all : (e : ResolvedEntityType) → Contains es e → IsSome (get text_cmp t.numbers e.name)

@@ -10,7 +10,7 @@ use Rattle.schema_types.specs.Mentions.{IsClosed}
 use Rattle.schema_types.specs.Outcome.{TypeRefused}
 use Rattle.schema_types.specs.declared.fault.SchemaFault.{SchemaFault}
 use Rattle.schema_types.specs.declared.fault.SchemaFault.TheVariants.{ActionCycle}
-use Rattle.schema_names.specs.Qualifying.{FoundSchema}
+use Rattle.schema_names.specs.Qualifying.{ResolvedSchema}
 use Rattle.schema_names.specs.Laws.{IsShapeOrContext}
 use Rattle.schema.specs.Places.{environment_of}
 use Rattle.schema.specs.declared.reading.Types.{Types}
@@ -20,16 +20,16 @@ use Rattle.schema.specs.inner.Making.{AreShapes, ArePlaces, Places, AreMembers}
 use Rattle.schema.specs.inner.Numbering.{NumbersAll, AreAbove, AreNumbers}
 
 -- `AreEdges s parents` holds if these are the edges of the actions, and no action is its own ancestor.
-pub record AreEdges (s : FoundSchema) (parents : Parents) : Type 0 where
+pub record AreEdges (s : ResolvedSchema) (parents : Parents) : Type 0 where
   pub are : parents ≡ action_parents s
   pub no_cycle : SomeActionIsOnCycle s → ⊥
 
 -- `EdgesRefused s f` holds if some action is its own ancestor, and `f` is `ActionCycle`.
-abbrev pub EdgesRefused : FoundSchema → SchemaFault → Type 0
+abbrev pub EdgesRefused : ResolvedSchema → SchemaFault → Type 0
 EdgesRefused s f = (f ≡ ActionCycle) × SomeActionIsOnCycle s
 
 -- `AreTypesOf commons s t` holds if `t` has exactly the shapes and the environments of `s`.
-pub record AreTypesOf (commons : Declarations) (s : FoundSchema) (t : Types) : Type 0 where
+pub record AreTypesOf (commons : Declarations) (s : ResolvedSchema) (t : Types) : Type 0 where
   pub shapes : AreShapes commons s.entity_types t.shapes
   pub places : Places
   pub are : ArePlaces commons s.actions places
@@ -37,16 +37,16 @@ pub record AreTypesOf (commons : Declarations) (s : FoundSchema) (t : Types) : T
   pub ordered : tree.IsOrdered place_cmp places
 
 -- `TypesRefused commons s f` holds if some shape or context is too large.
-abbrev pub TypesRefused : Declarations → FoundSchema → SchemaFault → Type 0
+abbrev pub TypesRefused : Declarations → ResolvedSchema → SchemaFault → Type 0
 TypesRefused commons s f = (r : Qualified) × IsShapeOrContext s r × TypeRefused commons r f
 
 -- `AreTypesClosed commons s` holds if each common type that is named in a shape or a context is declared.
-abbrev pub AreTypesClosed : Declarations → FoundSchema → Type 0
+abbrev pub AreTypesClosed : Declarations → ResolvedSchema → Type 0
 AreTypesClosed commons s = (r : Qualified) → IsShapeOrContext s r → IsClosed commons r
 
 -- `AreHierarchiesOf s h` holds if `h` has the actions of `s` with their parents, and the numbered ancestors of
 -- actions and of types.
-pub record AreHierarchiesOf (s : FoundSchema) (h : Hierarchies) : Type 0 where
+pub record AreHierarchiesOf (s : ResolvedSchema) (h : Hierarchies) : Type 0 where
   pub members : AreMembers (action_parents s) s.actions h.members
   pub actions : h.actions ≡ keys h.members
   pub ascending : IsAscending (keys h.members)

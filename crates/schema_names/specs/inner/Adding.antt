@@ -10,7 +10,7 @@ use Rattle.values.specs.Names.{uid_cmp}
 use Rattle.schema_file.specs.schema_types.declared.names.Names.{Names}
 use Rattle.schema_types.specs.Names.{full_name}
 use Rattle.schema_file.specs.schema_types.NamesViews.{scope_of, is_action_of}
-use Rattle.schema_file.specs.Stated.{NamespaceOf}
+use Rattle.schema_file.specs.FileForm.{NamespaceOf}
 use Rattle.schema_names.specs.Qualifying.{CommonOf, common_in, commons_declared}
 use Rattle.schema_file.specs.schema_types.Actions.{action_type, action_uid}
 use Rattle.schema_names.specs.Qualifying.{entity_types_declared, actions_declared, scope_in, is_action_in}

@@ -6,7 +6,7 @@ use Rattle.std.specs.BTreeSet.{BTreeSet, btree_set_len}
 use Rattle.std.specs.declared.alloc.Global.{Global}
 use Rattle.schema_types.specs.Raw.{Raw}
 use Rattle.schema_types.specs.Names.{Scope}
-use Rattle.schema_file.specs.Stated.{EntityTypeOf, UseOf, ActionOf, NamespaceOf}
+use Rattle.schema_file.specs.FileForm.{EntityTypeOf, UseOf, ActionOf, NamespaceOf}
 use Rattle.schema_names.specs.Qualifying.{CommonOf, commons_declared, scope_in}
 use Rattle.schema_names.specs.Records.{common_meant, is_no_record, MeansNoRecord, SomeIsNoRecord}
 use Rattle.schema_names.specs.inner.Adding.{has_name}

@@ -31,4 +31,4 @@ abbrev pub Plays : List SiteView → List (List ℕ) → List (List ℕ) → Eve
     → List (List ℕ) → Type 0
 Plays seen messages summaries e a seen2 messages2 summaries2 = (schema : StatedSchema) (sites : List SiteName)
     (w : World) → IsShown schema sites seen messages summaries w
-    → (v : World) × Happens schema sites w e a v × IsShown schema sites seen2 messages2 summaries2 v
+    → (v : World) × Happens (Step schema) sites w e a v × IsShown schema sites seen2 messages2 summaries2 v

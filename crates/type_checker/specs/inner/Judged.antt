@@ -17,7 +17,7 @@ use Rattle.type_checker.specs.Views.{static_view, fault_view}
 use Rattle.type_checker.specs.declared.static_type.StaticType as built
 use Rattle.type_checker.specs.declared.fault.ExpressionFault.{ExpressionFault}
 use Rattle.type_checker.specs.declared.fault.ExpressionFault.TheVariants.{NoMemory}
-use Rattle.type_capabilities.specs.declared.pair.Pair.{Pair}
+use Rattle.type_capabilities.specs.declared.pair.Capability.{Capability}
 use Rattle.type_checker.specs.declared.typed.Typed.{Typed}
 use Rattle.type_checker.specs.declared.typed.Then.{Then}
 use Rattle.type_checker.specs.declared.typed.Then.TheVariants as then
@@ -87,7 +87,7 @@ abbrev pub IsRow : Result built.StaticType ExpressionFault → Result Typed Expr
 IsRow row r = MatchResult r (λ t. (row ≡ Ok t.kind) × (t.learns.items ≡ [])) (λ f. row ≡ Err f)
 
 -- `AddsLearned L typed r` holds if `r` is `typed`, with the capabilities `L` in front of what it gains.
-abbrev pub AddsLearned : List Pair → Result Typed ExpressionFault → Result Typed ExpressionFault → Type 0
+abbrev pub AddsLearned : List Capability → Result Typed ExpressionFault → Result Typed ExpressionFault → Type 0
 AddsLearned L typed r =
     MatchResult r (λ t. (u : Typed) × (typed ≡ Ok u) × (t.kind ≡ u.kind) × (t.learns.items ≡ L ++ u.learns.items))
     (λ f. f ≢ NoMemory → typed ≡ Err f)
@@ -107,7 +107,8 @@ CallTyped called x s r =
     ⊎ (TakesAddress called × (address_test_type s ≡ Err (fault_view f))))
 
 -- `IsHasRow p row r` holds if `r` is the type of `has`, with what it gains.
-abbrev pub IsHasRow : learned.Pair → Result built.StaticType ExpressionFault → Result Typed ExpressionFault → Type 0
+abbrev pub IsHasRow : learned.Capability → Result built.StaticType ExpressionFault
+    → Result Typed ExpressionFault → Type 0
 IsHasRow p row r =
     MatchResult r (λ t. (row ≡ Ok t.kind) × (pairs t.learns.items ≡ has_learns (static_view t.kind) p))
     (λ f. f ≢ NoMemory → row ≡ Err f)

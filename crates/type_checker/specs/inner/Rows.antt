@@ -5,7 +5,7 @@ use Rattle.typing.specs.Types.{StaticType, entity_type, set_type, decimal_type, 
 use Rattle.typing.specs.Environment.{unexpected}
 use Rattle.typing.specs.Rows.{Row, if_common}
 use Rattle.type_checker.specs.declared.parts.FieldPart.{FieldPart}
-use Rattle.type_checker.specs.declared.parts.Pair.{Pair}
+use Rattle.type_checker.specs.declared.parts.FieldPair.{FieldPair}
 
 -- `entity_type_in t` is the name of an entity type.
 abbrev pub entity_type_in : StaticType → Option (List ℕ)
@@ -33,7 +33,7 @@ sets_type s (set_type t) = contains_type s t
 sets_type s t = Err unexpected
 
 -- `paired a b` are two fields of one key with the same requirement.
-abbrev pub paired : Option FieldPart → Option FieldPart → Option Pair
+abbrev pub paired : Option FieldPart → Option FieldPart → Option FieldPair
 paired (Some a) (Some b) =
     if bytes_eq a.key.now b.key.now && same_requirement a.required b.required
     then Some (record { key = a.key; left = a.part; right = b.part; required = a.required }) else None

@@ -2,7 +2,7 @@ use Rattle.std.proofs.Common.{rules, refl, ◌≡◌, ◌∙◌, ◌+◌, ◌++�
 use Rattle.std.proofs.lemmas.List.{at_drop_all}
 use Rattle.std.specs.List.{AllByRecursion, fold}
 use Rattle.grammar_trees.specs.declared.tree.Access.{Access}
-use Rattle.grammar_trees.specs.declared.tree.Entry.{Entry}
+use Rattle.grammar_trees.specs.declared.tree.RecordEntry.{RecordEntry}
 use Rattle.grammar_trees.specs.declared.tree.Term.{Term}
 use Rattle.grammar_trees.specs.declared.tree.ExprTree.{ExprTree, the_lemmas}
 use Rattle.grammar_core.specs.declared.operator.Unary.TheVariants as unary
@@ -153,7 +153,7 @@ pub build_tree-returns-in-Set : goal.build_tree-returns-in-Set
 build_tree-returns-in-Set t c = one core.Set (map (core_of c.args.text.now) c.in-Set.members) (core_of c.args.text.now c.args.tree.now) c.build_all-in-Set.result c.set.result (subst (λ ys. IfOk c.build_all-in-Set.result (λ e. e ≡ map (core_of c.args.text.now) ys)) c.as_slice-in-Set.ensures c.build_all-in-Set.ensures) c.set.ensures (sym (core-Set c.args.text.now c.in-Set.members) ∙ ap (core_of c.args.text.now) (sym c.in-Set.is))
 
 pub build_tree-returns-in-Record : goal.build_tree-returns-in-Record
-build_tree-returns-in-Record t c = one core.Record ((λ (es : List (Entry ExprTree)). map (field c.args.text.now) (map (in_entry (core_of c.args.text.now)) es)) c.in-Record.entries) (core_of c.args.text.now c.args.tree.now) c.build_entries.result c.record.result (subst (λ ys. IfOk c.build_entries.result (λ e. e ≡ (λ (es : List (Entry ExprTree)). map (field c.args.text.now) (map (in_entry (core_of c.args.text.now)) es)) ys)) c.as_slice-in-Record.ensures c.build_entries.ensures) c.record.ensures (sym (core-Record c.args.text.now c.in-Record.entries) ∙ ap (core_of c.args.text.now) (sym c.in-Record.is))
+build_tree-returns-in-Record t c = one core.Record ((λ (es : List (RecordEntry ExprTree)). map (field c.args.text.now) (map (in_entry (core_of c.args.text.now)) es)) c.in-Record.entries) (core_of c.args.text.now c.args.tree.now) c.build_entries.result c.record.result (subst (λ ys. IfOk c.build_entries.result (λ e. e ≡ (λ (es : List (RecordEntry ExprTree)). map (field c.args.text.now) (map (in_entry (core_of c.args.text.now)) es)) ys)) c.as_slice-in-Record.ensures c.build_entries.ensures) c.record.ensures (sym (core-Record c.args.text.now c.in-Record.entries) ∙ ap (core_of c.args.text.now) (sym c.in-Record.is))
 
 pub build_tree-returns-in-Not : goal.build_tree-returns-in-Not
 build_tree-returns-in-Not t c = one (core.Unary unary.Not) (core_of c.args.text.now c.in-Not.inner) (core_of c.args.text.now c.args.tree.now) c.build_tree-in-Not.result c.apply.result (subst (λ y. IfOk c.build_tree-in-Not.result (λ e. e ≡ core_of c.args.text.now y)) c.get-in-Not.ensures c.build_tree-in-Not.ensures) c.apply.ensures (sym (core-Not c.args.text.now c.in-Not.inner) ∙ ap (core_of c.args.text.now) (sym c.in-Not.is))
@@ -205,7 +205,7 @@ build_behind_minus-returns-in_default t c = one (core.Unary unary.Negate) (core_
 
 pub build_entries-loop-entry-preserved : goal.build_entries-loop-entry-preserved
 build_entries-loop-entry-preserved t c =
-    let made : Entry ExprTree → Named Expr = λ entry. field c.args.text.now (in_entry (core_of c.args.text.now) entry) in
+    let made : RecordEntry ExprTree → Named Expr = λ entry. field c.args.text.now (in_entry (core_of c.args.text.now) entry) in
     let item = two (λ n e. a_field n e) (name_of c.args.text.now c.entry-item.result.key) (core_of c.args.text.now c.entry-item.result.value) (made c.entry-item.result) c.name-key.result c.build_tree.result c.named.result c.name-key.ensures c.build_tree.ensures c.named.ensures refl in
     taken made c.args.entries.now c.loop-entry.entry-index c.entry-item.result c.loop-entry.row.items c.add.new.row.items (made c.entry-item.result) c.entry-item.is c.loop-entry-test.true
     (c.loop-entry.invariant ∙ map_map (field c.args.text.now) (in_entry (core_of c.args.text.now)) (take c.loop-entry.entry-index c.args.entries.now)) refl

@@ -1,15 +1,13 @@
-use Rattle.std.proofs.Common.{ℕ, List, Option, option_map, inl}
-use Rattle.std.specs.Process.{exit_status}
+use Rattle.std.proofs.Common.{ℕ, List, Option, option_map}
 use Rattle.program_lines.specs.declared.line.DecideOptions.{DecideOptions}
 use Rattle.program.specs.Courses.{Course, Reads}
-use Rattle.program.specs.Runs.{IsDecided, IsNotDecided, IsDecidedOrRefused}
-use Rattle.program.proofs.EventLemmas.{named_on, named_none, reads_on, reads_none, runs_as}
-use Rattle.program.proofs.RefusalLemmas.{line_refused}
+use Rattle.program.specs.Runs.{IsDecidedOrRefused}
+use Rattle.program.proofs.EventLemmas.{named_on, named_none, reads_on, reads_none}
 use Rattle.program.proofs.commands.run_decide.Goals as goal
 
 -- what is left to do once the entities are read, once the policies are, and once the schema is
 abbrev over_entities : {L : Type 0} → DecideOptions → Option (List ℕ) → List ℕ → List ℕ → Course L
-over_entities options schema policies entities = Reads options.request.now (IsDecidedOrRefused schema policies entities)
+over_entities options schema policies entities = Reads options.request.now (IsDecidedOrRefused options schema policies entities)
 
 abbrev over_policies : {L : Type 0} → DecideOptions → Option (List ℕ) → List ℕ → Course L
 over_policies options schema policies = Reads options.entities.now (over_entities options schema policies)
@@ -45,23 +43,7 @@ returns-in-Err-read_file-3 g c =
     named_on g.H.Host.does _ _ _ (option_map (λ s. s.now) options.schema) schema (over_schema options) _ c.in-Ok.ensures (
     reads_on g.H.Host.does _ _ _ _ _ (over_policies options schema) _ c.in-Ok-read_file.ensures (
     reads_on g.H.Host.does _ _ _ _ _ (over_entities options schema policies) _ c.in-Ok-read_file-2.ensures (
-    reads_none g.H.Host.does _ _ _ (IsDecidedOrRefused schema policies c.in-Ok-read_file-2.bytes.items) _ c.in-Err-read_file-3.ensures)))
-
-pub returns-in-Ok-decide : goal.returns-in-Ok-decide
-returns-in-Ok-decide g c =
-    let options = c.args.options.now in
-    let schema = option_map (λ b. b.items) c.in-Ok.found in
-    let policies = c.in-Ok-read_file.bytes.items in
-    named_on g.H.Host.does _ _ _ (option_map (λ s. s.now) options.schema) schema (over_schema options) _ c.in-Ok.ensures (
-    reads_on g.H.Host.does _ _ _ _ _ (over_policies options schema) _ c.in-Ok-read_file.ensures (
-    reads_on g.H.Host.does _ _ _ _ _ (over_entities options schema policies) _ c.in-Ok-read_file-2.ensures (
-    reads_on g.H.Host.does _ _ _ _ _ (IsDecidedOrRefused schema policies c.in-Ok-read_file-2.bytes.items) _ c.in-Ok-read_file-3.ensures (
-    runs_as g.H.Host.does _ _ _ _ (λ events told. inl (
-      c.in-Ok-decide.line.items,
-      rw (c.lent.ensures, c.deref.ensures.value, c.deref-2.ensures.value, c.deref-3.ensures.value) at c.in-Ok-decide.ensures.decided,
-      told,
-    ))
-    (rw (c.deref-in-Ok-decide.ensures.value) at c.report_answer.ensures)))))
+    reads_none g.H.Host.does _ _ _ (IsDecidedOrRefused options schema policies c.in-Ok-read_file-2.bytes.items) _ c.in-Err-read_file-3.ensures)))
 
 pub returns : goal.returns
 returns g c =
@@ -69,13 +51,8 @@ returns g c =
     let schema = option_map (λ b. b.items) c.in-Ok.found in
     let policies = c.in-Ok-read_file.bytes.items in
     let entities = c.in-Ok-read_file-2.bytes.items in
-    let request = c.in-Ok-read_file-3.bytes.items in
     named_on g.H.Host.does _ _ _ (option_map (λ s. s.now) options.schema) schema (over_schema options) _ c.in-Ok.ensures (
     reads_on g.H.Host.does _ _ _ _ _ (over_policies options schema) _ c.in-Ok-read_file.ensures (
     reads_on g.H.Host.does _ _ _ _ _ (over_entities options schema policies) _ c.in-Ok-read_file-2.ensures (
-    reads_on g.H.Host.does _ _ _ _ _ (IsDecidedOrRefused schema policies entities) _ c.in-Ok-read_file-3.ensures (
-    runs_as g.H.Host.does _ _ _ _ (
-    line_refused (IsNotDecided schema policies entities request) (IsDecided schema policies entities request) c.in-Err-decide.refusal
-    (exit_status c.report_refusal.result)
-    (rw (c.lent.ensures, c.deref.ensures.value, c.deref-2.ensures.value, c.deref-3.ensures.value) at c.in-Err-decide.ensures.refused))
-    c.report_refusal.ensures))))
+    reads_on g.H.Host.does _ _ _ _ _ (IsDecidedOrRefused options schema policies entities) _ c.in-Ok-read_file-3.ensures (
+    rw (c.lent.ensures, c.deref.ensures.value, c.deref-2.ensures.value, c.deref-3.ensures.value) at c.decide_held.ensures))))

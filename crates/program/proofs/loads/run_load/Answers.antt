@@ -1,15 +1,13 @@
-use Rattle.std.proofs.Common.{ℕ, List, Option, option_map, inl}
-use Rattle.std.specs.Process.{exit_status}
+use Rattle.std.proofs.Common.{ℕ, List, Option, option_map}
 use Rattle.program_lines.specs.declared.line.LoadOptions.{LoadOptions}
 use Rattle.program.specs.Courses.{Course, ReadsIfNamed}
-use Rattle.program.specs.Loading.{IsLoaded, IsLoadRefused, IsLoadedOrRefused}
-use Rattle.program.proofs.EventLemmas.{reads_on, reads_none, named_on, named_none, runs_as}
-use Rattle.program.proofs.RefusalLemmas.{line_refused}
+use Rattle.program.specs.Loading.{IsLoadedOrRefused}
+use Rattle.program.proofs.EventLemmas.{reads_on, reads_none, named_on, named_none}
 use Rattle.program.proofs.loads.run_load.Goals as goal
 
 -- what is left to do once the entities are read, the policies, the state, or the schema
 abbrev over_entities : {L : Type 0} → LoadOptions → List ℕ → Option (List ℕ) → Option (List ℕ) → Option (List ℕ) → Course L
-over_entities options schema state policies entities = IsLoadedOrRefused schema options.site state policies entities
+over_entities options schema state policies entities = IsLoadedOrRefused options schema state policies entities
 
 abbrev over_policies : {L : Type 0} → LoadOptions → List ℕ → Option (List ℕ) → Option (List ℕ) → Course L
 over_policies options schema state policies =
@@ -54,26 +52,6 @@ returns-in-Err-read_if_named-3 g c =
     named_none g.H.Host.does _ _ (option_map (λ e. e.now) options.entities) (over_entities options schema state policies) _
     c.in-Err-read_if_named-3.ensures)))
 
-pub returns-in-Ok-state_after : goal.returns-in-Ok-state_after
-returns-in-Ok-state_after g c =
-    let options = c.args.options.now in
-    let schema = c.in-Ok.bytes.items in
-    let state = option_map (λ b. b.items) c.in-Ok-read_if_named.found in
-    let policies = option_map (λ b. b.items) c.in-Ok-read_if_named-2.found in
-    let entities = option_map (λ b. b.items) c.in-Ok-read_if_named-3.found in
-    reads_on g.H.Host.does _ _ _ _ _ (over_schema options) _ c.in-Ok.ensures (
-    named_on g.H.Host.does _ _ _ (option_map (λ s. s.now) options.state) state (over_state options schema) _ c.in-Ok-read_if_named.ensures (
-    named_on g.H.Host.does _ _ _ (option_map (λ p. p.now) options.policies) policies (over_policies options schema state) _
-    c.in-Ok-read_if_named-2.ensures (
-    named_on g.H.Host.does _ _ _ (option_map (λ e. e.now) options.entities) entities (over_entities options schema state policies) _
-    c.in-Ok-read_if_named-3.ensures (
-    runs_as g.H.Host.does _ _ _ _ (λ events told. inl (
-      c.in-Ok-state_after.line.items,
-      rw (c.deref.ensures.value, c.lent.ensures, c.lent-2.ensures, c.lent-3.ensures) at c.in-Ok-state_after.ensures.loaded,
-      told,
-    ))
-    (rw (c.deref-in-Ok-state_after.ensures.value) at c.report_answer.ensures)))))
-
 pub returns : goal.returns
 returns g c =
     let options = c.args.options.now in
@@ -87,8 +65,4 @@ returns g c =
     c.in-Ok-read_if_named-2.ensures (
     named_on g.H.Host.does _ _ _ (option_map (λ e. e.now) options.entities) entities (over_entities options schema state policies) _
     c.in-Ok-read_if_named-3.ensures (
-    runs_as g.H.Host.does _ _ _ _ (
-    line_refused (IsLoadRefused schema options.site state policies entities) (IsLoaded schema options.site state policies entities)
-    c.in-Err-state_after.refusal (exit_status c.report_refusal.result)
-    (rw (c.deref.ensures.value, c.lent.ensures, c.lent-2.ensures, c.lent-3.ensures) at c.in-Err-state_after.ensures.refused))
-    c.report_refusal.ensures))))
+    rw (c.deref.ensures.value, c.lent.ensures, c.lent-2.ensures, c.lent-3.ensures) at c.load_held.ensures))))

@@ -1,14 +1,11 @@
-use Rattle.std.proofs.Common.{ℕ, List, option_map, inl, inr}
-use Rattle.std.specs.Process.{exit_status}
+use Rattle.std.proofs.Common.{ℕ, List, option_map}
 use Rattle.program_lines.specs.declared.line.ServeOptions.{ServeOptions}
 use Rattle.state_exchanges.specs.http_devices.declared.devices.Source.{Ghosts as Source}
 use Rattle.state_exchanges.specs.http_devices.declared.devices.Sink.{Ghosts as Sink}
 use Rattle.program.specs.declared.device.Link.{Link}
-use Rattle.program.specs.Beginning.{IsNotBegun}
 use Rattle.program.specs.Courses.{Course, ReadsIfNamed}
 use Rattle.program.specs.Serving.{IsServedFrom}
-use Rattle.program.proofs.EventLemmas.{reads_on, reads_none, named_on, named_none, runs_as}
-use Rattle.program.proofs.RefusalLemmas.{refused_for}
+use Rattle.program.proofs.EventLemmas.{reads_on, reads_none, named_on, named_none}
 use Rattle.program.proofs.serving.run_serve.Goals as goal
 
 -- what is left to do once the schema is read
@@ -27,21 +24,6 @@ returns-in-Err-read_if_named g c =
     named_none g.H.Host.does _ _ (option_map (λ s. s.now) options.state)
     (IsServedFrom g.H.Reader.Source g.H.Writer.Sink g.H.Log.Sink options c.in-Ok.bytes.items) _ c.in-Err-read_if_named.ensures)
 
-pub returns-in-Ok-begin : goal.returns-in-Ok-begin
-returns-in-Ok-begin g c =
-    let options = c.args.options.now in
-    let schema = c.in-Ok.bytes.items in
-    let state = option_map (λ b. b.items) c.in-Ok-read_if_named.found in
-    reads_on g.H.Host.does _ _ _ _ _ (over_schema g.H.Reader.Source g.H.Writer.Sink g.H.Log.Sink options) _ c.in-Ok.ensures (
-    named_on g.H.Host.does _ _ _ (option_map (λ s. s.now) options.state) state
-    (IsServedFrom g.H.Reader.Source g.H.Writer.Sink g.H.Log.Sink options schema) _ c.in-Ok-read_if_named.ensures (
-    runs_as g.H.Host.does _ _ _ _ (λ events told. inl (
-      c.in-Ok-begin.site,
-      rw (c.deref.ensures.value, c.lent.ensures) at c.in-Ok-begin.ensures.begun,
-      told,
-    ))
-    c.serve_begun.ensures))
-
 pub returns : goal.returns
 returns g c =
     let options = c.args.options.now in
@@ -50,7 +32,4 @@ returns g c =
     reads_on g.H.Host.does _ _ _ _ _ (over_schema g.H.Reader.Source g.H.Writer.Sink g.H.Log.Sink options) _ c.in-Ok.ensures (
     named_on g.H.Host.does _ _ _ (option_map (λ s. s.now) options.state) state
     (IsServedFrom g.H.Reader.Source g.H.Writer.Sink g.H.Log.Sink options schema) _ c.in-Ok-read_if_named.ensures (
-    runs_as g.H.Host.does _ _ _ _ (λ events told.
-    inr (refused_for (IsNotBegun schema state) c.in-Err-begin.refusal (exit_status c.report_refusal.result)
-    (rw (c.deref.ensures.value, c.lent.ensures) at c.in-Err-begin.ensures.refused) events told))
-    c.report_refusal.ensures))
+    rw (c.deref.ensures.value, c.lent.ensures) at c.serve_held.ensures))

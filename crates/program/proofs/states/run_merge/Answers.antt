@@ -1,16 +1,13 @@
-use Rattle.std.proofs.Common.{ℕ, List, inl}
-use Rattle.std.specs.Process.{exit_status}
+use Rattle.std.proofs.Common.{ℕ, List}
 use Rattle.program_lines.specs.declared.line.MergeOptions.{MergeOptions}
-use Rattle.state_exchanges.specs.Merges.{IsMerged, AreRefused}
 use Rattle.program.specs.Courses.{Course, Reads}
 use Rattle.program.specs.Runs.{AreMerged}
-use Rattle.program.proofs.EventLemmas.{reads_on, reads_none, runs_as}
-use Rattle.program.proofs.RefusalLemmas.{line_refused}
+use Rattle.program.proofs.EventLemmas.{reads_on, reads_none}
 use Rattle.program.proofs.states.run_merge.Goals as goal
 
 -- what is left to do once the first is read, and once the schema is
 abbrev over_first : {L : Type 0} → MergeOptions → List ℕ → List ℕ → Course L
-over_first options schema first = Reads options.second.now (AreMerged schema first)
+over_first options schema first = Reads options.second.now (AreMerged options schema first)
 
 abbrev over_schema : {L : Type 0} → MergeOptions → List ℕ → Course L
 over_schema options schema = Reads options.first.now (over_first options schema)
@@ -29,32 +26,14 @@ returns-in-Err-read_file-2 g c =
     let options = c.args.options.now in
     reads_on g.H.Host.does _ _ _ _ _ (over_schema options) _ c.in-Ok.ensures (
     reads_on g.H.Host.does _ _ _ _ _ (over_first options c.in-Ok.bytes.items) _ c.in-Ok-read_file.ensures (
-    reads_none g.H.Host.does _ _ _ (AreMerged c.in-Ok.bytes.items c.in-Ok-read_file.bytes.items) _ c.in-Err-read_file-2.ensures))
-
-pub returns-in-Ok-merge_texts : goal.returns-in-Ok-merge_texts
-returns-in-Ok-merge_texts g c =
-    let options = c.args.options.now in
-    reads_on g.H.Host.does _ _ _ _ _ (over_schema options) _ c.in-Ok.ensures (
-    reads_on g.H.Host.does _ _ _ _ _ (over_first options c.in-Ok.bytes.items) _ c.in-Ok-read_file.ensures (
-    reads_on g.H.Host.does _ _ _ _ _ (AreMerged c.in-Ok.bytes.items c.in-Ok-read_file.bytes.items) _ c.in-Ok-read_file-2.ensures (
-    runs_as g.H.Host.does _ _ _ _ (λ events told. inl (
-      c.in-Ok-merge_texts.line.items,
-      rw (c.deref.ensures.value, c.deref-2.ensures.value, c.deref-3.ensures.value) at c.in-Ok-merge_texts.ensures.merged.0,
-      told,
-    ))
-    (rw (c.deref-in-Ok-merge_texts.ensures.value) at c.report_answer.ensures))))
+    reads_none g.H.Host.does _ _ _ (AreMerged options c.in-Ok.bytes.items c.in-Ok-read_file.bytes.items) _ c.in-Err-read_file-2.ensures))
 
 pub returns : goal.returns
 returns g c =
     let options = c.args.options.now in
     let schema = c.in-Ok.bytes.items in
     let first = c.in-Ok-read_file.bytes.items in
-    let second = c.in-Ok-read_file-2.bytes.items in
     reads_on g.H.Host.does _ _ _ _ _ (over_schema options) _ c.in-Ok.ensures (
     reads_on g.H.Host.does _ _ _ _ _ (over_first options schema) _ c.in-Ok-read_file.ensures (
-    reads_on g.H.Host.does _ _ _ _ _ (AreMerged schema first) _ c.in-Ok-read_file-2.ensures (
-    runs_as g.H.Host.does _ _ _ _ (
-    line_refused (AreRefused schema first second) (IsMerged schema first second) c.in-Err-merge_texts.refusal
-    (exit_status c.report_refusal.result)
-    (rw (c.deref.ensures.value, c.deref-2.ensures.value, c.deref-3.ensures.value) at c.in-Err-merge_texts.ensures.refused))
-    c.report_refusal.ensures)))
+    reads_on g.H.Host.does _ _ _ _ _ (AreMerged options schema first) _ c.in-Ok-read_file-2.ensures (
+    rw (c.deref.ensures.value, c.deref-2.ensures.value, c.deref-3.ensures.value) at c.merge_held.ensures)))

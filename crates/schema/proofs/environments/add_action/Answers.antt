@@ -1,6 +1,6 @@
 use Rattle.std.proofs.Common.{ap, option_map}
 use Rattle.std.proofs.lemmas.Result.{MatchResult-weaker}
-use Rattle.schema_names.specs.FoundViews.{found_use_view, found_action_view}
+use Rattle.schema_names.specs.ResolvedViews.{found_use_view, found_action_view}
 use Rattle.schema.proofs.UseLemmas.{uses_as}
 use Rattle.schema.proofs.environments.add_action.Goals as goal
 

@@ -1,4 +1,4 @@
-use Rattle.schema_names.specs.FoundViews.{found_view}
+use Rattle.schema_names.specs.ResolvedViews.{found_view}
 use Rattle.schema_written_types.specs.TableViews.{knowledge}
 use Rattle.schema.proofs.AnswersLemmas.{made_schema}
 use Rattle.schema.proofs.SoundLemmas.{records_written, is_sound}

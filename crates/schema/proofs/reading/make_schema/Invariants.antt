@@ -1,4 +1,4 @@
-use Rattle.schema_names.specs.FoundViews.{found_view}
+use Rattle.schema_names.specs.ResolvedViews.{found_view}
 use Rattle.schema.proofs.reading.make_schema.Given as goal
 
 abbrev pub ghost-make_types : goal.ghost-make_types

@@ -5,7 +5,7 @@ use Rattle.schema_types.specs.Outcome.{CommonsRefused, SizesRefused}
 use Rattle.schema_types.specs.QualifiedViews.{found_common_view}
 use Rattle.schema_written_types.specs.TableViews.{knowledge}
 use Rattle.schema_types.specs.declared.qualified.FoundCommon.{FoundCommon}
-use Rattle.schema_names.specs.FoundViews.{found_view}
+use Rattle.schema_names.specs.ResolvedViews.{found_view}
 use Rattle.schema.proofs.SoundLemmas.{all_end, commons_refused, edges_refused, sizes_refused, types_refused}
 use Rattle.schema.proofs.reading.sound_schema.Goals as goal
 

@@ -1,6 +1,6 @@
 use Rattle.std.proofs.Common.{sym, ◌∙◌}
 use Rattle.values.specs.Names.{text_cmp-IsAntisymmetric}
-use Rattle.schema_names.specs.FoundViews.{found_entity_type_view}
+use Rattle.schema_names.specs.ResolvedViews.{found_entity_type_view}
 use Rattle.schema.specs.inner.Making.{ShapeMay, ShapeMust, IsWrittenAt}
 use Rattle.schema.proofs.FillingLemmas.{adds_entry}
 use Rattle.schema.proofs.shapes.add_shape.Goals as goal

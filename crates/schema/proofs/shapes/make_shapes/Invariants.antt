@@ -1,6 +1,6 @@
 use Rattle.std.proofs.Common.{ℕ, List, map, drop}
 use Rattle.std.specs.BTreeMap.{BTreeMap}
-use Rattle.schema_names.specs.FoundViews.{found_entity_type_view}
+use Rattle.schema_names.specs.ResolvedViews.{found_entity_type_view}
 use Rattle.schema.specs.declared.parts.EntityDecl.{EntityDecl}
 use Rattle.schema.specs.inner.Making.{AddsShapes, AreShapes}
 use Rattle.schema.proofs.shapes.make_shapes.Given as goal

@@ -3,7 +3,7 @@ use Rattle.std.proofs.lemmas.Result.{err_from_is_err_and}
 use Rattle.serde_json.specs.View.{members_view}
 use Rattle.schema_types.specs.declared.fault.SchemaFault.TheVariants.{NoMemory}
 use Rattle.json_words.specs.Each.{each_member}
-use Rattle.schema_file.specs.Stated.{action_of, actions_of}
+use Rattle.schema_file.specs.FileForm.{action_of, actions_of}
 use Rattle.schema_file.specs.StatedViews.{action_view}
 use Rattle.json_words.proofs.MembersLemmas.{Entry, after, members_begin, member_goes, member_fails, members_done}
 use Rattle.schema_file.proofs.reading.read_actions.Goals as goal

@@ -1,7 +1,7 @@
 use Rattle.std.proofs.Common.{◌≡◌, map}
 use Rattle.serde_json.specs.View.{members_view}
 use Rattle.json_words.specs.Each.{each_member}
-use Rattle.schema_file.specs.Stated.{entity_type_of}
+use Rattle.schema_file.specs.FileForm.{entity_type_of}
 use Rattle.schema_file.specs.StatedViews.{entity_type_view}
 use Rattle.json_words.proofs.MembersLemmas.{after}
 use Rattle.schema_file.proofs.reading.read_entity_types.Given as goal

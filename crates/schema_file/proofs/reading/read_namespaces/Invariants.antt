@@ -1,7 +1,7 @@
 use Rattle.std.proofs.Common.{◌≡◌, map}
 use Rattle.serde_json.specs.View.{members_view}
 use Rattle.json_words.specs.Each.{each_member}
-use Rattle.schema_file.specs.Stated.{namespace_of}
+use Rattle.schema_file.specs.FileForm.{namespace_of}
 use Rattle.schema_file.specs.StatedViews.{namespace_view}
 use Rattle.json_words.proofs.MembersLemmas.{after}
 use Rattle.schema_file.proofs.reading.read_namespaces.Given as goal

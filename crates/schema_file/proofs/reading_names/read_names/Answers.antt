@@ -4,7 +4,7 @@ use Rattle.serde_json.specs.View.{view}
 use Rattle.json_words.specs.Each.{each}
 use Rattle.json_words.proofs.EachLemmas.{each_next, items_fail, items_end}
 use Rattle.schema_types.specs.declared.fault.SchemaFault.TheVariants.{NoMemory}
-use Rattle.schema_file.specs.Stated.{name_of, names_of}
+use Rattle.schema_file.specs.FileForm.{name_of, names_of}
 use Rattle.schema_file.proofs.reading_names.read_names.Goals as goal
 
 pub loop-value-init : goal.loop-value-init

@@ -1,7 +1,7 @@
 use Rattle.std.proofs.Common.{◌≡◌, map, take, Ok}
 use Rattle.serde_json.specs.View.{view}
 use Rattle.json_words.specs.Each.{each}
-use Rattle.schema_file.specs.Stated.{name_of}
+use Rattle.schema_file.specs.FileForm.{name_of}
 use Rattle.schema_file.proofs.reading_names.read_names.Given as goal
 
 abbrev pub invariant-loop-value : goal.invariant-loop-value

@@ -1,6 +1,6 @@
 use Rattle.std.proofs.Common.{◌≡◌, map}
 use Rattle.schema_names.specs.Qualifying.{both, together}
-use Rattle.schema_names.specs.FoundViews.{found_view}
+use Rattle.schema_names.specs.ResolvedViews.{found_view}
 use Rattle.schema_names.proofs.joining.join_all.Given as goal
 
 abbrev pub invariant-loop-part : goal.invariant-loop-part

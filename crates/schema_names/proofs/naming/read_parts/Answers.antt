@@ -5,7 +5,7 @@ use Rattle.schema_types.specs.declared.fault.SchemaFault.TheVariants.{NoMemory}
 use Rattle.schema_file.specs.declared.stated.StatedNamespace.{StatedNamespace}
 use Rattle.schema_file.specs.StatedViews.{namespace_view}
 use Rattle.schema_names.specs.Qualifying.{together}
-use Rattle.schema_names.specs.FoundViews.{found_view}
+use Rattle.schema_names.specs.ResolvedViews.{found_view}
 use Rattle.schema_names.specs.Naming.{IsNamed, NamesRefused}
 use Rattle.schema_names.proofs.NamingLemmas.{json_refused, shape_refused, bytes_named}
 use Rattle.schema_names.proofs.naming.read_parts.Goals as goal

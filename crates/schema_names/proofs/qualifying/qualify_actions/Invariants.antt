@@ -2,7 +2,7 @@ use Rattle.std.proofs.Common.{◌≡◌, map, take, Ok}
 use Rattle.json_words.specs.Each.{each}
 use Rattle.schema_file.specs.schema_types.NamesViews.{scope_of, is_action_of}
 use Rattle.schema_file.specs.StatedViews.{action_view}
-use Rattle.schema_names.specs.FoundViews.{found_action_view}
+use Rattle.schema_names.specs.ResolvedViews.{found_action_view}
 use Rattle.schema_names.specs.Qualifying.{qualified_action}
 use Rattle.schema_names.proofs.qualifying.qualify_actions.Given as goal
 

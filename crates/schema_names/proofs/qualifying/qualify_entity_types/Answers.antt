@@ -4,7 +4,7 @@ use Rattle.json_words.specs.Each.{each}
 use Rattle.json_words.proofs.EachLemmas.{each_ends}
 use Rattle.schema_file.specs.schema_types.NamesViews.{scope_of}
 use Rattle.schema_file.specs.StatedViews.{entity_type_view}
-use Rattle.schema_names.specs.FoundViews.{found_entity_type_view}
+use Rattle.schema_names.specs.ResolvedViews.{found_entity_type_view}
 use Rattle.schema_names.specs.Qualifying.{qualified_entity_type, qualified_entity_types}
 use Rattle.schema_names.proofs.GatheringLemmas.{one_more, none_more}
 use Rattle.schema_names.proofs.qualifying.qualify_entity_types.Goals as goal

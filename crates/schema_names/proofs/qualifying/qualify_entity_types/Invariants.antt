@@ -2,7 +2,7 @@ use Rattle.std.proofs.Common.{◌≡◌, map, take, Ok}
 use Rattle.json_words.specs.Each.{each}
 use Rattle.schema_file.specs.schema_types.NamesViews.{scope_of}
 use Rattle.schema_file.specs.StatedViews.{entity_type_view}
-use Rattle.schema_names.specs.FoundViews.{found_entity_type_view}
+use Rattle.schema_names.specs.ResolvedViews.{found_entity_type_view}
 use Rattle.schema_names.specs.Qualifying.{qualified_entity_type}
 use Rattle.schema_names.proofs.qualifying.qualify_entity_types.Given as goal
 

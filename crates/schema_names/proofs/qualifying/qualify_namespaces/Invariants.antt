@@ -2,7 +2,7 @@ use Rattle.std.proofs.Common.{◌≡◌, map, take, Ok}
 use Rattle.json_words.specs.Each.{each}
 use Rattle.schema_file.specs.schema_types.NamesViews.{scope_of, is_action_of}
 use Rattle.schema_file.specs.StatedViews.{namespace_view}
-use Rattle.schema_names.specs.FoundViews.{found_view}
+use Rattle.schema_names.specs.ResolvedViews.{found_view}
 use Rattle.schema_names.specs.Qualifying.{qualified_namespace}
 use Rattle.schema_names.proofs.qualifying.qualify_namespaces.Given as goal
 

@@ -1,4 +1,4 @@
-use Rattle.site_steps.proofs.RightRuns.{runs_are_sound as law}
+use Rattle.site_steps.proofs.PermittedRuns.{runs_are_sound as law}
 use Rattle.site_steps.proofs.laws.runs_are_sound.Goals as goal
 
 pub returns : goal.returns

@@ -21,7 +21,7 @@ returns c = λ K h.
     let k = c.args.name.now in
     let after = c.args.known.now in
     let t = typed_so E K after a c.in-Ok.is h in
-    let p : learned.Pair = (a, k) in
+    let p : learned.Capability = (a, k) in
     let d = subst (λ M. Decides c.knows-is_known.result (Contains M p)) t.0 c.knows-is_known.ensures in
     row_judged E K after (form.Field a k) _ _ _ c.field_type-row.ensures.row c.typed_row.ensures t.0
     (λ u e. typing.types_field a k t.1 d e) (λ m e. faults.fault_of_field a k t.1 d e)

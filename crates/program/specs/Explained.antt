@@ -1,0 +1,100 @@
+-- Defines what a command with the option `--explain` does: it runs as without it and, where texts are rejected, then
+-- explains them on standard error.
+-- Source: docs/operating.md, "Find out why a text is rejected".
+-- Rules of this product: what the command reports comes first, and its status stays as it is; behind it stand the lines
+-- that `explain` prints on the same files or, if nothing is rejected of these by themselves, the text on the code that
+-- is reported. Where nothing is rejected, the option changes nothing. If memory for an explanation is refused, a line
+-- says so in its place.
+use Rattle.std.specs.Prelude.{◌≡◌, ◌⊎◌, ℕ, Bool, true, false, List, [], ◌∷◌, ◌++◌, codes}
+use Rattle.std.specs.Prelude.{Option, None, Some, unwrap_or}
+use Rattle.explanations.specs.explanation_texts.fault_words.declared.table.CodeWords.{CodeWords}
+use Rattle.explanations.specs.explanation_texts.fault_words.CodeText.{code_text}
+use Rattle.explanations.specs.explanation_texts.fault_words.Codes.{is_code}
+use Rattle.explanations.specs.Files.{File, Files}
+use Rattle.explanations.specs.Explained.{IsExplained}
+use Rattle.program_drills.specs.http_service.answer_lines.declared.refusal.Refusal.{Refusal}
+use Rattle.program_drills.specs.http_service.answer_lines.Refusals.{no_memory}
+use Rattle.program.specs.declared.device.Stream.TheVariants.{Faults}
+use Rattle.program.specs.Events.{Event, wrote}
+use Rattle.program.specs.Reports.{ended, IsAnswerReported, IsRefusalReported, IsMemoryReported}
+use Rattle.program.specs.Courses.{Course, IsRefusedFor}
+use Rattle.program.specs.Explaining.{IsWithoutEnd}
+
+-- `file_held name text` is a file with its content.
+abbrev pub file_held : List ℕ → List ℕ → File
+file_held name text = record { name = name; text = text }
+
+-- `policies_of file` is the file of policies that is given; if none is, one without a name and without a byte.
+abbrev pub policies_of : Option File → File
+policies_of file = unwrap_or file (file_held [] [])
+
+-- `schema_files name schema` are the files of a command that takes messages: its schema. What is rejected of a message
+-- is explained by the code that is reported.
+abbrev pub schema_files : List ℕ → List ℕ → Files
+schema_files name schema = record {
+  schema = Some (file_held name schema);
+  policies = policies_of None;
+  entities = None;
+  request = None;
+}
+
+-- ---- texts
+
+-- `IsCodeText code text` holds if `text` is the text on this code; it is empty if there is no such code.
+abbrev pub IsCodeText : ℕ → List ℕ → Type 0
+IsCodeText code text = ((words : CodeWords) × (words.code ≡ code) × (text ≡ code_text words))
+    ⊎ ((is_code code ≡ false) × (text ≡ []))
+
+-- `IsThatOr Other first text` holds if `text` is `first`; if that is empty, if `Other text` holds.
+abbrev pub IsThatOr : (List ℕ → Type 0) → List ℕ → List ℕ → Type 0
+IsThatOr Other [] text = Other text
+IsThatOr Other (byte ∷ bytes) text = text ≡ byte ∷ bytes
+
+-- `IsRefusalText files code text` holds if `text` explains what is rejected of the files; if nothing is, this code.
+abbrev pub IsRefusalText : Files → ℕ → List ℕ → Type 0
+IsRefusalText files code text = (first : List ℕ) × IsExplained files first × IsThatOr (IsCodeText code) first text
+
+-- ---- what a run does
+
+module _ {L : Type 0} where
+  -- `IsTold line events` writes a line on standard error, whether or not the stream takes it.
+  abbrev pub IsTold : List ℕ → List (Event L) → Type 0
+  IsTold line events = (done : Bool) × (events ≡ wrote Faults (ended line) done ∷ [])
+
+  -- `AreLinesTold lines events` writes lines, if there are any.
+  abbrev pub AreLinesTold : List ℕ → List (Event L) → Type 0
+  AreLinesTold [] events = events ≡ []
+  AreLinesTold (byte ∷ lines) events = IsTold (byte ∷ lines) events
+
+  -- `IsTextTold text events` writes the lines of a text.
+  abbrev pub IsTextTold : List ℕ → List (Event L) → Type 0
+  IsTextTold text events = (lines : List ℕ) × IsWithoutEnd text lines × AreLinesTold lines events
+
+  -- `IsExplanationTold Is events` writes a text for which `Is` holds, or that there is no memory for it.
+  abbrev pub IsExplanationTold : (List ℕ → Type 0) → List (Event L) → Type 0
+  IsExplanationTold Is events =
+      ((text : List ℕ) × Is text × IsTextTold text events) ⊎ IsTold (codes "explanation: out of memory") events
+
+  -- `Explains wanted Is course` is `course`, followed, if `wanted`, by a text for which `Is` holds. The status is that
+  -- of `course`.
+  abbrev pub Explains : Bool → (List ℕ → Type 0) → Course L → Course L
+  Explains false Is course events end = course events end
+  Explains true Is course events end = (first behind : List (Event L)) × course first end
+      × IsExplanationTold Is behind × (events ≡ first ++ behind)
+
+  -- `IsRefusalTold refusal` reports a refusal, or that memory was refused.
+  abbrev pub IsRefusalTold : Refusal → Course L
+  IsRefusalTold refusal events end = IsRefusalReported refusal events end ⊎ IsMemoryReported events end
+
+  -- `IsRefusedWith wanted files Refused` reports the refusal for which `Refused` holds and, if `wanted`, then explains
+  -- what is rejected of the files, or its code.
+  abbrev pub IsRefusedWith : Bool → Files → (Refusal → Type 0) → Course L
+  IsRefusedWith false files Refused events end = IsRefusedFor Refused events end
+  IsRefusedWith true files Refused events end = (refusal : Refusal) × ((refusal ≡ no_memory) ⊎ Refused refusal)
+      × Explains true (IsRefusalText files refusal.code) (IsRefusalTold refusal) events end
+
+  -- `IsLineOrRefusedWith wanted files Decided Refused` reports a line for which `Decided` holds, or else the refusal.
+  abbrev pub IsLineOrRefusedWith : Bool → Files → (List ℕ → Type 0) → (Refusal → Type 0) → Course L
+  IsLineOrRefusedWith wanted files Decided Refused events end =
+      ((line : List ℕ) × Decided line × IsAnswerReported line events end)
+      ⊎ IsRefusedWith wanted files Refused events end

@@ -1,0 +1,158 @@
+//! What is rejected: the report on it and, if that is asked for, an explanation behind it.
+ghost use Rattle.std.specs.Prelude.{◌≡◌, ◌&&◌, IfOk, option_map, string_bytes};
+ghost use Rattle.std.specs.Process.{exit_status};
+ghost use Rattle.explanations.specs.Explained.{IsExplained};
+ghost use Rattle.explanations.specs.Files.{file_of, files_of};
+ghost use Rattle.program.specs.Events.{Runs};
+ghost use Rattle.program.specs.Explained.{IsCodeText, IsRefusalText, IsTextTold, IsRefusalTold, Explains};
+ghost use Rattle.program.specs.Explained.{IsExplanationTold, policies_of, schema_files};
+ghost use Rattle.program.specs.inner.Telling.{IsMadeTold};
+ghost use Rattle.program.specs.Reports.{AreLinesReported};
+
+use crate::device::Stream;
+use crate::explaining::is_some_text;
+use crate::host::Host;
+use crate::report::{report_lines, report_refusal, without_end};
+use explanations::{Given, Source, code_text, explain_texts, words_of};
+use plain::NoMemory;
+use program_drills::Refusal;
+use std::alloc::Global;
+use std::process::ExitCode;
+
+/// The line in place of an explanation for which memory was refused.
+const NO_EXPLANATION: &str = "explanation: out of memory";
+
+/// Returns the policies that are given; if none are, those of an empty file.
+pub(crate) fn policies_of<'n, 't>(source: Option<Source<'n, 't>>) -> Source<'n, 't>
+    ensures { file_of result ≡ policies_of (option_map file_of source.entry) }
+{
+    match source {
+        Some(source) => source,
+        None => Source {
+            name: "",
+            text: b"",
+        },
+    }
+}
+
+/// Returns the files of a command that takes messages, as they are explained: its schema.
+pub(crate) fn schema_given<'n, 't>(name: &'n str, schema: &'t [u8]) -> Given<'n, 't>
+    ensures { files_of result ≡ schema_files name.entry.now schema.entry.now }
+{
+    Given {
+        schema: Some(Source { name, text: schema }),
+        policies: policies_of(None),
+        entities: None,
+        request: None,
+    }
+}
+
+/// Writes the lines of a text on standard error.
+fn tell_text<H: Host>(host: &mut H, text: &str)
+    ensures { Runs H.does host.old host.new (λ events. IsTextTold text.now events) }
+{
+    let lines = without_end(text);
+    if lines.is_empty() {
+        return;
+    }
+    let _ = host.write_line(Stream::Faults, "", lines.as_bytes());
+}
+
+/// Writes a text on standard error, or that there is no memory for it.
+fn tell_made<H: Host>(host: &mut H, made: Result<String, NoMemory>)
+    ensures { Runs H.does host.old host.new (λ events. IsMadeTold made events) }
+{
+    match made {
+        Ok(text) => tell_text(host, text.as_str()),
+        Err(_) => {
+            let _ = host.write_line(Stream::Faults, "", NO_EXPLANATION.as_bytes());
+        }
+    }
+}
+
+/// Returns the text on a code; the empty one if there is no such code.
+fn text_on(alloc: Global, code: u8) -> Result<String, NoMemory>
+    ensures { IfOk result (λ text. IsCodeText code (string_bytes text)) }
+{
+    match words_of(u16::from(code)) {
+        Some(words) => code_text(alloc, words),
+        None => Ok(String::new(alloc)),
+    }
+}
+
+/// Returns the text that explains what is rejected of texts; if nothing is, that on the code of a refusal.
+fn refusal_text(alloc: Global, given: &Given<'_, '_>, code: u8) -> Result<String, NoMemory>
+    ensures { IfOk result (λ text. IsRefusalText (files_of given.now) code (string_bytes text)) }
+{
+    let text = explain_texts(alloc, given)?;
+    if is_some_text(text.as_str()) {
+        return Ok(text);
+    }
+    text_on(alloc, code)
+}
+
+/// Explains a refusal on standard error.
+fn explain_refusal<H: Host>(alloc: Global, host: &mut H, given: &Given<'_, '_>, code: u8)
+    ensures { Runs H.does host.old host.new
+        (λ events. IsExplanationTold (IsRefusalText (files_of given.now) code) events) }
+{
+    tell_made(host, refusal_text(alloc, given, code))
+}
+
+/// Explains on standard error what is rejected of texts.
+fn explain_given<H: Host>(alloc: Global, host: &mut H, given: &Given<'_, '_>)
+    ensures { Runs H.does host.old host.new
+        (λ events. IsExplanationTold (IsExplained (files_of given.now)) events) }
+{
+    tell_made(host, explain_texts(alloc, given))
+}
+
+/// Reports a refusal and, if that is asked for, explains it behind that: what is rejected of the texts or, if nothing
+/// is by itself, its code.
+pub(crate) fn report_rejected<H: Host>(
+    alloc: Global,
+    host: &mut H,
+    refusal: Refusal,
+    explain: bool,
+    given: &Given<'_, '_>,
+) -> ExitCode
+    ensures { Runs H.does host.old host.new (λ events.
+        Explains explain (IsRefusalText (files_of given.now) refusal.code) (IsRefusalTold refusal) events
+        (exit_status result)) }
+{
+    let end = report_refusal(alloc, host, refusal);
+    if !explain {
+        return end;
+    }
+    explain_refusal(alloc, host, given, refusal.code);
+    end
+}
+
+/// Returns whether the policies of a check are explained: if that is asked for and one is rejected.
+fn is_explained(explain: bool, some_refused: bool) -> bool
+    ensures { result ≡ explain && some_refused }
+{
+    explain && some_refused
+}
+
+/// Reports the lines of policies and, if one is rejected and that is asked for, explains behind them what is rejected
+/// of the texts.
+pub(crate) fn report_checked<H: Host>(
+    alloc: Global,
+    host: &mut H,
+    lines: &[u8],
+    some_refused: bool,
+    explain: bool,
+    given: &Given<'_, '_>,
+) -> ExitCode
+    ensures { Runs H.does host.old host.new (λ events.
+        Explains (explain && some_refused) (IsExplained (files_of given.now))
+        (AreLinesReported lines.now some_refused) events (exit_status result)) }
+{
+    let end = report_lines(host, lines, some_refused);
+    if !is_explained(explain, some_refused) {
+        return end;
+    }
+    explain_given(alloc, host, given);
+    end
+}

@@ -1,0 +1,27 @@
+-- Defines the theorem that no reply of a site has an error of type, of an attribute or of an extension function.
+-- Source: cedar-spec, cedar-lean/Cedar/Thm/Validation.lean (`validation_is_sound`).
+use Rattle.std.specs.Prelude.{ℕ, List, Ok}
+use Rattle.std.specs.List.{AllByRecursion}
+use Rattle.site_store.specs.schema.Schemas.{StatedSchema, IsSchemaOf}
+use Rattle.site_store.specs.stamped_store.Store.{Store}
+use Rattle.site_soundness.specs.Answers.{HasPermittedErrors}
+use Rattle.site_steps.specs.Inputs.{Input}
+use Rattle.site_steps.specs.declared.reply.Reply.{Reply}
+use Rattle.site_steps.specs.declared.reply.Reply.TheVariants as reply
+use Rattle.site_steps.specs.Runs.{Run}
+
+-- `IsPermittedReply r` holds if `r` is not an answer to a request, or each error in that answer is
+-- `EntityDoesNotExist` or `ArithBoundsError`.
+abbrev pub IsPermittedReply : Reply → Type 0
+IsPermittedReply (reply.Answered (Ok a)) = HasPermittedErrors a
+IsPermittedReply _ = Unit {0}
+
+-- `AreHarmlessReplies rs` holds if each reply of `rs` is such a reply.
+abbrev pub AreHarmlessReplies : List Reply → Type 0
+AreHarmlessReplies replies = AllByRecursion IsPermittedReply replies
+
+-- Under a schema that bytes state, all replies of a run are such replies, whatever the site held before.
+abbrev pub RunsAreSound : Type 0
+RunsAreSound = (bytes : List ℕ) (schema : StatedSchema) → IsSchemaOf bytes schema → (n : List ℕ) (s : Store)
+    (inputs : List Input) (replies : List Reply) (t : Store) → Run schema n s inputs replies t
+    → AreHarmlessReplies replies

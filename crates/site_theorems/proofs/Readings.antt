@@ -1,0 +1,88 @@
+-- Answers and cycles over a store, by two readings of its entities that agree.
+use Rattle.std.proofs.Common.{◌≡◌, ℕ, List, Option, Some, None, Result, Ok, Err}
+use Rattle.std.specs.Prelude.{◌↔◌}
+use Rattle.serde_json.specs.Data.{Data}
+use Rattle.values.specs.declared.entity_uid.EntityUid.{EntityUid}
+use Rattle.values.specs.declared.request.Request.{Request}
+use Rattle.site.specs.site_steps.policy_grammar.declared.policy.Policy.{Policy}
+use Rattle.site.specs.site_steps.authoriser.declared.answer.Answer.{Answer}
+use Rattle.site.specs.site_steps.schema.Schemas.{StatedSchema}
+use Rattle.site.specs.site_steps.entity_data.declared.entity.Entity.{Entity}
+use Rattle.site.specs.site_steps.entities.declared.fault.EntityFault.{EntityFault}
+use Rattle.site.specs.site_steps.entities.declared.fault.EntityFault.TheVariants.{BadShape}
+use Rattle.site.specs.site_steps.stamped_store.Store.{Store, entity_name}
+use Rattle.site.specs.site_steps.stamped_store.Contents.{text_under}
+use Rattle.site.specs.site_steps.site_meaning.StoreMeaning.{IsReadFrom, AreEntities, IsAnswerOver, MakesCycle}
+use Rattle.site.specs.site_steps.site_meaning.StoreMeaning.{MakesNoCycle}
+use Rattle.site.specs.site_steps.Admitted.{entity_stated, IsRequestOf, IsNoRequest}
+use Rattle.entity_theorems.specs.Entities.{StatesEntity, RefusesEntity}
+use Rattle.entity_theorems.specs.Requests.{DescribesRequest, RefusesRequest}
+use Rattle.entity_theorems.specs.Laws.{EntitiesAreRead, RequestsAreRead}
+use Rattle.site_theorems.specs.Steps.{JsonStates, JsonRefused}
+
+-- ---- entities of a store
+
+module _ (R S : EntityUid → List ℕ → Entity → Type 0)
+    (f : (uid : EntityUid) (text : List ℕ) (e : Entity) → R uid text e → S uid text e) where
+  read_as : (uid : EntityUid) (o : Option (List ℕ)) (e : Option Entity) → IsReadFrom (R uid) o e
+      → IsReadFrom (S uid) o e
+  read_as uid None None h = tt
+  read_as uid None (Some e) h = h
+  read_as uid (Some text) None h = h
+  read_as uid (Some text) (Some e) h = f uid text e h
+
+  are_as : (s : Store) (entities : EntityUid → Option Entity) → AreEntities R s entities → AreEntities S s entities
+  are_as s entities h = λ uid. read_as uid (text_under s (entity_name uid)) (entities uid) (h uid)
+
+  pub answer_as : (P : List ℕ → List ℕ → Policy → Type 0) (schema : StatedSchema) (s : Store) (q : Request) (a : Answer)
+      → IsAnswerOver P R schema s q a → IsAnswerOver P S schema s q a
+  answer_as P schema s q a h = record {
+    policies = h.policies;
+    are_policies = h.are_policies;
+    entities = h.entities;
+    are_entities = are_as s h.entities h.are_entities;
+    is_answer = h.is_answer;
+  }
+
+  pub cycle_as : (schema : StatedSchema) (s : Store) (e : Entity) → MakesCycle R schema s e → MakesCycle S schema s e
+  cycle_as schema s e h = record {
+    entities = h.entities;
+    are_entities = are_as s h.entities h.are_entities;
+    cycle = h.cycle;
+  }
+
+  pub no_cycle_as : (schema : StatedSchema) (s : Store) (e : Entity) → MakesNoCycle R schema s e
+      → MakesNoCycle S schema s e
+  no_cycle_as schema s e h = record {
+    entities = h.entities;
+    are_entities = are_as s h.entities h.are_entities;
+    none = h.none;
+  }
+
+-- ---- JSON
+
+abbrev refused : EntityFault → Result Entity EntityFault
+refused f = Err f
+
+bad_is : (f : EntityFault) → refused BadShape ≡ refused f → f ≡ BadShape
+bad_is f e = cc
+
+pub entity_value : EntitiesAreRead → (schema : StatedSchema) (json : Option Data) (e : Entity)
+    → (entity_stated schema json ≡ Ok e) ↔ JsonStates (StatesEntity schema) json e
+entity_value read schema None e = ((λ h. absurd cc), (λ h. absurd h))
+entity_value read schema (Some d) e = (read schema d).value e
+
+pub entity_fault : EntitiesAreRead → (schema : StatedSchema) (json : Option Data) (f : EntityFault)
+    → (entity_stated schema json ≡ Err f) ↔ JsonRefused (RefusesEntity schema) json f
+entity_fault read schema None f = (bad_is f, (λ h. cc))
+entity_fault read schema (Some d) f = (read schema d).fault f
+
+pub request_value : RequestsAreRead → (schema : StatedSchema) (json : Option Data) (q : Request)
+    → IsRequestOf schema json q ↔ JsonStates (DescribesRequest schema) json q
+request_value read schema None q = ((λ h. h), (λ h. h))
+request_value read schema (Some d) q = (read schema d).states q
+
+pub request_fault : RequestsAreRead → (schema : StatedSchema) (json : Option Data) (f : EntityFault)
+    → IsNoRequest schema json f ↔ JsonRefused (RefusesRequest schema) json f
+request_fault read schema None f = ((λ h. h), (λ h. h))
+request_fault read schema (Some d) f = (read schema d).refuses f

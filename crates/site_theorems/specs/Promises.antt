@@ -1,0 +1,40 @@
+-- Defines the headline: the promises of systems of sites, over relations between bytes and what they state.
+-- Rules of this product: schemas, entities, requests, messages and summaries are those that bytes state; no function
+-- that parses is cited.
+use Rattle.std.specs.Prelude.{◌≡◌, ℕ, List, Some, None, Ok}
+use Rattle.json_words.specs.Json.{json_of}
+use Rattle.site.specs.site_steps.schema.Schemas.{StatedSchema}
+use Rattle.site.specs.site_steps.schema.SchemaEntries.{SchemaEntries}
+use Rattle.site.specs.site_steps.schema.Views.{schema_view}
+use Rattle.site.specs.site_steps.entity_data.declared.entity.Entity.{Entity}
+use Rattle.site.specs.site_steps.entities.Canonical.{canonical_text}
+use Rattle.site.specs.site_steps.stamped_store.Store.{Update, issued, policy_name, entity_name}
+use Rattle.site.specs.site_steps.declared.reply.Reply.{Reply}
+use Rattle.site.specs.site_steps.declared.reply.Reply.TheVariants as reply
+use Rattle.site.specs.declared.event.Operation.{Operation}
+use Rattle.site.specs.declared.event.Operation.TheVariants as operation
+use Rattle.site.specs.Promises.{SystemsKeepPromises}
+use Rattle.entity_theorems.specs.Entities.{StatesEntity}
+use Rattle.message_theorems.specs.Updates.{StatesUpdates}
+use Rattle.schema_theorems.specs.Schemas.{StatesSchema}
+use Rattle.site_theorems.specs.Steps.{JsonStates, IsStep}
+
+-- `Issues schema d r u` holds if the reply `r` to the local command `d` is a stamp, for the update `u`.
+abbrev pub Issues : StatedSchema → Operation → Reply → Update → Type 0
+Issues schema (operation.PutPolicy id text) (reply.Put (Ok put)) u =
+    u ≡ (policy_name id, issued put.stamp (Some text))
+Issues schema (operation.DeletePolicy id) (reply.Stamped (Ok stamp)) u = u ≡ (policy_name id, issued stamp None)
+Issues schema (operation.PutEntity bytes) (reply.Stamped (Ok stamp)) u =
+    (e : Entity) × JsonStates (StatesEntity schema) (json_of bytes) e
+    × (u ≡ (entity_name e.uid, issued stamp (Some (canonical_text e))))
+Issues schema (operation.DeleteEntity uid) (reply.Stamped (Ok stamp)) u = u ≡ (entity_name uid, issued stamp None)
+Issues schema _ _ u = ⊥
+
+-- `WorldsKeepPromises schema` holds if the promises hold for all sites of `schema`.
+abbrev pub WorldsKeepPromises : StatedSchema → Type 0
+WorldsKeepPromises schema = SystemsKeepPromises (IsStep schema) (StatesUpdates schema.label) (Issues schema)
+
+-- The headline: this holds for each schema that bytes state, as it is kept.
+abbrev pub AllWorldsKeepPromises : Type 0
+AllWorldsKeepPromises = (bytes : List ℕ) (schema : SchemaEntries) → StatesSchema bytes (schema_view schema)
+    → WorldsKeepPromises (schema_view schema)

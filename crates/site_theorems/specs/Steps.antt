@@ -1,0 +1,120 @@
+-- Defines the steps of a site by what JSON and bytes state: from the store s, with a result, to the store t.
+-- Sources: Cedar reference guide 4.0, "Entities and context: JSON format" and "Authorization request"; docs/formats.md.
+-- Rules of this product: bytes that are not JSON have the error `BadShape`; the cycle is checked before the clock; a
+-- message is rejected whole or its updates are applied in order; rejected inputs and queries leave the store unchanged.
+use Rattle.std.specs.Prelude.{◌≡◌, ℕ, List, Option, Some, None, Result, Ok, Err}
+use Rattle.serde_json.specs.Data.{Data}
+use Rattle.json_words.specs.Json.{json_of}
+use Rattle.values.specs.declared.request.Request.{Request}
+use Rattle.site.specs.site_steps.policy_grammar.declared.policy.Policy.{Policy}
+use Rattle.site.specs.site_steps.authoriser.declared.answer.Answer.{Answer}
+use Rattle.site.specs.site_steps.schema.Schemas.{StatedSchema}
+use Rattle.site.specs.site_steps.entity_data.declared.entity.Entity.{Entity}
+use Rattle.site.specs.site_steps.entities.declared.fault.EntityFault.{EntityFault}
+use Rattle.site.specs.site_steps.entities.declared.fault.EntityFault.TheVariants.{BadShape}
+use Rattle.site.specs.site_steps.entities.Canonical.{canonical_text}
+use Rattle.site.specs.site_steps.stamped_store.declared.entry.Stamp.{Stamp}
+use Rattle.site.specs.site_steps.stamped_store.Deltas as deltas
+use Rattle.site.specs.site_steps.stamped_store.Store.{Store, policy_name, entity_name}
+use Rattle.site.specs.site_steps.message_format.declared.update.Update.{Update}
+use Rattle.site.specs.site_steps.message_format.Messages.{state_text, delta_text}
+use Rattle.site.specs.site_steps.message_format.Summaries.{summary_text}
+use Rattle.site.specs.site_steps.message_format.Updates.{plain_updates}
+use Rattle.site.specs.site_steps.site_meaning.StoreMeaning.{IsAnswerOver, MakesCycle, MakesNoCycle}
+use Rattle.site.specs.site_steps.declared.fault.SiteFault.{SiteFault}
+use Rattle.site.specs.site_steps.declared.fault.SiteFault.TheVariants as fault
+use Rattle.site.specs.site_steps.declared.outcome.Taken.{Taken}
+use Rattle.site.specs.site_steps.Admitted.{IsPolicyUnder}
+use Rattle.site.specs.site_steps.Steps.{PutsPolicy, Deletes, Records, IsClockFull, TakesUpdates}
+use Rattle.site.specs.site_steps.Runs.{Finds, Writes}
+use Rattle.site.specs.site_steps.Inputs.{Input}
+use Rattle.site.specs.site_steps.Inputs as input
+use Rattle.site.specs.site_steps.declared.reply.Reply.{Reply}
+use Rattle.site.specs.site_steps.declared.reply.Reply.TheVariants as reply
+use Rattle.entity_theorems.specs.Entities.{StatesEntity, RefusesEntity}
+use Rattle.entity_theorems.specs.Requests.{DescribesRequest, RefusesRequest}
+use Rattle.message_theorems.specs.Texts.{StatesText}
+use Rattle.message_theorems.specs.Summaries.{StatesSummary, RefusesSummary}
+use Rattle.message_theorems.specs.Messages.{StatesMessage, RefusesMessage}
+
+-- ---- JSON, where `None` is bytes that are not JSON
+
+-- `JsonStates States json x` holds if `json` is JSON that states `x`.
+abbrev pub JsonStates : {A : Type 0} → (Data → A → Type 0) → Option Data → A → Type 0
+JsonStates States None x = ⊥
+JsonStates States (Some d) x = States d x
+
+-- `JsonRefused Refuses json f` holds if `json` is not JSON and `f` is `BadShape`, or is JSON with the error `f`.
+abbrev pub JsonRefused : (Data → EntityFault → Type 0) → Option Data → EntityFault → Type 0
+JsonRefused Refuses None f = f ≡ BadShape
+JsonRefused Refuses (Some d) f = Refuses d f
+
+-- ---- commands, at the site named n
+
+-- `PutsEntity schema n s json r t` holds if putting the entity that `json` states, as its canonical text, may lead
+-- from `s` to `t` with result `r`.
+abbrev pub PutsEntity : StatedSchema → List ℕ → Store → Option Data → Result Stamp SiteFault → Store → Type 0
+PutsEntity schema n s json (Ok stamp) t =
+    (e : Entity) × JsonStates (StatesEntity schema) json e × MakesNoCycle (StatesText schema) schema s e
+    × Records n s (entity_name e.uid) (Some (canonical_text e)) stamp t
+PutsEntity schema n s json (Err fault.NoMemory) t = t ≡ s
+PutsEntity schema n s json (Err (fault.Entity f)) t = JsonRefused (RefusesEntity schema) json f × (t ≡ s)
+PutsEntity schema n s json (Err fault.WouldCycle) t =
+    ((e : Entity) × JsonStates (StatesEntity schema) json e × MakesCycle (StatesText schema) schema s e) × (t ≡ s)
+PutsEntity schema n s json (Err fault.ClockFull) t =
+    ((e : Entity) × JsonStates (StatesEntity schema) json e × MakesNoCycle (StatesText schema) schema s e)
+    × IsClockFull s t
+PutsEntity schema n s json (Err _) t = ⊥
+
+-- `IsNoMessageOf schema bytes f` holds if `f` is `NoMemory` or the first error of `bytes` as a message of `schema`.
+abbrev pub IsNoMessageOf : StatedSchema → List ℕ → SiteFault → Type 0
+IsNoMessageOf schema bytes fault.NoMemory = Unit {0}
+IsNoMessageOf schema bytes (fault.Message f) = RefusesMessage schema bytes f
+IsNoMessageOf schema bytes _ = ⊥
+
+-- `TakesMessage schema s bytes r t` holds if the message `bytes` leads from the store `s` to `t` with result `r`: all
+-- its updates are applied, or the first ones, or it is rejected whole.
+abbrev pub TakesMessage : StatedSchema → Store → List ℕ → Result Taken SiteFault → Store → Type 0
+TakesMessage schema s bytes (Ok taken) t =
+    (us : List (Update Policy Entity)) × StatesMessage schema bytes us × TakesUpdates s (plain_updates us) taken t
+TakesMessage schema s bytes (Err f) t = IsNoMessageOf schema bytes f × (t ≡ s)
+
+-- ---- queries
+
+-- `Answers schema s json r` holds if `r` is an answer over `s` to the request that `json` states, or its first error,
+-- or `NoMemory`.
+abbrev pub Answers : StatedSchema → Store → Option Data → Result Answer SiteFault → Type 0
+Answers schema s json (Ok a) =
+    (q : Request) × JsonStates (DescribesRequest schema) json q
+    × IsAnswerOver (IsPolicyUnder schema) (StatesText schema) schema s q a
+Answers schema s json (Err fault.NoMemory) = Unit {0}
+Answers schema s json (Err (fault.Request f)) = JsonRefused (RefusesRequest schema) json f
+Answers schema s json (Err _) = ⊥
+
+-- `WritesDelta schema s summary r` holds if `r` is the delta of `s` against the summary in the bytes `summary`, or
+-- their first error as a summary of `schema`, or `NoMemory`.
+abbrev pub WritesDelta : StatedSchema → Store → List ℕ → Result (List ℕ) SiteFault → Type 0
+WritesDelta schema s summary (Ok written) =
+    (m : deltas.Summary) × StatesSummary schema.label summary m
+    × (written ≡ delta_text schema.label (deltas.delta s m))
+WritesDelta schema s summary (Err fault.NoMemory) = Unit {0}
+WritesDelta schema s summary (Err (fault.Message f)) = RefusesSummary schema.label summary f
+WritesDelta schema s summary (Err _) = ⊥
+
+-- ---- one step
+
+-- `IsStep schema n s i r t` holds if, at the site named `n` with store `s`, input `i` may yield reply `r` and store
+-- `t`.
+abbrev pub IsStep : StatedSchema → List ℕ → Store → Input → Reply → Store → Type 0
+IsStep schema n s (input.PutPolicy id text) (reply.Put r) t = PutsPolicy schema n s id text r t
+IsStep schema n s (input.DeletePolicy id) (reply.Stamped r) t = Deletes n s (policy_name id) r t
+IsStep schema n s (input.PutEntity bytes) (reply.Stamped r) t = PutsEntity schema n s (json_of bytes) r t
+IsStep schema n s (input.DeleteEntity uid) (reply.Stamped r) t = Deletes n s (entity_name uid) r t
+IsStep schema n s (input.Take bytes) (reply.Taken r) t = TakesMessage schema s bytes r t
+IsStep schema n s (input.Authorize bytes) (reply.Answered r) t = Answers schema s (json_of bytes) r × (t ≡ s)
+IsStep schema n s (input.GetPolicy id) (reply.Found r) t = Finds s id r × (t ≡ s)
+IsStep schema n s input.State (reply.Written r) t = Writes (state_text schema.label s) r × (t ≡ s)
+IsStep schema n s input.Summary (reply.Written r) t =
+    Writes (summary_text schema.label (deltas.summary_of s)) r × (t ≡ s)
+IsStep schema n s (input.Delta bytes) (reply.Written r) t = WritesDelta schema s bytes r × (t ≡ s)
+IsStep schema n s _ _ t = ⊥
