@@ -467,7 +467,7 @@ def refusals(one, file):
     ends("no file", 3, f"fault: {none}", *serve, *nowhere, "--state", none)
     ends("a state of another schema", 1, refusal(52), *serve, "--listen", "nowhere", "--state", other)
     ends("no schema", 1, refusal(20), "serve", "--schema", "policies.cedar", "--site", "east", "--listen", "nowhere")
-    ends("an address that is none", 3, "fault: nowhere", *serve, "--listen", "nowhere")
+    ends("an address that is not one", 3, "fault: nowhere", *serve, "--listen", "nowhere")
     ends("an address that is taken", 3, f"fault: 127.0.0.1:{one}", *serve, "--listen", f"127.0.0.1:{one}")
     pull = ("pull", *schema, "--site", "east")
     ends("nobody listens", 3, "fault: 127.0.0.1:1", *pull, "--from", "127.0.0.1:1", "--state", other)
@@ -475,7 +475,7 @@ def refusals(one, file):
     same("a refused state stays", kept, text_of(other))
     ends("merge with a refused state", 1, refusal(52), "merge", *schema, file, other)
     ends("merge with no file", 3, f"fault: {none}", "merge", *schema, other, none)
-    ends("a word that is no text", 2, "error: a word of the command line is not UTF-8", "check", b"\xff")
+    ends("an argument that is not UTF-8", 2, "error: an argument is not UTF-8", "check", b"\xff")
 
 
 def main():

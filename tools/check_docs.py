@@ -7,7 +7,7 @@
   layer or on rows below it.
 - docs/proved.md has, in bold, exactly the crates of crates.txt that are not tests, and each law by its name.
 - docs/definitions.md, docs/surface.md and the numbers of docs/reading.md are what tools/made_docs.py makes of the sources.
-- The headline or the contract of the whole program rests on each of the twelve files of docs/reading.md.
+- The promises of systems of sites or the contract of the whole program rest on each of the twelve files of docs/reading.md.
 - Each file of docs/, bench/, tools/, examples/, rows/ and of a crate's src/, specs/ and proofs/ that a document names by its path exists. Under a heading
   that names crates, so does each path that begins with specs/, proofs/, src/, must-fail/ or mutants/, in one of these crates.
 - README.md and docs/proving.md have the numbers of crates of the two programs, docs/proving.md that of all crates. tools/last_run.md has the number of
@@ -16,7 +16,7 @@
 - Lines of specs/ and src/ have at most 120 characters, except those of LONG.
 - docs/codes.md has a row for each number of an arm of a `fn code`, and for each number of a rejected body (`BodyFault::Refused`); of HTTP statuses only
   for those in place of a code. A reader must judge whether a row explains its number.
-- In these rows name, meaning and example of each code are those of the table that `cedar_site explain` prints from, crates/fault_words/src/table.rt; both
+- In these rows name, meaning and example of each code are those of the table that `cedar_site explain` prints from, crates/explanation_texts/src/table.rt; both
   have the same codes.
 - If a program's stdout has lines of a case and its outcome, stdin has these lines without the outcomes.
 - Each name of docs/where.md exists (tools/where_it_stands.py).
@@ -50,7 +50,7 @@ ARROW = "  ->  "
 LONG = {
     "crates/decision_texts/src/request.rt": 1,
     "crates/entities/src/requests.rt": 1,
-    "crates/fault_words/src/table.rt": 12,
+    "crates/explanation_texts/src/table.rt": 12,
     "crates/type_capabilities/src/compared.rt": 2,
 }
 
@@ -139,7 +139,7 @@ def about_numbers():
         ("README.md", f"`bare_decide`: {bare} crates"),
         ("README.md", f"the whole program: {whole} crates"),
         ("docs/proving.md", f"All {len(libraries)} crates and programs"),
-        ("docs/proving.md", f"(`bare_decide`) stands on {bare} crates, the whole program on {whole}"),
+        ("docs/proving.md", f"(`bare_decide`) needs {bare} crates, the whole program {whole}"),
     )
     for name, words in wanted:
         if words not in " ".join(text_of(name).split()):
@@ -193,7 +193,7 @@ def told_codes():
     """Name, meaning and example of each code, as the table of the code has them."""
     text = r'"((?:[^"\\]|\\.)*)"'
     row = r"CodeWords \{\s*code: (\d+),\s*name: TEXT,\s*meaning: TEXT,\s*example: TEXT,".replace("TEXT", text)
-    for code, *texts in re.findall(row, text_of("crates/fault_words/src/table.rt")):
+    for code, *texts in re.findall(row, text_of("crates/explanation_texts/src/table.rt")):
         yield int(code), [json.loads(f'"{it}"') for it in texts]
 
 
@@ -207,9 +207,9 @@ def about_code_table():
     for code in sorted(told.keys() | table.keys()):
         ours, theirs = told.get(code), table.get(code)
         if ours is None or theirs is None:
-            yield f"code {code} stands in docs/codes.md or in crates/fault_words/src/table.rt, and not in both"
+            yield f"code {code}: expected it in docs/codes.md and in crates/explanation_texts/src/table.rt, got it in one of them"
         elif ours[:2] != theirs[:2] or theirs[2] not in (None, ours[2]):
-            yield f"docs/codes.md says {theirs} of code {code}, and crates/fault_words/src/table.rt {ours}"
+            yield f"docs/codes.md: code {code}: expected {ours} (crates/explanation_texts/src/table.rt), got {theirs}"
 
 
 def about_cases():
@@ -230,7 +230,7 @@ def about_reading():
         yield f"docs/reading.md: expected twelve files, got {len(rows)}"
     for path, crate in rows:
         if not any(f"{TOP}/{path}" in it.get(crate, ()) for it in (files, headline)):
-            yield f"docs/reading.md: expected a file on which the headline or the whole program rests, got {path}"
+            yield f"docs/reading.md: expected a file on which the promises of systems or the whole program rest, got {path}"
 
 
 def about_performance():

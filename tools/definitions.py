@@ -542,7 +542,7 @@ def parser():
     reading.add_argument("start", metavar="CRATE MODULE NAME", nargs="*", help="the names to start at (default: the contract of the whole program)")
     reading.set_defaults(run=run_reading)
     paths = commands.add_parser("paths", help="counts the paths through the graph of crates, and fails if there are too many")
-    paths.add_argument("--total", metavar="N", type=int, default=38_000, help="the most paths (default: 38000)")
+    paths.add_argument("--total", metavar="N", type=int, default=36_000, help="the most paths (default: 36000)")
     paths.add_argument("--most", metavar="N", type=int, default=12_000, help="the most paths from one crate (default: 12000)")
     paths.set_defaults(run=run_paths)
     return top

@@ -37,8 +37,8 @@ IMPL = re.compile(r"^impl(?:<.*?>)? (?:(?P<trait>[\w:]+)(?:<.*>)? for )?(?P<type
 LONG = 20
 
 STANDARD = re.compile(r"(?:RFC|FIPS) [\d-]+(?:, sections? [\d., andto]*\d)?")
-# the definition of the headline: a crate, a module and a name
-HEADLINE = ("site_theorems", "Promises", "AllWorldsKeepPromises")
+# the definition of the headline over what bytes state: a crate, a module and a name
+HEADLINE = ("site_theorems", "Headline", "SitesAreAsStated")
 # the totals of docs/reading.md, of the headline and of the whole program
 TOTALS = re.compile(r"\d+(\s+files\s+of\s+specs/,\s+)\d+(\s+lines\s+of\s+definitions;\s+)\d+(\s+files\s+that\s+declare\s+types)")
 # sources in this repository
@@ -60,12 +60,10 @@ SHORTER = (
 
 DEFINITIONS = """# Definitions, in the order in which to read them
 
-Made by `tools/made_docs.py` from the head comments.
-
-The files of specs/ on which the contract of a whole run, `program::run`, rests (docs/reading.md),
-highest crate first: each with the number of its lines that count, and what it defines. The head
-comment of each file names its public source; `tools/made_docs.py --where NAME` prints the file and
-the source of any name.
+Made by `tools/made_docs.py` from the files of specs/ on which the contract of a whole run,
+`program::run`, rests (docs/reading.md), highest crate first: each file with the number of its lines
+that count, and what it defines. Its head comment names the public source, which
+`tools/made_docs.py --where NAME` prints for a name.
 """
 
 
@@ -225,7 +223,7 @@ def head_of(path):
 
 @functools.lru_cache(maxsize=None)
 def reached(headline=False):
-    """Of each crate the files of specs/ that the whole program's contract, or the headline, rests on, in the order in
+    """Of each crate the files of specs/ that the whole program's contract, or the promises of systems, rest on, in the order in
     which a reader meets them, each with how many of its lines; and the files of src/ whose types these name."""
     walk = specs.Walk()
     if headline:
@@ -287,9 +285,8 @@ def missing():
 
 
 def purpose_of(layer):
-    """Returns the purpose of a layer of crates.txt, as a sentence without its full stop."""
-    what = next(what for name, what, _ in layers() if name == layer).partition(". ")[0]
-    return what[:1].upper() + what[1:]
+    """Returns the purpose of a layer of crates.txt, up to its first full stop."""
+    return next(what for name, what, _ in layers() if name == layer).partition(". ")[0]
 
 
 def surface_page():

@@ -94,12 +94,11 @@ def rows():
 
 PAGE = """# The surface
 
-Made from the sources by `tools/made_docs.py`: to change it, change a doc comment there.
-
-Fifteen crates for programs that build on Weirbowl, lowest first. `tools/surface.py` fails if a name
-is missing; `tools/made_docs.py --calls CRATE` prints each type with its methods. A call that
-allocates takes `alloc: Global` first, after `self`, and may return `NoMemory`. An error implements
-`Error`, and its `code` is a number of docs/codes.md.
+Made by `tools/made_docs.py` from the doc comments. Fifteen crates for programs that build on
+Weirbowl, lowest first. `tools/surface.py` fails if a name is missing; `tools/made_docs.py --calls
+CRATE` prints each type with its methods. A call that allocates takes `alloc: Global` first, after
+`self`, and may return `NoMemory`. An error implements `Error`, and its `code` is a number of
+docs/codes.md.
 """
 
 
@@ -108,7 +107,7 @@ def page():
     lines, last = [PAGE], None
     for crate, name, item in rows():
         if crate != last:
-            lines += [*([""] if last else []), f"## `{crate}`: {made_docs.purpose_of(crate)[:1].lower()}{made_docs.purpose_of(crate)[1:]}", ""]
+            lines += [*([""] if last else []), f"## `{crate}`: {made_docs.purpose_of(crate)}", ""]
             last = crate
         says = made_docs.clause(item.says, 80) if item else "missing"
         end = "" if says.endswith("?") else "."

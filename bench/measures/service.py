@@ -1,5 +1,6 @@
 """Measures the served program over loopback, and `merge`: microseconds a request (by the clock, so on a quiet machine),
-and the greatest resident memory. Needs python3 and GNU time. PROGRAM names another binary.
+and the greatest resident memory; of a decision's line in a log the instructions. Needs python3, GNU time, and for `log`
+valgrind. PROGRAM names another binary.
 
   bench/measure.py service authorize [POLICIES ..]   one kept connection: one by one, and 32 together (default: 10, 1,000,
                                                      10,000)
@@ -7,6 +8,8 @@ and the greatest resident memory. Needs python3 and GNU time. PROGRAM names anot
                                                      1,000, 10,000)
   bench/measure.py service merge [ENTRIES ..]        two states of ENTRIES entries (default: 1,000, 10,000, 100,000)
   bench/measure.py service start                     from the start to `listening`, with an empty store
+  bench/measure.py service log [POLICIES ..]         instructions of a decision without a log and with `--log /dev/null`,
+                                                     one by one, and of its line (default: 10, 1,000)
 """
 import hashlib
 import json
@@ -15,7 +18,7 @@ import resource
 import sys
 import tempfile
 import time
-from runs import TIMING, Ended, Link, Served, request, resident, whole
+from runs import COUNTING, TIMING, Ended, Link, Served, collected, request, resident, whole
 
 PROGRAM, WHAT, SIZES = whole(), sys.argv[1] if sys.argv[1:] else "", [int(it) for it in sys.argv[2:]]
 USES = {"principalTypes": ["User"], "resourceTypes": ["Doc"]}
@@ -97,9 +100,33 @@ def start(room):
     print(f"start: {sorted(found)[10]:.1f} ms, {kib} KiB")
 
 
-MEASURES = {"authorize": authorize, "put": put, "merge": merge, "start": start}
+def instructions(room, times, *words):
+    """Returns the instructions of a served site that makes so many decisions, one by one, on one connection."""
+    with Served([*COUNTING, PROGRAM], room, "--state", "state", *words) as site:
+        link = Link(site.port)
+        for _ in range(times):
+            [(status, body)] = link.ask(request("POST", "/v1/authorize", ASKED))
+            if status != 200 or b'"Allow"' not in body:
+                sys.exit(f"expected the decision Allow, got {status}: {body.decode()}")
+        link.close()
+        site.child.terminate()
+        site.child.wait()
+        return collected(site.told())
+
+
+def log(room):
+    print(f"{'policies':>9} {'a decision, Ir':>15} {'with its line':>14} {'the line':>9} {'of a decision':>14}")
+    for count in SIZES or [10, 1000]:
+        write(room, "state", state(count, "00002"))
+        none, lines = ((instructions(room, 1500, *words) - instructions(room, 500, *words)) / 1000
+                       for words in ((), ("--log", "/dev/null")))
+        line = lines - none
+        print(f"{count:>9} {none:>15,.0f} {lines:>14,.0f} {line:>9,.0f} {line / none:>14.1%}", flush=True)
+
+
+MEASURES = {"authorize": authorize, "put": put, "merge": merge, "start": start, "log": log}
 if WHAT not in MEASURES:
-    sys.exit("usage: bench/measure.py service authorize | put | merge | start")
+    sys.exit("usage: bench/measure.py service authorize | put | merge | start | log")
 with tempfile.TemporaryDirectory() as room:
     write(room, "schema", SCHEMA)
     MEASURES[WHAT](room)

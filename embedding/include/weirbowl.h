@@ -47,7 +47,7 @@ typedef struct weirbowl_result {
 
 /* Opens a site with nothing stored, under a schema. `name` goes into its stamps: 1 to 32 ASCII letters, digits, `-`, `_`
  * or `.`, another for each site that exchanges with it.
- * Returns 0; 1 if out of memory; 2 if the name is not a site's; 3 if the site is open already; 20 to 25 if the bytes are
+ * Returns 0; 1 if out of memory; 2 if the name is not a site name; 3 if the site is open already; 20 to 25 if the bytes are
  * not a schema. */
 uint32_t weirbowl_open(weirbowl_site *site, const uint8_t *schema, size_t schema_length, const uint8_t *name,
                        size_t name_length);

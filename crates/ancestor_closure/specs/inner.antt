@@ -1,2 +1,3 @@
 pub mod OneChange
 pub mod WholeGraph
+pub mod Placing

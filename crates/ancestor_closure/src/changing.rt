@@ -11,11 +11,12 @@ ghost use Rattle.ancestor_search.specs.Hierarchy.{Parents, IsAscending, names};
 ghost use Rattle.ancestor_closure.specs.Lists.{IsKeptOf, ancestors_in, children_in, IsKeptBut};
 ghost use Rattle.ancestor_closure.specs.Lists.{SameLists, SameChildren, IsThere, StayThere, AddsChild};
 ghost use Rattle.ancestor_closure.specs.inner.OneChange.{TakesChild, firsts, written, IsInOwn, ListsAscend, Enters};
-ghost use Rattle.ancestor_closure.specs.inner.OneChange.{Leaves, IsPlanned};
+ghost use Rattle.ancestor_closure.specs.inner.OneChange.{AreListsBut, Leaves, IsPlanned};
 
+use crate::by_parent::new_lists;
 use crate::children::{add_to_all, entity_and_below, take_from_all};
 use crate::cycles::{enter_all, leave_all};
-use crate::lists::{are_among, are_in, lists_of, shared_all, write_all};
+use crate::lists::{are_among, are_in, shared_all, write_all};
 use crate::relatives::{Relatives, ancestors_at, is_child, release, release_all, reserve, shared};
 use crate::room::CacheBudget;
 use ancestor_search::{ParentsOf, listed};
@@ -158,6 +159,8 @@ fn planned<G: ParentsOf>(
 ) -> Result<Change, NoMemory>
     requires all { (x : PlainUid) → Contains (names parents.now) x ↔ Contains (G.parents graph.now uid.now) x }
     requires ascending { IsAscending (names parents.now) }
+    requires known { AreListsBut uid.now (G.parents graph.now)
+        (ancestors_in relatives.now) (children_in relatives.now) }
     ensures { IfOk result (λ change. IsPlanned (G.parents graph.now) uid.now
         (ancestors_in relatives.now) (children_in relatives.now) change) }
 {
@@ -165,7 +168,7 @@ fn planned<G: ParentsOf>(
     let before = parents_before(alloc, relatives, &name)?;
     let after = shared_all(alloc, relatives, parents)?;
     let entities = entity_and_below(alloc, relatives, uid)?;
-    let lists = lists_of(alloc, graph, relatives, &entities, room)?;
+    let lists = new_lists(alloc, graph, relatives, &name, &after, &entities, room)?;
     Ok(Change {
         uid: name,
         before,

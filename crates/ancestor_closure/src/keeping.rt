@@ -143,8 +143,8 @@ impl AncestorCache {
         lent(self.alloc, ancestors_at(&self.relatives, uid))
     }
 
-    /// Returns all cyclic entities, in ascending order, without a search. If there are none, it does not allocate and
-    /// cannot fail.
+    /// Returns all cyclic entities, in ascending order, without a search. If no entity is cyclic, it cannot fail and
+    /// does not allocate.
     pub fn cyclic(&self) -> Result<Vec<&EntityUid>, NoMemory>
         ensures all { IfOk result (λ found.
             (parents : Parents) → IsCacheOf parents self.now → AreOnCycles parents (names found.items)) }

@@ -3,6 +3,7 @@
 #![tactic(auto)]
 
 mod anew;
+mod by_parent;
 mod changing;
 mod children;
 pub mod closed;

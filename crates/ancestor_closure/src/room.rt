@@ -48,7 +48,7 @@ impl CacheBudget {
         Ok(())
     }
 
-    /// Counts a visited list of so many, as if it were written.
+    /// Counts a visited list of length `list`, as if it were written.
     pub fn look(&mut self, list: usize) {
         self.written = self.written.saturating_add(list);
     }

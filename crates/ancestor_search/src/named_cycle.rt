@@ -241,7 +241,7 @@ fn walk<'a, G: ParentsOf>(
     Ok(found)
 }
 
-/// Like [`least_cycle`], given all cyclic entities in ascending order. Returns `None` at once if there are none.
+/// Like [`least_cycle`], given all cyclic entities in ascending order. Returns `None` at once if the list is empty.
 pub fn least_cycle_among<'a, G: Graph>(
     alloc: Global,
     graph: &'a G,

@@ -18,7 +18,7 @@ bad_shape place = record { code = 30; place = place; within = None }
 abbrev pub told_at : ℕ → Refusal → Refusal
 told_at place r = if r.code == 1 then r else record { code = r.code; place = Some place; within = r.within }
 
--- `number_or_null o` is the JSON of a number, or null if there is none.
+-- `number_or_null o` is the JSON of the number of `o`, or null if `o` is `None`.
 abbrev pub number_or_null : Option ℕ → Data
 number_or_null None = null
 number_or_null (Some n) = number (unsigned n)

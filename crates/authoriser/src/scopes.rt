@@ -75,12 +75,13 @@ fn is_within_any(entities: &[EntityUid], known: &KnownEntity<'_>) -> bool
     false
 }
 
-/// Returns whether all three parts of a scope are true.
+/// Returns whether all three parts of a scope are true. The action is tested first: a candidate that names a principal
+/// is found by it, so that part is mostly true, and the action's decides.
 pub(crate) fn is_scope_true(scope: &Scope, entities: &RequestEntities<'_>) -> bool
     requires { AreAscending entities.now }
     ensures { IsTrue result ↔ IsTrueOf scope.now entities.now }
 {
-    is_entity_scope_true(&scope.principal, &entities.principal)
-        && is_action_scope_true(&scope.action, &entities.action)
+    is_action_scope_true(&scope.action, &entities.action)
+        && is_entity_scope_true(&scope.principal, &entities.principal)
         && is_entity_scope_true(&scope.resource, &entities.resource)
 }

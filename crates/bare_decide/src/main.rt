@@ -1,9 +1,9 @@
-//! The program of a first answer: one request decided without a schema, over the three files that its words name: the
-//! policies, the entities, the request. It stands on less than `cedar_site`, and answers what that one answers to
+//! The program of a first answer: decides one request without a schema, over the three files that its arguments name:
+//! the policies, the entities, the request. It needs fewer crates than `cedar_site`, and prints what that prints for
 //! `decide` without `--schema`.
 //!
-//! The answer's line goes to standard output, with status 0; a refusal's to standard error, with 1. The status is 2 for
-//! other words, and 3 where a file can't be read or a stream fails.
+//! The answer's line goes to standard output, with status 0; an error's to standard error, with 1. The status is 2 for
+//! other arguments, and 3 if a file can't be read or a stream fails.
 #![tactic(auto)]
 
 use decision_texts::{Refusal, decide_texts, error_line};
@@ -14,7 +14,7 @@ use std::{env, fs, io};
 /// A file could not be read, or a stream failed.
 const FAILED: u8 = 3;
 
-/// The line of a refusal for want of memory; it takes none.
+/// The error line of an out-of-memory error. Does not allocate.
 const NO_MEMORY_LINE: &[u8; 47] = b"{\"error\":{\"code\":1,\"place\":null,\"within\":null}}";
 
 fn write_line<W: Write>(out: &mut W, label: &str, line: &[u8]) -> io::Result<()> {
@@ -23,7 +23,7 @@ fn write_line<W: Write>(out: &mut W, label: &str, line: &[u8]) -> io::Result<()>
     out.write_all(b"\n")
 }
 
-/// Writes a label, a line and the line's end, and gives the status of the run that ends so.
+/// Writes a label, a line and a line feed, and returns the status of the run.
 fn tell<W: Write + Drop>(mut out: W, label: &str, line: &[u8], status: u8) -> ExitCode {
     match write_line(&mut out, label, line) {
         Ok(()) => ExitCode::from(status),
@@ -31,7 +31,7 @@ fn tell<W: Write + Drop>(mut out: W, label: &str, line: &[u8], status: u8) -> Ex
     }
 }
 
-/// Tells that a file can't be read.
+/// Reports that a file can't be read.
 fn tell_fault(rt: &HostRuntime, name: &str) -> ExitCode {
     tell(rt.stderr(), "fault: ", name.as_bytes(), FAILED)
 }
@@ -43,7 +43,7 @@ fn tell_refusal(rt: &HostRuntime, refusal: Refusal) -> ExitCode {
     }
 }
 
-/// Decides what the three texts hold.
+/// Decides the request over the three texts.
 fn decide(rt: &HostRuntime, policies: &[u8], entities: &[u8], request: &[u8]) -> ExitCode {
     match decide_texts(rt.alloc(), policies, entities, request) {
         Ok(line) => tell(rt.stdout(), "", &line, 0),
@@ -75,7 +75,7 @@ fn ask_by(rt: &HostRuntime, policies: &str, entities: &str, request: &str) -> Ex
     }
 }
 
-/// Does what the words ask for, the first of which is the program's own name.
+/// Decides the request in the files that the arguments name, the first of which is the program's name.
 fn run(rt: &HostRuntime, words: &[String]) -> ExitCode {
     match words {
         [_, policies, entities, request] => ask_by(rt, policies, entities, request),

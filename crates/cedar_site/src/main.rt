@@ -1,5 +1,4 @@
-//! The program: policies checked under a schema, requests decided over files, and sites of policies that are served,
-//! pulled from and merged.
+//! The program: checks policies under a schema, decides requests over files, and serves, pulls from and merges sites.
 #![tactic(auto)]
 
 use program::{LineFault, SystemHost, report_words, run};
@@ -7,7 +6,7 @@ use std::env;
 use std::io::ErrorKind;
 use std::process::ExitCode;
 
-/// Returns the words of the command line, the first of which is the program's own name.
+/// Returns the arguments of the command line, the first of which is the program's name.
 fn words(rt: &HostRuntime) -> Result<Vec<String>, LineFault> {
     match env::args(rt) {
         Ok(words) => match words.collect::<Vec<String>>(rt.alloc()) {

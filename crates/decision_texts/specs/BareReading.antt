@@ -1,4 +1,4 @@
--- Defines what texts are parsed as without a schema.
+-- Defines how texts are parsed without a schema.
 -- Rules of this product: all policies are admitted, no action is declared, and a value without the form of an entity
 -- or a request has one error.
 use Rattle.std.specs.Prelude.{◌≡◌, None}

@@ -15,3 +15,15 @@ pub mod PlainParts
 pub mod PlainValues
 pub mod PlainEntities
 pub mod ReadAgain
+mod ReadingSteps
+mod Only
+mod OneOutcome
+mod Leaves
+mod Forms
+mod Fields
+mod ValuesRead
+mod Refusals
+mod EntitiesRead
+mod ContextsRead
+mod RequestsRead
+mod AsStatedLemmas

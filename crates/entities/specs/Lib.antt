@@ -4,6 +4,10 @@ pub mod Entities
 pub mod Contexts
 pub mod Requests
 pub mod Canonical
+pub mod StatedValues
+pub mod StatedEntities
+pub mod StatedRequests
+pub mod AsStated
 pub mod Laws
 pub mod inner
 pub mod Texts

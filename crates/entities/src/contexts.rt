@@ -1,13 +1,15 @@
 //! Contexts, parsed by the environments of the action.
-ghost use Rattle.std.specs.Prelude.{◌≡◌, option_map};
+ghost use Rattle.std.specs.Prelude.{◌≡◌, ◌≢◌, MatchResult, option_map};
 ghost use Rattle.serde_json.specs.View.{view};
 ghost use Rattle.json_words.specs.ReadsAs.{ReadsAs};
 ghost use Rattle.schema_types.specs.CedarViews.{cedar_view};
 ghost use Rattle.schema.specs.Views.{schema_view};
 ghost use Rattle.entities.specs.declared.fault.EntityFault.TheVariants as EntityFault;
 ghost use Rattle.entities.specs.Contexts.{context_where, is_of_action, context_in};
+ghost use Rattle.entities.specs.StatedRequests.{StatesContext, RefusesContext};
 ghost use Rattle.entities.specs.inner.Halves.{order_of_action};
 
+use crate::as_stated::contexts_are_read_as_stated;
 use crate::environments::{Sought, context_of};
 use crate::fault::EntityFault;
 use crate::reading::read_fields;
@@ -35,20 +37,9 @@ fn context_of_action<'s>(schema: &'s Schema, action: &EntityUid) -> Option<&'s C
     context_of(schema, action)
 }
 
-/// Parses a JSON object as the context of requests of an action.
-///
-/// # Errors
-///
-/// In this order:
-///
-/// - `BadShape` (30): the value is not an object.
-/// - `NotApplicable` (39): no environment has the action.
-/// - Of the members, ascending by key: `Undeclared` (33), it is not declared; `WrongType` (35), its value is of
-///   another type.
-/// - `Missing` (34): a required member is missing.
-/// - `NoMemory` (1): an allocation failed; possible at any point.
+/// Returns the context of an action that a value states.
 #[tactic(auto, unfolding(crate::specs::Contexts::context_in))]
-pub fn read_context(
+fn context_in(
     alloc: Global,
     schema: &Schema,
     action: &EntityUid,
@@ -64,4 +55,31 @@ pub fn read_context(
         Some(ty) => read_fields(alloc, Some(value), ty),
         None => Err(EntityFault::NotApplicable),
     }
+}
+
+/// Parses a JSON object as the context of requests of an action.
+///
+/// # Errors
+///
+/// In this order:
+///
+/// - `BadShape` (30): the value is not an object.
+/// - `NotApplicable` (39): no environment has the action.
+/// - Of the members, ascending by key: `Undeclared` (33), it is not declared; `WrongType` (35), its value is of
+///   another type.
+/// - `Missing` (34): a required member is missing.
+/// - `NoMemory` (1): an allocation failed; possible at any point.
+pub fn read_context(
+    alloc: Global,
+    schema: &Schema,
+    action: &EntityUid,
+    value: &Value,
+) -> Result<Record, EntityFault>
+    ensures read { ReadsAs EntityFault.NoMemory (λ r. r) result
+        (context_in (schema_view schema.now) action.now (view value.now)) }
+    ensures stated { MatchResult result (StatesContext (schema_view schema.now) action.now (view value.now))
+        (λ f. f ≢ EntityFault.NoMemory → RefusesContext (schema_view schema.now) action.now (view value.now) f) }
+{
+    contexts_are_read_as_stated();
+    context_in(alloc, schema, action, value)
 }

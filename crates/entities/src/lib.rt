@@ -5,6 +5,7 @@
 //! other entity has it.
 #![tactic(auto)]
 
+mod as_stated;
 mod canonical;
 mod canonical_laws;
 mod contexts;
@@ -17,6 +18,10 @@ mod requests;
 mod stated;
 mod uid_set;
 
+pub use as_stated::{
+    contexts_are_read_as_stated, entities_are_read_as_stated, requests_are_read_as_stated,
+    values_are_read_as_stated,
+};
 pub use canonical::canonical_text;
 pub use canonical_laws::{canonical_texts_are_read, json_texts_are_utf8};
 pub use contexts::read_context;
@@ -27,6 +32,6 @@ pub use laws::{action_types_are_told, entities_read_back, requests_have_one_outc
 pub use reading::read_entity;
 pub use requests::read_request;
 pub use schema::{
-    Environment, Schema, SchemaFault, bytes_have_one_outcome, read_schema,
-    stated_schemas_are_well_formed,
+    Environment, Schema, SchemaFault, bytes_have_one_outcome, declarations_are_read_as_stated,
+    read_schema, stated_schemas_are_well_formed,
 };

@@ -1,5 +1,5 @@
 //! Entities, parsed by their types.
-ghost use Rattle.std.specs.Prelude.{◌≡◌, option_map};
+ghost use Rattle.std.specs.Prelude.{◌≡◌, ◌≢◌, MatchResult, option_map};
 ghost use Rattle.serde_json.specs.View.{view};
 ghost use Rattle.json_words.specs.ReadsAs.{ReadsAs, AlwaysReadsAs};
 ghost use Rattle.schema_types.specs.CedarViews.{cedar_view};
@@ -8,8 +8,10 @@ ghost use Rattle.entity_values.specs.Typing.{record_in};
 ghost use Rattle.entities.specs.declared.fault.EntityFault.TheVariants as EntityFault;
 ghost use Rattle.entities.specs.Faults.{told};
 ghost use Rattle.entities.specs.Stated.{or_empty};
+ghost use Rattle.entities.specs.StatedEntities.{StatesEntity, RefusesEntity};
 ghost use Rattle.entities.specs.Entities.{is_action_type, shape_of, attributes_in, entity_stated_in};
 
+use crate::as_stated::entities_are_read_as_stated;
 use crate::fault::EntityFault;
 use crate::parents::checked_parents;
 use crate::stated::{StatedEntity, is_absent_or_empty, read_stated};
@@ -79,6 +81,22 @@ fn read_attributes(
     read_fields(alloc, value.get("attrs"), shape)
 }
 
+/// Returns the entity that a value states: its form, then its type, its tags, its attributes and its parents.
+#[tactic(auto, unfolding(crate::specs::Entities::entity_stated_in))]
+fn entity_in(alloc: Global, schema: &Schema, value: &Value) -> Result<Entity, EntityFault>
+    ensures { ReadsAs EntityFault.NoMemory (λ e. e) result
+        (entity_stated_in (schema_view schema.now) (view value.now)) }
+{
+    let StatedEntity { uid, parents } = read_stated(alloc, value)?;
+    let attrs = read_attributes(alloc, schema, &uid.type_name, value)?;
+    let parents = checked_parents(schema, &uid, parents)?;
+    Ok(Entity {
+        uid,
+        attrs,
+        parents,
+    })
+}
+
 /// Parses a JSON value as an entity: `{"uid":{"type":"User","id":"alice"},"attrs":{..},"parents":[..]}`.
 ///
 /// # Errors
@@ -94,17 +112,12 @@ fn read_attributes(
 /// - Of the parents, in order: `SelfParent` (37), it is the entity itself; `BadParent` (36), it is of a type that it
 ///   may not have.
 /// - `NoMemory` (1): an allocation failed; possible at any point.
-#[tactic(auto, unfolding(crate::specs::Entities::entity_stated_in))]
 pub fn read_entity(alloc: Global, schema: &Schema, value: &Value) -> Result<Entity, EntityFault>
-    ensures { ReadsAs EntityFault.NoMemory (λ e. e) result
+    ensures read { ReadsAs EntityFault.NoMemory (λ e. e) result
         (entity_stated_in (schema_view schema.now) (view value.now)) }
+    ensures stated { MatchResult result (StatesEntity (schema_view schema.now) (view value.now))
+        (λ f. f ≢ EntityFault.NoMemory → RefusesEntity (schema_view schema.now) (view value.now) f) }
 {
-    let StatedEntity { uid, parents } = read_stated(alloc, value)?;
-    let attrs = read_attributes(alloc, schema, &uid.type_name, value)?;
-    let parents = checked_parents(schema, &uid, parents)?;
-    Ok(Entity {
-        uid,
-        attrs,
-        parents,
-    })
+    entities_are_read_as_stated();
+    entity_in(alloc, schema, value)
 }

@@ -1,5 +1,5 @@
 //! Requests, parsed by the environments of their action and types.
-ghost use Rattle.std.specs.Prelude.{◌≡◌, ◌≢◌, IfOk, IfErr, option_map};
+ghost use Rattle.std.specs.Prelude.{◌≡◌, ◌≢◌, IfOk, IfErr, MatchResult, option_map};
 ghost use Rattle.serde_json.specs.View.{view};
 ghost use Rattle.json_words.specs.ReadsAs.{ReadsAs};
 ghost use Rattle.schema_types.specs.CedarViews.{cedar_view};
@@ -9,8 +9,10 @@ ghost use Rattle.entities.specs.declared.requests.Asked.{Asked as PlainAsked};
 ghost use Rattle.entities.specs.declared.fault.EntityFault.TheVariants as EntityFault;
 ghost use Rattle.entities.specs.Contexts.{context_where, is_place};
 ghost use Rattle.entities.specs.inner.Halves.{order_of_asked};
+ghost use Rattle.entities.specs.StatedRequests.{DescribesRequest, RefusesRequest};
 ghost use Rattle.entities.specs.Requests.{NamesAt, Asks, context_asked, StatesRequest, RequestRefused};
 
+use crate::as_stated::requests_are_read_as_stated;
 use crate::environments::{Sought, context_of};
 use crate::fault::EntityFault;
 use crate::reading::read_fields;
@@ -106,19 +108,8 @@ fn read_context_of(
     }
 }
 
-/// Parses a JSON value as a request: `{"principal":"User::\"alice\"","action":..,"resource":..,"context":{..}}`.
-///
-/// # Errors
-///
-/// In this order:
-///
-/// - `BadShape` (30): the value does not have this form.
-/// - `NotApplicable` (39): the action is not declared, or does not apply to the two types.
-/// - Of the context's members, ascending by key: `Undeclared` (33), it is not declared; `WrongType` (35), its value
-///   is of another type.
-/// - `Missing` (34): a required member is missing.
-/// - `NoMemory` (1): an allocation failed; possible at any point.
-pub fn read_request(alloc: Global, schema: &Schema, value: &Value) -> Result<Request, EntityFault>
+/// Returns the request that a value states.
+fn request_in(alloc: Global, schema: &Schema, value: &Value) -> Result<Request, EntityFault>
     ensures read { IfOk result (StatesRequest (schema_view schema.now) (view value.now)) }
     ensures refused { IfErr result
         (λ f. f ≢ EntityFault.NoMemory → RequestRefused (schema_view schema.now) (view value.now) f) }
@@ -136,4 +127,27 @@ pub fn read_request(alloc: Global, schema: &Schema, value: &Value) -> Result<Req
         resource,
         context,
     })
+}
+
+/// Parses a JSON value as a request: `{"principal":"User::\"alice\"","action":..,"resource":..,"context":{..}}`.
+///
+/// # Errors
+///
+/// In this order:
+///
+/// - `BadShape` (30): the value does not have this form.
+/// - `NotApplicable` (39): the action is not declared, or does not apply to the two types.
+/// - Of the context's members, ascending by key: `Undeclared` (33), it is not declared; `WrongType` (35), its value
+///   is of another type.
+/// - `Missing` (34): a required member is missing.
+/// - `NoMemory` (1): an allocation failed; possible at any point.
+pub fn read_request(alloc: Global, schema: &Schema, value: &Value) -> Result<Request, EntityFault>
+    ensures read { IfOk result (StatesRequest (schema_view schema.now) (view value.now)) }
+    ensures refused { IfErr result
+        (λ f. f ≢ EntityFault.NoMemory → RequestRefused (schema_view schema.now) (view value.now) f) }
+    ensures stated { MatchResult result (DescribesRequest (schema_view schema.now) (view value.now))
+        (λ f. f ≢ EntityFault.NoMemory → RefusesRequest (schema_view schema.now) (view value.now) f) }
+{
+    requests_are_read_as_stated();
+    request_in(alloc, schema, value)
 }

@@ -50,7 +50,7 @@ plain_uid_in d =
     if has_only (codes "type" ∷ codes "id" ∷ []) d then uid_made_of (text_at (codes "type") d) (text_at (codes "id") d)
     else None
 
--- `uid_under d inner` is the uid of the member `__entity`, or of `d` itself if there is none.
+-- `uid_under d inner` is the uid of the member `__entity`, or of `d` itself if `inner` is `None`.
 abbrev pub uid_under : Data → Option Data → Option EntityUid
 uid_under d None = plain_uid_in d
 uid_under d (Some inner) = if has_only (codes "__entity" ∷ []) d then plain_uid_in inner else None

@@ -22,7 +22,7 @@ use Rattle.schema_types.specs.Cedar as cedar
 use Rattle.schema_types.specs.Cedar.{Cedar, CedarFields, no_fields, field}
 use Rattle.entity_values.specs.Parts.{element_of, fields_in, declared_at}
 
--- `under_key k d o` is the value at the key `k`, with no other key, or `d` itself if there is none.
+-- `under_key k d o` is the value at the key `k`, with no other key, or `d` itself if `o` is `None`.
 abbrev pub under_key : List ℕ → Data → Option Data → Result Data ValueFault
 under_key k d None = Ok d
 under_key k d (Some inner) = do
@@ -115,7 +115,7 @@ abbrev pub all_there : CedarFields → Data → Bool
 all_there no_fields d = true
 all_there (field k t r fs) d = (not r || is_some (get k d)) && all_there fs d
 
--- `with_or o f b` is `f` of the value of `o`, or `b` if there is none.
+-- `with_or o f b` is `f` of the value of `o`, or `b` if `o` is `None`.
 abbrev pub with_or : {A B : Type 0} → Option A → (A → B) → B → B
 with_or (Some a) f b = f a
 with_or None f b = b

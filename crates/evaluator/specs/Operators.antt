@@ -31,7 +31,7 @@ use Rattle.evaluator.specs.declared.fault.EvalFault.TheVariants.{ExtensionError}
 use Rattle.evaluator.specs.Outcomes.{EvaluationResult, IsTruthOf, IsChecked, boolean_in, long_in, text_in}
 use Rattle.evaluator.specs.Outcomes.{entity_uid_in, members_in, record_fields_in, decimal_in, network_in}
 
--- A `Entities` has the attributes of each stored entity, and the parents of each entity.
+-- `Entities` are the attributes of each stored entity, and the parents of each entity.
 pub record Entities : Type 0 where
   pub stored : EntityUid → Option (List Field)
   pub parents : Parents
@@ -156,7 +156,7 @@ pub data UnaryCallGives : UnaryCall → PlainValue → EvaluationResult → Type
   of_no_address : {called : UnaryCall} {v : PlainValue} → TakesAddress called → network_in v ≡ None
       → UnaryCallGives called v (Err TypeError)
 
--- `AreCompared called x y` holds if two decimals compare so.
+-- `AreCompared called x y` holds if the comparison `called` is true of two decimals.
 abbrev pub AreCompared : BinaryCall → ℤ → ℤ → Type 0
 AreCompared LessThan x y = x <ℤ y
 AreCompared LessThanOrEqual x y = x ≤ℤ y

@@ -1,3 +1,7 @@
--- Texts that a terminal shows and does not obey.
---   Readable   pieces of explanations
+-- Characters of a text, codes in a table, and texts that a terminal shows and does not obey.
+--   Columns      the column behind one character more, and how many characters a text has
+--   FoundCodes   a code is found if and only if the rows have it
+--   Readable     pieces of explanations
+mod Columns
+mod FoundCodes
 pub mod Readable

@@ -9,9 +9,9 @@ use Rattle.std.proofs.lemmas.Str.{encodes-append, encode_ascii}
 use Rattle.std.proofs.lemmas.List.Folds.{list_all-append}
 use Rattle.std.proofs.lemmas.Bool.{false≢true}
 use Rattle.std.proofs.lemmas.Bool.Decides.{nat_tests}
-use Rattle.fault_words.specs.Printable.{is_printable, are_printable}
-use Rattle.text_places.specs.Excerpt.{is_hidden, shown_char, blank_char, repeated, place_in, cut_before, end_of, carets_at}
-use Rattle.text_places.specs.Excerpt.{mark_if, heading, line_row, caret_row, excerpt}
+use Rattle.explanation_texts.specs.Printable.{is_printable, are_printable}
+use Rattle.explanation_texts.specs.Excerpt.{is_hidden, shown_char, blank_char, repeated, place_in, cut_before, end_of, carets_at}
+use Rattle.explanation_texts.specs.Excerpt.{mark_if, heading, line_row, caret_row, excerpt}
 use Rattle.explanation_texts.specs.declared.finding.SourceFinding.{SourceFinding}
 use Rattle.explanation_texts.specs.declared.finding.WholeFinding.{WholeFinding}
 use Rattle.explanation_texts.specs.Explained.{readable, cause_part, says_line, hint_line, detail_line, rest_text, place_text}

@@ -1,21 +1,21 @@
--- Defines the text that explains an error to the author of what is rejected.
+-- Defines the explanation of an error, for the author of the rejected text.
 -- Rules of this product: a line with the code and what is wrong; the lines that show the place, or the name of the file
 -- with the index in its array; what else is known; and a hint. Of names and of what a text contains, control characters
 -- and those that change the direction of writing are shown as U+FFFD.
 use Rattle.std.specs.Prelude.{◌≡◌, ℕ, ◌-◌, ◌+◌, ◌==◌, if◌then◌else◌, true, List, [], ◌∷◌, ◌++◌}
 use Rattle.std.specs.Prelude.{Option, None, Some}
-use Rattle.std.specs.Prelude.{codes, decimal, count_by, take, map, chars, encode_utf8_all, slice_index_or, length}
+use Rattle.std.specs.Prelude.{codes, decimal, count_by, take, chars, slice_index_or, length}
 use Rattle.std.specs.Str.Lines.{lines}
-use Rattle.fault_words.specs.Printable.{are_printable}
-use Rattle.text_places.specs.LineAndColumn.{is_line_feed, column_behind, IsStartAt}
-use Rattle.text_places.specs.Excerpt.{excerpt, shown_char}
-use Rattle.text_places.specs.declared.places.Place.{Place}
+use Rattle.explanation_texts.specs.Printable.{are_printable}
+use Rattle.explanation_texts.specs.LineAndColumn.{is_line_feed, column_behind, IsStartAt}
+use Rattle.explanation_texts.specs.Excerpt.{excerpt, shown}
+use Rattle.explanation_texts.specs.declared.places.Place.{Place}
 use Rattle.explanation_texts.specs.declared.finding.SourceFinding.{SourceFinding}
 use Rattle.explanation_texts.specs.declared.finding.WholeFinding.{WholeFinding}
 
 -- `readable text most` are the bytes that show the first `most` characters of `text`.
 abbrev pub readable : List ℕ → ℕ → List ℕ
-readable text most = encode_utf8_all (map shown_char (take most (chars text)))
+readable text most = shown text 0 most
 
 -- `cause_part cause` is `cause` in backticks, at most 60 characters of it; nothing if it is empty.
 abbrev pub cause_part : List ℕ → List ℕ

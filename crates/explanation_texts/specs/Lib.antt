@@ -1,4 +1,7 @@
+pub mod LineAndColumn
+pub mod Excerpt
+pub mod Codes
+pub mod CodeText
+pub mod Printable
 pub mod Explained
 pub mod Readable
--- Specifications of lower crates, re-exported.
-pub use Rattle.fault_words.specs as fault_words

@@ -3,7 +3,7 @@
 -- lines, and none that changes the direction of writing.
 use Rattle.std.specs.Prelude.{◌≡◌, ℕ, ◌==◌, Bool, true, not, ◌||◌, List, encode_utf8_all}
 use Rattle.std.specs.List.{list_all}
-use Rattle.text_places.specs.Excerpt.{is_hidden}
+use Rattle.explanation_texts.specs.Excerpt.{is_hidden}
 use Rattle.explanation_texts.specs.declared.finding.SourceFinding.{SourceFinding}
 use Rattle.explanation_texts.specs.declared.finding.WholeFinding.{WholeFinding}
 use Rattle.explanation_texts.specs.Explained.{IsSourceText, IsWholeText}

@@ -1,14 +1,25 @@
 //! The text that explains an error to the author of what is rejected: what is wrong, where, and what to do.
+//!
+//! Errors report a byte of a text: `places` and `excerpts` show it as a line and a column. `table` has the meaning of
+//! each code, an example, and what to do; `cedar_site explain` prints from it, and tools/check_docs.py compares
+//! docs/codes.md with it.
 #![tactic(auto)]
 
+mod excerpts;
 mod finding;
 mod laws;
+mod places;
+mod print;
 mod shown;
 mod source;
+mod table;
 mod whole;
 
-pub use fault_words::{CodeWords, code_text, words_of};
+pub use excerpts::push_excerpt;
 pub use finding::{SourceFinding, WholeFinding};
 pub use laws::explanations_are_readable;
+pub use places::{Place, line_at, place_of};
+pub use print::code_text;
 pub use source::push_source;
+pub use table::{CodeWords, words_of};
 pub use whole::push_whole;

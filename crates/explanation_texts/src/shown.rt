@@ -1,7 +1,6 @@
 //! Text of a file, as a terminal may show it.
 ghost use Rattle.std.specs.Prelude.{◌≡◌, ◌++◌, OnOk, string_bytes, decimal};
-ghost use Rattle.text_places.specs.Excerpt.{is_hidden, shown_char};
-ghost use Rattle.explanation_texts.specs.Explained.{readable};
+ghost use Rattle.explanation_texts.specs.Excerpt.{is_hidden, shown_char, shown};
 
 use plain::NoMemory;
 
@@ -18,12 +17,17 @@ fn shown_for(c: char) -> char
     if is_hidden_char(c) { '\u{fffd}' } else { c }
 }
 
-/// Appends the first characters of a text, at most `most`: U+FFFD for control characters except tabs, and for those
-/// that change the direction of writing.
-pub(crate) fn push_shown(out: &mut String, text: &str, most: usize) -> Result<(), NoMemory>
-    ensures { OnOk result (string_bytes out.new ≡ string_bytes out.old ++ readable text.now most) }
+/// Appends `count` characters of a text, after the first `skipped`: U+FFFD for control characters except tabs, and for
+/// those that change the direction of writing.
+pub(crate) fn push_shown(
+    out: &mut String,
+    text: &str,
+    skipped: usize,
+    count: usize,
+) -> Result<(), NoMemory>
+    ensures { OnOk result (string_bytes out.new ≡ string_bytes out.old ++ shown text.now skipped count) }
 {
-    out.extend(text.chars().take(most).map(|c| shown_for(c)))
+    out.extend(text.chars().skip(skipped).take(count).map(|c| shown_for(c)))
 }
 
 /// Appends a number.

@@ -3,12 +3,13 @@ ghost use Rattle.std.specs.Prelude.{◌≡◌, ◌++◌, OnOk, string_bytes, ℕ
 ghost use Rattle.explanation_texts.specs.Explained.{cause_part, detail_line, says_line, hint_line, place_text};
 ghost use Rattle.explanation_texts.specs.Explained.{rest_text, source_text, AreClean, IsSourceText};
 
+use crate::excerpts::push_excerpt;
 use crate::finding::SourceFinding;
+use crate::places::{Place, place_of};
 use crate::shown::{push_number, push_shown};
-use fault_words::words_of;
+use crate::table::words_of;
 use plain::NoMemory;
 use std::alloc::Global;
-use text_places::{Place, place_of, push_excerpt};
 
 // The most characters of a cause that are shown.
 const MOST_CAUSE: usize = 60;
@@ -33,7 +34,7 @@ fn push_cause(out: &mut String, cause: &str) -> Result<(), NoMemory>
         return Ok(());
     }
     out.push_str(" `")?;
-    push_shown(out, cause, MOST_CAUSE)?;
+    push_shown(out, cause, 0, MOST_CAUSE)?;
     out.push_str("`")?;
     Ok(())
 }
@@ -74,7 +75,7 @@ pub(crate) fn push_detail(out: &mut String, detail: &str) -> Result<(), NoMemory
         return Ok(());
     }
     out.push_str("  ")?;
-    push_shown(out, detail, MOST_DETAIL)?;
+    push_shown(out, detail, 0, MOST_DETAIL)?;
     out.push_str("\n")?;
     Ok(())
 }

@@ -25,7 +25,7 @@ fn push_file(out: &mut String, file: &str, index: Option<usize>) -> Result<(), N
     ensures { OnOk result (string_bytes out.new ≡ string_bytes out.old ++ file_line file.now index) }
 {
     out.push_str(" --> ")?;
-    push_shown(out, file, file.len())?;
+    push_shown(out, file, 0, file.len())?;
     push_index(out, index)?;
     out.push_str("\n")?;
     Ok(())

@@ -1,6 +1,6 @@
 -- Explanations of the parts, joined to that of the whole.
 use Rattle.std.proofs.Common.{◌≡◌, inl, inr, ℕ, Bool, true, false, List, [], ◌∷◌, ◌++◌, Option, None, Some, unwrap_or, option_map, Result, Err, OnOk, IfErr}
-use Rattle.std.proofs.Common.{refl, sym, ap, ◌∙◌, subst}
+use Rattle.std.proofs.Common.{refl, sym, ap, ◌∙◌, subst, length}
 use Rattle.std.specs.Prelude.{⊤, MatchOption}
 use Rattle.plain.specs.Refused.{OrNoMemory}
 use Rattle.grammar_desugaring.specs.grammar_tokens.declared.token.Token.{Token}
@@ -16,16 +16,16 @@ use Rattle.schema_decisions.specs.Checks.{IsSchemaRefused}
 use Rattle.schema_decisions.specs.validator.declared.fault.TypeFault.{TypeFault}
 use Rattle.schema_decisions.specs.validator.Faults.{code_of}
 use Rattle.schema_decisions.specs.validator.Passing.{Passes, IsCheckRefused}
-use Rattle.blame_texts.specs.declared.telling.PolicyFault.{PolicyFault}
-use Rattle.blame_texts.specs.Told.{IsPolicyFault}
+use Rattle.fault_paths.specs.declared.explaining.PolicyFault.{PolicyFault}
+use Rattle.fault_paths.specs.Worded.{IsPolicyFault}
 use Rattle.token_spans.specs.declared.spans.Span.{Span}
 use Rattle.token_spans.specs.Spans.{IsSpanOf, IsNameSpanOf}
 use Rattle.explanations.specs.declared.pieces.Piece.{Piece}
 use Rattle.explanations.specs.Files.{File, Files}
 use Rattle.explanations.specs.Parts.{IsPartOf, IsNothing, IsSourceAt, IsWholeAt, AppendsSome}
 use Rattle.explanations.specs.Pieces.{ArePiecesOf}
-use Rattle.explanations.specs.Policies.{is_searched, IsFoundAs, IsFaultText, IsCheckExplained, passes_so, rejected_so, too_large, ArePoliciesExplained}
-use Rattle.explanations.specs.Unread.{byte_in, IsPieceExplained, is_read, is_unread, ArePiecesExplained, AppendsTold}
+use Rattle.explanations.specs.Policies.{is_searched, large_note, IsFoundAs, IsFaultText, IsCheckExplained, passes_so, rejected_so, too_large, ArePoliciesExplained}
+use Rattle.explanations.specs.Unread.{byte_in, is_that, IsPieceExplained, is_read, is_unread, ArePiecesExplained, AppendsTold}
 use Rattle.explanations.specs.Others.{IsJudgedText, IsJudged, AreEntitiesExplained, IsRequestExplained}
 use Rattle.explanations.specs.Explained as whole
 use Rattle.explanations.specs.Explained.{IsTextOf, AreTokensOf, IsUnreadExplained, IsFileExplained, AreOthersExplained, IsExplainedUnder, IsExplainedAs, IsExplained}
@@ -42,11 +42,12 @@ none_so P Q e h = subst (λ p. MatchOption p P Q) e h
 pub nothing_given : (old : List ℕ) → AppendsSome (λ bytes. bytes ≡ []) old old
 nothing_given old = ([], refl, nothing_more old)
 
-pub source_is : (file text old new : List ℕ) (c d i j : ℕ) → c ≡ d → i ≡ j → AppendsSome (IsSourceAt file text c i) old new
-    → AppendsSome (IsSourceAt file text d j) old new
-source_is file text old new c d i j e f a =
-    let moved = subst (λ (k : ℕ). IsSourceAt file text c k a.0) f a.1 in
-    (a.0, subst (λ (k : ℕ). IsSourceAt file text k j a.0) e moved, a.2)
+pub source_is : (file text m n old new : List ℕ) (c d i j : ℕ) → m ≡ n → c ≡ d → i ≡ j → AppendsSome (IsSourceAt file text m c i) old new
+    → AppendsSome (IsSourceAt file text n d j) old new
+source_is file text m n old new c d i j noted e f a =
+    let so = subst (λ (l : List ℕ). IsSourceAt file text l c i a.0) noted a.1 in
+    let moved = subst (λ (k : ℕ). IsSourceAt file text n c k a.0) f so in
+    (a.0, subst (λ (k : ℕ). IsSourceAt file text n k j a.0) e moved, a.2)
 
 -- ---- a policy
 
@@ -59,40 +60,44 @@ module _ (s : StatedSchema) (file text : List ℕ) (place : Piece) (policy : Pol
   policy_rejected new f e h a = (a.0, rejected_so f a.0 e h a.1, a.2)
 
   pub policy_large : (new : List ℕ) (f : TypeFault) → is_searched place ≡ false → IsCheckRefused s policy f
-      → AppendsSome (IsSourceAt file text (code_of f) place.start) old new → AppendsSome (IsCheckExplained s file text place policy) old new
+      → AppendsSome (IsSourceAt file text large_note (code_of f) place.start) old new → AppendsSome (IsCheckExplained s file text place policy) old new
   policy_large new f e h a = (a.0, too_large f a.0 e h a.1, a.2)
 
 -- ---- a piece, and a file that does not parse
 
 module _ (o : Option StatedSchema) (file text : List ℕ) (old : List ℕ) where
-  pub piece_parses : (piece : Piece) (part : List ℕ) (names : List (List ℕ)) (cores : List Policy) (new : List ℕ) → IsPartOf text piece.start piece.end part
+  pub piece_parses : (of_file : Refusal) (piece : Piece) (part : List ℕ) (names : List (List ℕ)) (cores : List Policy) (new : List ℕ) → IsPartOf text piece.start piece.end part
       → IsPolicyFile part names cores → AppendsSome (ArePoliciesExplained o file text (piece ∷ []) cores) old new
-      → AppendsTold (IsPieceExplained o file text piece) old new false
-  piece_parses piece part names cores new h g a = (a.0, is_read part names cores a.0 h g a.1, a.2)
+      → AppendsTold (IsPieceExplained o file text of_file piece) old new false
+  piece_parses of_file piece part names cores new h g a = (a.0, is_read part names cores a.0 h g a.1, a.2)
 
-  pub piece_does_not : (piece : Piece) (part : List ℕ) (f g : ReadFault) (code at : ℕ) (new : List ℕ) → IsPartOf text piece.start piece.end part
-      → IsFileRefused part f → g ≡ f → code ≡ reading.code_of g → at ≡ byte_in piece g → AppendsSome (IsSourceAt file text code at) old new
-      → AppendsTold (IsPieceExplained o file text piece) old new true
-  piece_does_not piece part f g code at new h refused e c i a =
-      let b = source_is file text old new code (reading.code_of g) at (byte_in piece g) c i a in
-      (b.0, is_unread part g b.0 h (subst (IsFileRefused part) (sym e) refused) b.1, b.2)
+  pub piece_does_not : (of_file : Refusal) (piece : Piece) (part : List ℕ) (f g : ReadFault) (code again at : ℕ) (told : Bool) (new : List ℕ) → told ≡ is_that of_file again at
+      → again ≡ reading.code_of g → IsPartOf text piece.start piece.end part
+      → IsFileRefused part f → g ≡ f → code ≡ reading.code_of g → at ≡ byte_in piece g → AppendsSome (IsSourceAt file text [] code at) old new
+      → AppendsTold (IsPieceExplained o file text of_file piece) old new told
+  piece_does_not of_file piece part f g code again at told new t d h refused e c i a =
+      let b = source_is file text [] [] old new code (reading.code_of g) at (byte_in piece g) refl c i a in
+      let same : told ≡ is_that of_file (reading.code_of g) (byte_in piece g) =
+      t ∙ ap (λ (k : ℕ). is_that of_file k at) d ∙ ap (λ (k : ℕ). is_that of_file (reading.code_of g) k) i in
+      let so = is_unread part g b.0 h (subst (IsFileRefused part) (sym e) refused) b.1 in
+      (b.0, subst (λ (k : Bool). IsPieceExplained o file text of_file piece k b.0) (sym same) so, b.2)
 
-  pub pieces_tell : (pieces : List Piece) (r : Refusal) (new : List ℕ) (told : Bool) → told ≡ true → AppendsTold (ArePiecesExplained o file text pieces) old new told
+  pub pieces_tell : (pieces : List Piece) (r : Refusal) (new : List ℕ) (told : Bool) → told ≡ true → AppendsTold (ArePiecesExplained o file text r pieces) old new told
       → AppendsSome (IsUnreadExplained o file text pieces r) old new
-  pieces_tell pieces r new told e a = (a.0, inl (subst (λ (b : Bool). ArePiecesExplained o file text pieces b a.0) e a.1), a.2)
+  pieces_tell pieces r new told e a = (a.0, inl (subst (λ (b : Bool). ArePiecesExplained o file text r pieces b a.0) e a.1), a.2)
 
   pub file_tells : (pieces : List Piece) (r : Refusal) (mid new : List ℕ) (told : Bool) (at : ℕ) → told ≡ false → at ≡ unwrap_or r.place 0
-      → AppendsTold (ArePiecesExplained o file text pieces) old mid told → AppendsSome (IsSourceAt file text r.code at) mid new
+      → AppendsTold (ArePiecesExplained o file text r pieces) old mid told → AppendsSome (IsSourceAt file text [] r.code at) mid new
       → AppendsSome (IsUnreadExplained o file text pieces r) old new
   file_tells pieces r mid new told at e f a b =
-      let first = subst (λ (t : Bool). ArePiecesExplained o file text pieces t a.0) e a.1 in
-      let last = subst (λ (n : ℕ). IsSourceAt file text r.code n b.0) f b.1 in
+      let first = subst (λ (t : Bool). ArePiecesExplained o file text r pieces t a.0) e a.1 in
+      let last = subst (λ (n : ℕ). IsSourceAt file text [] r.code n b.0) f b.1 in
       (a.0 ++ b.0, inr (a.0, b.0, first, last, refl), in_turn old mid new a.0 b.0 a.2 b.2)
 
 -- ---- a file
 
 module _ (o : Option StatedSchema) (file held text : List ℕ) (tokens : List Token) (pieces : List Piece) (is_text : IsTextOf held text)
-    (are_tokens : AreTokensOf text tokens) (are_pieces : ArePiecesOf tokens pieces) (old new : List ℕ) where
+    (are_tokens : AreTokensOf text tokens) (are_pieces : ArePiecesOf (length text) tokens pieces) (old new : List ℕ) where
   pub file_parses : (names : List (List ℕ)) (cores : List Policy) → ArePoliciesOf held names cores
       → AppendsSome (ArePoliciesExplained o file text pieces cores) old new → AppendsSome (IsFileExplained o file held) old new
   file_parses names cores h a = (

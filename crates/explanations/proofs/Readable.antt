@@ -5,7 +5,7 @@ use Rattle.schema_decisions.specs.schema.Schemas.{StatedSchema}
 use Rattle.schema_decisions.specs.answer_lines.declared.refusal.Refusal.{Refusal}
 use Rattle.explanation_texts.specs.Readable.{IsReadable}
 use Rattle.explanation_texts.proofs.Readable.{both, nothing, source_is_readable, whole_is_readable}
-use Rattle.blame_texts.specs.declared.telling.PolicyFault.{PolicyFault}
+use Rattle.fault_paths.specs.declared.explaining.PolicyFault.{PolicyFault}
 use Rattle.explanations.specs.declared.pieces.Piece.{Piece}
 use Rattle.explanations.specs.Files.{File, Files}
 use Rattle.explanations.specs.Parts.{IsNothing, IsSourceAt, IsWholeAt}
@@ -21,8 +21,8 @@ use Rattle.explanations.specs.Explained.{IsUnreadExplained, IsOutcomeExplained, 
 empty : (bytes : List ℕ) → bytes ≡ [] → IsReadable bytes
 empty bytes e = subst IsReadable (sym e) nothing
 
-at_source : (file text : List ℕ) (code start : ℕ) (bytes : List ℕ) → IsSourceAt file text code start bytes → IsReadable bytes
-at_source file text code start bytes h = source_is_readable file text h.finding bytes h.is_text
+at_source : (file text note : List ℕ) (code start : ℕ) (bytes : List ℕ) → IsSourceAt file text note code start bytes → IsReadable bytes
+at_source file text note code start bytes h = source_is_readable file text h.finding bytes h.is_text
 
 at_whole : (file : List ℕ) (code : ℕ) (index : Option ℕ) (Told : List ℕ → Type 0) (bytes : List ℕ) → IsWholeAt file code index Told bytes → IsReadable bytes
 at_whole file code index Told bytes h = whole_is_readable file h.finding bytes h.is_text
@@ -34,7 +34,7 @@ check : (s : StatedSchema) (file text : List ℕ) (place : Piece) (policy : Poli
     → IsReadable bytes
 check s file text place policy _ (passes_so p) = nothing
 check s file text place policy _ (rejected_so f bytes a b h) = fault file text place f bytes h
-check s file text place policy _ (too_large f bytes a b h) = at_source file text _ _ bytes h
+check s file text place policy _ (too_large f bytes a b h) = at_source file text _ _ _ bytes h
 
 policy_reads : (o : Option StatedSchema) (file text : List ℕ) (place : Piece) (policy : Policy) (bytes : List ℕ) → IsPolicyExplained o file text place policy bytes
     → IsReadable bytes
@@ -47,22 +47,22 @@ policies_read o file text pieces _ _ of_policies.none = nothing
 policies_read o file text pieces _ _ (of_policies.more ps p before bytes rest this) =
     both before bytes (policies_read o file text pieces ps before rest) (policy_reads o file text _ p bytes this)
 
-piece_reads : (o : Option StatedSchema) (file text : List ℕ) (piece : Piece) (told : Bool) (bytes : List ℕ) → IsPieceExplained o file text piece told bytes
+piece_reads : (o : Option StatedSchema) (file text : List ℕ) (r : Refusal) (piece : Piece) (told : Bool) (bytes : List ℕ) → IsPieceExplained o file text r piece told bytes
     → IsReadable bytes
-piece_reads o file text piece _ _ (is_read part names cores bytes a b h) = policies_read o file text (piece ∷ []) cores bytes h
-piece_reads o file text piece _ _ (is_unread part f bytes a b h) = at_source file text _ _ bytes h
+piece_reads o file text r piece _ _ (is_read part names cores bytes a b h) = policies_read o file text (piece ∷ []) cores bytes h
+piece_reads o file text r piece _ _ (is_unread part f bytes a b h) = at_source file text _ _ _ bytes h
 
-pieces_read : (o : Option StatedSchema) (file text : List ℕ) (ps : List Piece) (told : Bool) (bytes : List ℕ) → ArePiecesExplained o file text ps told bytes
+pieces_read : (o : Option StatedSchema) (file text : List ℕ) (r : Refusal) (ps : List Piece) (told : Bool) (bytes : List ℕ) → ArePiecesExplained o file text r ps told bytes
     → IsReadable bytes
-pieces_read o file text _ _ _ of_pieces.none = nothing
-pieces_read o file text _ _ _ (of_pieces.more ps p some told before bytes rest this) =
-    both before bytes (pieces_read o file text ps some before rest) (piece_reads o file text p told bytes this)
+pieces_read o file text r _ _ _ of_pieces.none = nothing
+pieces_read o file text r _ _ _ (of_pieces.more ps p some told before bytes rest this) =
+    both before bytes (pieces_read o file text r ps some before rest) (piece_reads o file text r p told bytes this)
 
 unread_reads : (o : Option StatedSchema) (file text : List ℕ) (pieces : List Piece) (r : Refusal) (bytes : List ℕ) → IsUnreadExplained o file text pieces r bytes
     → IsReadable bytes
-unread_reads o file text pieces r bytes (inl h) = pieces_read o file text pieces _ bytes h
+unread_reads o file text pieces r bytes (inl h) = pieces_read o file text r pieces _ bytes h
 unread_reads o file text pieces r bytes (inr h) =
-    subst IsReadable (sym h.4) (both h.0 h.1 (pieces_read o file text pieces _ h.0 h.2) (at_source file text _ _ h.1 h.3))
+    subst IsReadable (sym h.4) (both h.0 h.1 (pieces_read o file text r pieces _ h.0 h.2) (at_source file text _ _ _ h.1 h.3))
 
 outcome_reads : (o : Option StatedSchema) (file held text : List ℕ) (pieces : List Piece) (bytes : List ℕ) → IsOutcomeExplained o file held text pieces bytes
     → IsReadable bytes

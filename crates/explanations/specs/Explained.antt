@@ -1,7 +1,8 @@
--- Defines the text that explains what is rejected of a schema, of policies, of entities and of a request.
+-- Defines the text that explains what is rejected in files: a schema, policies, entities and a request.
 -- Rules of this product: a rejected schema is explained alone. Otherwise each rejected policy is explained, in the
 -- order of the file, then the first error of the entities, then that of the request.
 use Rattle.std.specs.Prelude.{◌≡◌, ◌⊎◌, ℕ, true, false, List, [], ◌++◌, Option, None, Some, option_map, unwrap_or}
+use Rattle.std.specs.Prelude.{length}
 use Rattle.std.specs.Str.{IsUtf8}
 use Rattle.grammar_desugaring.specs.grammar_tokens.declared.token.Token.{Token}
 use Rattle.grammar_desugaring.specs.grammar_tokens.Lexing.{IsLexed, IsBadAt}
@@ -29,14 +30,14 @@ AreTokensOf text ts = IsLexed text ts ⊎ (((at : ℕ) × IsBadAt text at) × (t
 -- ---- a file of policies
 
 -- `IsUnreadExplained s file text pieces r bytes` holds if `bytes` explain a file that is rejected with `r`: its pieces,
--- and `r` if each of these is a policy.
+-- and behind them `r`, if it is the error of none of these.
 abbrev pub IsUnreadExplained : Option StatedSchema → List ℕ → List ℕ → List Piece → Refusal → List ℕ → Type 0
 IsUnreadExplained s file text pieces r bytes =
-    ArePiecesExplained s file text pieces true bytes
-    ⊎ ((before : List ℕ) × (last : List ℕ) × ArePiecesExplained s file text pieces false before
-    × IsSourceAt file text r.code (unwrap_or r.place 0) last × (bytes ≡ before ++ last))
+    ArePiecesExplained s file text r pieces true bytes
+    ⊎ ((before : List ℕ) × (last : List ℕ) × ArePiecesExplained s file text r pieces false before
+    × IsSourceAt file text [] r.code (unwrap_or r.place 0) last × (bytes ≡ before ++ last))
 
--- `IsOutcomeExplained s file held text pieces bytes` holds if `bytes` explain what is rejected of a file with the
+-- `IsOutcomeExplained s file held text pieces bytes` holds if `bytes` explain what is rejected in a file with the
 -- content `held`, which has this text and these pieces.
 pub data IsOutcomeExplained (s : Option StatedSchema) (file held text : List ℕ) (pieces : List Piece) : List ℕ → Type 0
   where
@@ -45,7 +46,7 @@ pub data IsOutcomeExplained (s : Option StatedSchema) (file held text : List ℕ
     unread : (r : Refusal) (bytes : List ℕ) → ArePoliciesRefused held r → IsUnreadExplained s file text pieces r bytes
         → IsOutcomeExplained s file held text pieces bytes
 
--- `IsFileExplained s file held bytes` holds if `bytes` explain what is rejected of the file `file` of policies, with
+-- `IsFileExplained s file held bytes` holds if `bytes` explain what is rejected in the file `file` of policies, with
 -- the content `held`.
 pub record IsFileExplained (s : Option StatedSchema) (file held bytes : List ℕ) : Type 0 where
   pub text : List ℕ
@@ -53,7 +54,7 @@ pub record IsFileExplained (s : Option StatedSchema) (file held bytes : List ℕ
   pub tokens : List Token
   pub are_tokens : AreTokensOf text tokens
   pub pieces : List Piece
-  pub are_pieces : ArePiecesOf tokens pieces
+  pub are_pieces : ArePiecesOf (length text) tokens pieces
   pub outcome : IsOutcomeExplained s file held text pieces bytes
 
 -- ---- all texts
@@ -79,6 +80,6 @@ abbrev pub IsExplainedAs : Option File → Files → List ℕ → Type 0
 IsExplainedAs None given bytes = AreOthersExplained None given bytes
 IsExplainedAs (Some schema) given bytes = IsExplainedUnder schema given bytes
 
--- `IsExplained given bytes` holds if `bytes` explain what is rejected of the files.
+-- `IsExplained given bytes` holds if `bytes` explain what is rejected in the files.
 abbrev pub IsExplained : Files → List ℕ → Type 0
 IsExplained given bytes = IsExplainedAs given.schema given bytes

@@ -1,4 +1,4 @@
--- Defines the text that explains why entities or a request are rejected.
+-- Defines the explanation of rejected entities and of a rejected request.
 -- Rules of this product: entities are checked as `decide` checks them, whatever else is given, and so is a request: the
 -- first error is explained, with its index in the array and, under a schema, the JSON pointer of the part at fault.
 use Rattle.std.specs.Prelude.{◌≡◌, ◌⊎◌, ℕ, List, [], ◌++◌, Option, None, Some, Result, Ok, Err, ⊤, codes}
@@ -11,7 +11,7 @@ use Rattle.schema_decisions.specs.decision_texts.Decisions as bare
 use Rattle.schema_decisions.specs.decision_texts.EntityArrays.{entities_of}
 use Rattle.schema_decisions.specs.Decisions as typed
 use Rattle.schema_decisions.specs.UnderSchema.{reading_under}
-use Rattle.part_texts.specs.Told.{IsItemTold, IsAskedTold}
+use Rattle.value_paths.specs.Told.{IsItemTold, IsAskedTold}
 use Rattle.explanations.specs.Files.{File}
 use Rattle.explanations.specs.Parts.{IsNothing, IsWholeAt}
 
@@ -20,16 +20,16 @@ abbrev pub any_request : List ℕ
 any_request = codes "{\"principal\":{\"type\":\"A\",\"id\":\"\"},\"action\":{\"type\":\"A\",\"id\":\"\"},"
     ++ codes "\"resource\":{\"type\":\"A\",\"id\":\"\"}}"
 
--- `AreBareTextsRead entities request` holds if without a schema the request is decided over the entities by no
--- policies, and `AreBareTextsRefused ..` if not, with this error.
+-- `AreBareTextsRead entities request` holds if the request can be decided over the entities without a schema and
+-- without policies, and `AreBareTextsRefused ..` if not, with this error.
 abbrev pub AreBareTextsRead : List ℕ → List ℕ → Type 0
 AreBareTextsRead entities request = (line : List ℕ) × bare.IsDecided bare_reading [] entities request line
 
 abbrev pub AreBareTextsRefused : List ℕ → List ℕ → Refusal → Type 0
 AreBareTextsRefused entities request r = bare.IsDecisionRefused bare_reading [] entities request r
 
--- `AreEntitiesRead s text` holds if `text` is an array of entities under the schema or, without one, if that request is
--- decided over it.
+-- `AreEntitiesRead s text` holds if `text` is an array of entities under the schema or, without one, if `any_request`
+-- can be decided over it.
 abbrev pub AreEntitiesRead : Option StatedSchema → List ℕ → Type 0
 AreEntitiesRead None text = AreBareTextsRead text any_request
 AreEntitiesRead (Some s) text = (es : List Entity) × (entities_of (reading_under s) text ≡ Ok es)
@@ -39,7 +39,7 @@ abbrev pub AreEntitiesRefused : Option StatedSchema → List ℕ → Refusal →
 AreEntitiesRefused None text r = AreBareTextsRefused text any_request r
 AreEntitiesRefused (Some s) text r = entities_of (reading_under s) text ≡ Err r
 
--- `IsRequestRead schema text` holds if `text` is a request, which is decided over no entities by no policies, under a
+-- `IsRequestRead schema text` holds if `text` is a request: it can be decided without entities and policies, under a
 -- schema if there is one.
 abbrev pub IsRequestRead : Option (List ℕ) → List ℕ → Type 0
 IsRequestRead None text = AreBareTextsRead (codes "[]") text
@@ -50,9 +50,9 @@ abbrev pub IsRequestRefused : Option (List ℕ) → List ℕ → Refusal → Typ
 IsRequestRefused None text r = AreBareTextsRefused (codes "[]") text r
 IsRequestRefused (Some schema) text r = typed.IsSchemaDecisionRefused schema [] (codes "[]") text r
 
--- `IsEntityPartTold s text index words` holds if `words` say which part is at fault of the entity at this index of
--- `text`, under the schema `s`, and `IsRequestPartTold s text words` if they say it of the request `text`; without a
--- schema they say nothing.
+-- `IsEntityPartTold s text index words` holds if `words` name the part at fault of the entity at this index of `text`,
+-- under the schema `s`, and `IsRequestPartTold s text words` if they name that of the request `text`; without a schema
+-- they are empty.
 abbrev pub IsEntityPartTold : Option StatedSchema → List ℕ → Option ℕ → List ℕ → Type 0
 IsEntityPartTold None text index words = IsNothing words
 IsEntityPartTold (Some s) text index words = IsItemTold s text index words
@@ -67,7 +67,7 @@ abbrev pub IsJudgedText : List ℕ → (Option ℕ → List ℕ → Type 0) → 
 IsJudgedText name Told (Ok done) bytes = bytes ≡ []
 IsJudgedText name Told (Err r) bytes = (r ≡ no_memory → ⊥) × IsWholeAt name r.code r.place (Told r.place) bytes
 
--- `IsJudged name Read Refused Told bytes` holds if `bytes` are empty, of what is read, or explain why it is rejected.
+-- `IsJudged name Read Refused Told bytes` holds if `bytes` are empty, for an accepted file, or explain its error.
 abbrev pub IsJudged : List ℕ → Type 0 → (Refusal → Type 0) → (Option ℕ → List ℕ → Type 0) → List ℕ → Type 0
 IsJudged name Read Refused Told bytes =
     (Read × (bytes ≡ [])) ⊎ ((r : Refusal) × Refused r × IsWholeAt name r.code r.place (Told r.place) bytes)

@@ -13,19 +13,22 @@ abbrev pub IsPartOf : List ℕ → ℕ → ℕ → List ℕ → Type 0
 IsPartOf text from to part = (part ≡ drop from (take to text))
     ⊎ ((part ≡ []) × ((IsCharBoundary text to → ⊥) ⊎ (IsCharBoundary (take to text) from → ⊥)))
 
--- `IsSourceAt file text code start bytes` holds if `bytes` explain an error of this code at this byte of `text`.
-pub record IsSourceAt (file text : List ℕ) (code start : ℕ) (bytes : List ℕ) : Type 0 where
+-- `IsSourceAt file text note code start bytes` holds if `bytes` explain an error of this code at this byte of `text`,
+-- with `note` on what the place is, and nothing else.
+pub record IsSourceAt (file text note : List ℕ) (code start : ℕ) (bytes : List ℕ) : Type 0 where
   pub finding : SourceFinding
   pub code_is : finding.code ≡ code
   pub start_is : finding.start ≡ start
+  pub detail_is : finding.detail.now ≡ []
+  pub note_is : finding.note.now ≡ note
   pub is_text : IsSourceText file text finding bytes
 
--- `IsNothing words` holds if `words` say nothing.
+-- `IsNothing words` holds if `words` are empty.
 abbrev pub IsNothing : List ℕ → Type 0
 IsNothing words = words ≡ []
 
 -- `IsWholeAt file code index Told bytes` holds if `bytes` explain an error of this code, at this index in the array of
--- a file, and `Told` holds of the words on what is there.
+-- a file, and `Told` holds for the words on that item.
 pub record IsWholeAt (file : List ℕ) (code : ℕ) (index : Option ℕ) (Told : List ℕ → Type 0) (bytes : List ℕ) : Type 0
   where
     pub finding : WholeFinding

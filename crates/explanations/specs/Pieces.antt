@@ -1,8 +1,8 @@
 -- Defines the positions of policies in their file.
--- Source: Cedar reference guide 4.0, "Grammar specification for Cedar policy syntax": a policy ends with `;`, and no
--- other token of it is one. Rules of this product: a policy begins where its first token does, so comments before it do
--- not belong to it.
-use Rattle.std.specs.Prelude.{ℕ, Bool, true, false, if◌then◌else◌, List, [], ◌∷◌, ◌++◌}
+-- Source: Cedar reference guide 4.0, "Grammar specification for Cedar policy syntax": a policy ends with `;`, its only
+-- one. Rules of this product: a policy begins with its first token, so comments before it do not belong to it; one that
+-- no `;` ends, ends with the text.
+use Rattle.std.specs.Prelude.{◌≡◌, ℕ, Bool, true, false, if◌then◌else◌, List, [], ◌∷◌, ◌++◌}
 use Rattle.std.specs.Prelude.{Option, Some, None, unwrap_or, slice_get}
 use Rattle.grammar_desugaring.specs.grammar_tokens.declared.token.TokenKind.{TokenKind}
 use Rattle.grammar_desugaring.specs.grammar_tokens.declared.token.TokenKind.TheVariants as k
@@ -33,10 +33,16 @@ pub data ArePieces : List Token → List Piece → Option ℕ → Type 0 where
   more : (ts : List Token) (ps : List Piece) (open_at : Option ℕ) (t : Token) → ArePieces ts ps open_at
       → ArePieces (ts ++ t ∷ []) (pieces_after ps open_at t) (open_after open_at t)
 
--- `ArePiecesOf ts ps` holds if `ps` are the pieces of the tokens `ts`.
-abbrev pub ArePiecesOf : List Token → List Piece → Type 0
-ArePiecesOf ts ps = (open_at : Option ℕ) × ArePieces ts ps open_at
+-- `with_open size ps open_at` are the pieces `ps` and, if one more is open, that up to the byte `size`.
+abbrev pub with_open : ℕ → List Piece → Option ℕ → List Piece
+with_open size ps None = ps
+with_open size ps (Some from) = ps ++ piece from size ∷ []
 
--- `piece_at ps i` is the piece at the index `i`; the empty one at 0 if there is none.
+-- `ArePiecesOf size ts ps` holds if `ps` are the pieces of the tokens `ts` of a text of `size` bytes.
+abbrev pub ArePiecesOf : ℕ → List Token → List Piece → Type 0
+ArePiecesOf size ts ps = (closed : List Piece) × (open_at : Option ℕ) × ArePieces ts closed open_at
+    × (ps ≡ with_open size closed open_at)
+
+-- `piece_at ps i` is the piece at the index `i`, or the empty piece at 0 if `ps` is shorter.
 abbrev pub piece_at : List Piece → ℕ → Piece
 piece_at ps i = unwrap_or (slice_get ps i) (piece 0 0)

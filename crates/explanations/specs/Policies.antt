@@ -1,11 +1,11 @@
--- Defines the text that explains which policies of a file do not pass validation.
+-- Defines the explanation of the policies of a file that do not pass validation.
 -- Rules of this product: each policy that `check` reports as rejected is explained, in the order of the file, once,
--- with the code that `check` reports; no other is. One of at most 10,000 bytes is explained with its cause and the
--- types in its first faulty environment, at the name or the expression at fault; a longer one at its position.
--- Without a schema no policy is rejected so.
+-- with the code that `check` reports, and no other policy is. One of at most 10,000 bytes is explained with its cause
+-- and the types in its first environment with an error, at the name or the expression at fault; a longer one at its
+-- position. A note says so if the whole policy is shown. Without a schema no policy is rejected.
 use Rattle.std.specs.Prelude.{◌≡◌, ℕ, ◌+◌, ◌-◌, min, nat_le, Bool, true, false, List, [], ◌∷◌, ◌++◌, length}
 use Rattle.std.specs.Prelude.{Option, Some, None}
-use Rattle.std.specs.Prelude.{string_bytes}
+use Rattle.std.specs.Prelude.{string_bytes, codes}
 use Rattle.policy_grammar.specs.declared.policy.Policy.{Policy}
 use Rattle.schema_decisions.specs.schema.Schemas.{StatedSchema}
 use Rattle.schema_decisions.specs.validator.declared.fault.TypeFault.{TypeFault}
@@ -14,8 +14,8 @@ use Rattle.schema_decisions.specs.validator.Faults.{code_of}
 use Rattle.schema_decisions.specs.validator.Passing.{Passes, IsCheckRefused}
 use Rattle.explanation_texts.specs.declared.finding.SourceFinding.{SourceFinding}
 use Rattle.explanation_texts.specs.Explained.{IsSourceText}
-use Rattle.blame_texts.specs.declared.telling.PolicyFault.{PolicyFault}
-use Rattle.blame_texts.specs.Told.{IsPolicyFault}
+use Rattle.fault_paths.specs.declared.explaining.PolicyFault.{PolicyFault}
+use Rattle.fault_paths.specs.Worded.{IsPolicyFault}
 use Rattle.explanations.specs.declared.pieces.Piece.{Piece}
 use Rattle.explanations.specs.Pieces.{piece_at}
 use Rattle.token_spans.specs.declared.spans.Span.{Span}
@@ -53,6 +53,15 @@ abbrev pub end_at : Piece → Option Span → ℕ
 end_at place None = place.end
 end_at place (Some s) = min (place.start + s.end) 18446744073709551615
 
+-- `note_of found` says that the whole policy is shown, if nothing was found, and `large_note` that it is, since it is
+-- not searched.
+abbrev pub note_of : Option Span → List ℕ
+note_of None = codes "the whole policy is shown, not the expression at fault"
+note_of (Some s) = []
+
+abbrev pub large_note : List ℕ
+large_note = codes "the policy is too large to show the expression at fault"
+
 -- `IsFaultText file text place f bytes` holds if `bytes` explain the error `f` of the policy at `place`, at the name or
 -- the expression that it blames.
 pub record IsFaultText (file text : List ℕ) (place : Piece) (f : PolicyFault) (bytes : List ℕ) : Type 0 where
@@ -64,6 +73,7 @@ pub record IsFaultText (file text : List ℕ) (place : Piece) (f : PolicyFault) 
   pub end : finding.end ≡ end_at place found
   pub cause : finding.cause.now ≡ string_bytes f.cause
   pub detail : finding.detail.now ≡ string_bytes f.detail
+  pub note : finding.note.now ≡ note_of found
   pub is_text : IsSourceText file text finding bytes
 
 -- `IsCheckExplained s file text place policy bytes` holds if `bytes` explain why `policy`, at `place`, is rejected
@@ -74,7 +84,8 @@ pub data IsCheckExplained (s : StatedSchema) (file text : List ℕ) (place : Pie
     rejected_so : (f : PolicyFault) (bytes : List ℕ) → is_searched place ≡ true → IsPolicyFault s policy f
         → IsFaultText file text place f bytes → IsCheckExplained s file text place policy bytes
     too_large : (fault : TypeFault) (bytes : List ℕ) → is_searched place ≡ false → IsCheckRefused s policy fault
-        → IsSourceAt file text (code_of fault) place.start bytes → IsCheckExplained s file text place policy bytes
+        → IsSourceAt file text large_note (code_of fault) place.start bytes
+        → IsCheckExplained s file text place policy bytes
 
 -- `IsPolicyExplained s file text place policy bytes` is the same, if there is a schema; else `bytes` are empty.
 abbrev pub IsPolicyExplained : Option StatedSchema → List ℕ → List ℕ → Piece → Policy → List ℕ → Type 0

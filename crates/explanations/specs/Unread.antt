@@ -1,39 +1,53 @@
--- Defines the text that explains the policies of a file that does not parse.
--- Rules of this product: each part of the file that ends as a policy does is parsed as a file of its own, in order. One
--- that does not parse is explained by its first error, and a policy that does not pass as one of a file that parses.
+-- Defines the explanation of the policies of a file that does not parse.
+-- Rules of this product: each part of the file that ends as a policy does, or with the file, is parsed as a file of its
+-- own, in order. A part that does not parse is explained by its first error, and a policy that does not pass like one
+-- of a parsed file. The error of a part is that of the file if both have one code at one byte, or one code whose errors
+-- have no byte of their own (18, 19).
+use Rattle.std.specs.Prelude.{◌==◌, ◌&&◌, nat_le}
 use Rattle.std.specs.Prelude.{◌≡◌, ℕ, ◌+◌, min, Bool, true, false, ◌||◌, List, [], ◌∷◌, ◌++◌, Option, unwrap_or}
 use Rattle.policy_grammar.specs.declared.policy.Policy.{Policy}
 use Rattle.policy_grammar.specs.declared.fault.ReadFault.{ReadFault}
 use Rattle.policy_grammar.specs.Faults.{code_of, place_of}
 use Rattle.policy_grammar.specs.PolicyText.{IsPolicyFile, IsFileRefused}
 use Rattle.schema_decisions.specs.schema.Schemas.{StatedSchema}
+use Rattle.schema_decisions.specs.answer_lines.declared.refusal.Refusal.{Refusal}
 use Rattle.explanations.specs.declared.pieces.Piece.{Piece}
 use Rattle.explanations.specs.Parts.{IsPartOf, IsSourceAt}
 use Rattle.explanations.specs.Policies.{ArePoliciesExplained}
 
--- `byte_in piece fault` is the byte of the whole text at which an error of a piece is. (The least of it and 2^64 - 1;
--- no text is so long.)
+-- `byte_in piece fault` is the offset in the whole text of an error of a piece. (The least of it and 2^64 - 1; no text
+-- is that long.)
 abbrev pub byte_in : Piece → ReadFault → ℕ
 byte_in piece fault = min (piece.start + unwrap_or (place_of fault) 0) 18446744073709551615
 
--- `IsPieceExplained s file text piece unread bytes` holds if `bytes` explain a piece, which by itself does not parse if
--- `unread`, and else is a file of policies.
-pub data IsPieceExplained (s : Option StatedSchema) (file text : List ℕ) (piece : Piece) : Bool → List ℕ → Type 0 where
+-- `is_placeless code` tests for the errors that have no byte of their own.
+abbrev pub is_placeless : ℕ → Bool
+is_placeless code = nat_le 18 code && nat_le code 19
+
+-- `is_that r code at` tests whether an error of this code at this byte is the error `r` of the file.
+abbrev pub is_that : Refusal → ℕ → ℕ → Bool
+is_that r code at = (code == r.code) && ((at == unwrap_or r.place 0) || is_placeless code)
+
+-- `IsPieceExplained s file text r piece told bytes` holds if `bytes` explain a piece of a file that is rejected with
+-- `r`; `told` says whether the piece by itself does not parse, and `r` is its error.
+pub data IsPieceExplained (s : Option StatedSchema) (file text : List ℕ) (r : Refusal) (piece : Piece)
+    : Bool → List ℕ → Type 0 where
   is_read : (part : List ℕ) (names : List (List ℕ)) (cores : List Policy) (bytes : List ℕ)
       → IsPartOf text piece.start piece.end part → IsPolicyFile part names cores
-      → ArePoliciesExplained s file text (piece ∷ []) cores bytes → IsPieceExplained s file text piece false bytes
+      → ArePoliciesExplained s file text (piece ∷ []) cores bytes → IsPieceExplained s file text r piece false bytes
   is_unread : (part : List ℕ) (fault : ReadFault) (bytes : List ℕ) → IsPartOf text piece.start piece.end part
-      → IsFileRefused part fault → IsSourceAt file text (code_of fault) (byte_in piece fault) bytes
-      → IsPieceExplained s file text piece true bytes
+      → IsFileRefused part fault → IsSourceAt file text [] (code_of fault) (byte_in piece fault) bytes
+      → IsPieceExplained s file text r piece (is_that r (code_of fault) (byte_in piece fault)) bytes
 
--- `ArePiecesExplained s file text pieces unread bytes` holds if `bytes` explain each of the pieces, in order;
--- `unread` says whether one of them does not parse.
-pub data ArePiecesExplained (s : Option StatedSchema) (file text : List ℕ) : List Piece → Bool → List ℕ → Type 0 where
-  none : ArePiecesExplained s file text [] false []
-  more : (ps : List Piece) (p : Piece) (some unread : Bool) (before bytes : List ℕ)
-      → ArePiecesExplained s file text ps some before → IsPieceExplained s file text p unread bytes
-      → ArePiecesExplained s file text (ps ++ p ∷ []) (some || unread) (before ++ bytes)
+-- `ArePiecesExplained s file text r pieces told bytes` holds if `bytes` explain each of the pieces, in order; `told`
+-- says whether `r` is the error of one of them.
+pub data ArePiecesExplained (s : Option StatedSchema) (file text : List ℕ) (r : Refusal)
+    : List Piece → Bool → List ℕ → Type 0 where
+  none : ArePiecesExplained s file text r [] false []
+  more : (ps : List Piece) (p : Piece) (some told : Bool) (before bytes : List ℕ)
+      → ArePiecesExplained s file text r ps some before → IsPieceExplained s file text r p told bytes
+      → ArePiecesExplained s file text r (ps ++ p ∷ []) (some || told) (before ++ bytes)
 
--- `AppendsTold Is old new told` holds if `new` is `old` followed by bytes for which, with `told`, `Is` holds.
+-- `AppendsTold Is old new told` holds if `new` is `old` followed by bytes for which `Is` holds, with `told`.
 abbrev pub AppendsTold : (Bool → List ℕ → Type 0) → List ℕ → List ℕ → Bool → Type 0
 AppendsTold Is old new told = (bytes : List ℕ) × Is told bytes × (new ≡ old ++ bytes)

@@ -14,10 +14,10 @@ use crate::policies::explain_policies;
 use crate::unread::{Lexed, explain_pieces, push_read_fault};
 use grammar_desugaring::{LexFault, Token, tokens};
 use plain::NoMemory;
-use schema_decisions::{Refusal, Schema, policies_in, schema_in};
+use schema_decisions::{Schema, policies_in, schema_in};
 use std::alloc::Global;
 
-/// Returns bytes as text; the empty one if they are not UTF-8.
+/// Returns bytes as text; an empty one if they are not UTF-8.
 fn text_of(bytes: &[u8]) -> &str
     ensures { IsTextOf bytes.now result.now }
 {
@@ -27,7 +27,7 @@ fn text_of(bytes: &[u8]) -> &str
     }
 }
 
-/// Returns the tokens of a text; none if at some byte no token begins.
+/// Returns the tokens of a text; an empty list if at some byte no token begins.
 fn tokens_of(alloc: Global, text: &str) -> Result<Vec<Token>, NoMemory>
     ensures { IfOk result (λ tokens. AreTokensOf text.now tokens.items) }
 {
@@ -40,29 +40,29 @@ fn tokens_of(alloc: Global, text: &str) -> Result<Vec<Token>, NoMemory>
     }
 }
 
-/// Appends why a file of policies does not parse: the error of each of its pieces, or that of the file if each piece
-/// is a policy.
+/// Appends why a file of policies does not parse: the error of each of its pieces, and behind these that of the file,
+/// if it is none of them.
 fn explain_unread(
     alloc: Global,
     out: &mut String,
     schema: Option<&Schema>,
     lexed: Lexed<'_>,
     pieces: &[Piece],
-    refusal: Refusal,
 ) -> Result<(), NoMemory>
     ensures { OnOk result (AppendsSome (IsUnreadExplained (option_map (λ s. schema_view s.now) schema.entry)
-        lexed.entry.file.now lexed.entry.text.now pieces.now refusal) (string_bytes out.old) (string_bytes out.new)) }
+        lexed.entry.file.now lexed.entry.text.now pieces.now lexed.entry.refusal) (string_bytes out.old)
+        (string_bytes out.new)) }
 {
     let some = explain_pieces(alloc, out, schema, lexed, pieces)?;
     if some {
         return Ok(());
     }
-    let at = refusal.place.unwrap_or(0);
-    push_read_fault(alloc, out, lexed, refusal.code, at)?;
+    let at = lexed.refusal.place.unwrap_or(0);
+    push_read_fault(alloc, out, lexed, lexed.refusal.code, at)?;
     Ok(())
 }
 
-/// Appends what is rejected of a file of policies.
+/// Appends the explanation of what is rejected in a file of policies.
 fn explain_file(
     alloc: Global,
     out: &mut String,
@@ -75,7 +75,7 @@ fn explain_file(
     let text = text_of(source.text);
     let tokens = tokens_of(alloc, text)?;
     let all = tokens.as_slice();
-    let pieces = pieces_of(alloc, all)?;
+    let pieces = pieces_of(alloc, all, text.len())?;
     let spots = pieces.as_slice();
     match policies_in(alloc, source.text) {
         Ok(policies) => {
@@ -89,8 +89,9 @@ fn explain_file(
                 file: source.name,
                 text,
                 tokens: all,
+                refusal,
             };
-            explain_unread(alloc, out, schema, lexed, spots, refusal)?;
+            explain_unread(alloc, out, schema, lexed, spots)?;
             Ok(())
         }
     }
@@ -106,7 +107,7 @@ fn text_of_source<'t>(source: Option<Source<'_, 't>>) -> Option<&'t [u8]>
     }
 }
 
-/// Appends what is rejected of the policies, the entities and the request.
+/// Appends the explanation of what is rejected in the policies, the entities and the request.
 fn explain_others(
     alloc: Global,
     out: &mut String,
@@ -128,7 +129,7 @@ fn explain_others(
     Ok(())
 }
 
-/// Appends the same under the schema of a text, or why that is rejected.
+/// Appends the same under the schema of a text, or why that schema is rejected.
 fn explain_under(
     alloc: Global,
     out: &mut String,
@@ -167,13 +168,14 @@ fn explain_given(alloc: Global, out: &mut String, given: &Given<'_, '_>) -> Resu
     }
 }
 
-/// Returns the text that explains what is rejected of these texts: the schema alone, if it is rejected; else each
+/// Returns the text that explains what is rejected in these texts: the schema alone, if it is rejected; else each
 /// rejected policy, in the order of the file, then the first error of the entities, then that of the request. It is
 /// empty if and only if nothing is rejected.
 ///
 /// A policy that does not pass validation has the code that `check` reports. If the file does not parse, each part of
-/// it that ends with a `;` is parsed by itself, and has its own first error, or is checked as a policy of a file; if
-/// each of these parses, the error of the file is last. A text without tokens has no such parts.
+/// it that ends with a `;`, or with the file, is parsed by itself, and has its own first error, or is checked as a
+/// policy of a file; if none of these errors is that of the file, that is last. A text without tokens has no such
+/// parts.
 ///
 /// # Errors
 ///

@@ -1,4 +1,4 @@
-//! What is explained.
+//! The texts that are explained.
 
 /// A text, and the name of its file.
 #[derive(Clone, Copy)]

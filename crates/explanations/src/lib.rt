@@ -1,5 +1,5 @@
-//! Explanations of what is rejected of a schema, of policies, of entities and of a request, for their authors: each
-//! rejected policy, the first rejected entity, and the request.
+//! Explanations for authors of what is rejected in a schema, policies, entities and a request: each rejected policy,
+//! the first rejected entity, and the request.
 #![tactic(auto)]
 
 mod explaining;

@@ -12,10 +12,10 @@ ghost use Rattle.explanations.specs.Others.{IsEntityPartTold, IsRequestPartTold}
 
 use crate::given::Source;
 use crate::parts::{no_want_of_memory, push_refusal};
-use part_texts::{entity_part, request_part};
 use plain::{NoMemory, Text};
 use schema_decisions::{Refusal, Schema, UnderSchema, decide_texts, decide_under, judge_entities};
 use std::alloc::Global;
+use value_paths::{entity_part, request_part};
 
 /// Returns a request that parses without a schema.
 fn any_request() -> &'static [u8]

@@ -21,18 +21,42 @@ pub(crate) fn part_of(text: &str, from: usize, to: usize) -> &str
     }
 }
 
-/// Appends the text of a finding at a byte.
+/// An error at a part of a text, of which nothing else is known.
+#[derive(Clone, Copy)]
+pub(crate) struct PlainFinding<'t> {
+    /// The code.
+    pub code: u16,
+    /// The byte of the text at which the part begins.
+    pub start: usize,
+    /// The byte after the part.
+    pub end: usize,
+    /// What is named as the cause; empty if nothing is.
+    pub cause: &'t str,
+    /// What the place is, if it is not that of the error itself; empty if it is.
+    pub note: &'static str,
+}
+
+/// Appends the text of an error at a part of a text.
 pub(crate) fn push_at(
     alloc: Global,
     out: &mut String,
     file: &str,
     text: &str,
-    finding: &SourceFinding<'_>,
+    plain: PlainFinding<'_>,
 ) -> Result<(), NoMemory>
-    ensures { OnOk result (AppendsSome (IsSourceAt file.now text.now finding.now.code finding.now.start)
+    ensures { OnOk result (AppendsSome
+        (IsSourceAt file.now text.now plain.entry.note.now plain.entry.code plain.entry.start)
         (string_bytes out.old) (string_bytes out.new)) }
 {
-    push_source(alloc, out, file, text, finding)?;
+    let finding = SourceFinding {
+        code: plain.code,
+        start: plain.start,
+        end: plain.end,
+        cause: plain.cause,
+        detail: "",
+        note: plain.note,
+    };
+    push_source(alloc, out, file, text, &finding)?;
     Ok(())
 }
 

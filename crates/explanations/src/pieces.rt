@@ -1,6 +1,7 @@
 //! Positions of policies in their file.
-ghost use Rattle.std.specs.Prelude.{◌≡◌, IfOk};
-ghost use Rattle.explanations.specs.Pieces.{is_end, open_after, pieces_after, piece_at, ArePiecesOf};
+ghost use Rattle.std.specs.Prelude.{◌≡◌, OnOk, IfOk};
+ghost use Rattle.explanations.specs.Pieces.{ArePiecesOf};
+ghost use Rattle.explanations.specs.Pieces.{is_end, open_after, pieces_after, with_open, piece_at};
 
 use grammar_desugaring::{Token, TokenKind};
 use plain::NoMemory;
@@ -40,10 +41,27 @@ fn take_token(
     Ok(Some(start))
 }
 
-/// Returns the position of each policy of a file with these tokens, in order. Of a text that is not a file of policies
-/// these are the parts that end as a policy does.
-pub(crate) fn pieces_of(alloc: Global, tokens: &[Token]) -> Result<Vec<Piece>, NoMemory>
-    ensures { IfOk result (λ pieces. ArePiecesOf tokens.now pieces.items) }
+/// Appends the piece that is open at the end of a text of this size, if one is.
+fn push_open(pieces: &mut Vec<Piece>, begun: Option<usize>, size: usize) -> Result<(), NoMemory>
+    ensures { OnOk result (pieces.new.items ≡ with_open size pieces.old.items begun) }
+{
+    match begun {
+        Some(start) => {
+            pieces.push(Piece { start, end: size })?;
+            Ok(())
+        }
+        None => Ok(()),
+    }
+}
+
+/// Returns the position of each policy of a file of this size with these tokens, in order. Of a text that is not a file
+/// of policies these are the parts that end as a policy does, and the rest.
+pub(crate) fn pieces_of(
+    alloc: Global,
+    tokens: &[Token],
+    size: usize,
+) -> Result<Vec<Piece>, NoMemory>
+    ensures { IfOk result (λ pieces. ArePiecesOf size tokens.now pieces.items) }
 {
     let mut pieces = Vec::new(alloc);
     let mut open: Option<usize> = None;
@@ -51,10 +69,11 @@ pub(crate) fn pieces_of(alloc: Global, tokens: &[Token]) -> Result<Vec<Piece>, N
         let after = take_token(&mut pieces, open, token)?;
         open = after;
     }
+    push_open(&mut pieces, open, size)?;
     Ok(pieces)
 }
 
-/// Returns the piece at an index; the empty one at the beginning of the text if there is none.
+/// Returns the piece at an index; an empty one at the beginning of the text if the index is too large.
 pub(crate) fn piece_at(pieces: &[Piece], place: usize) -> Piece
     ensures { result ≡ piece_at pieces.now place }
 {

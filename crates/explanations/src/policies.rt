@@ -3,22 +3,23 @@ ghost use Rattle.std.specs.Prelude.{◌≡◌, true, false, OnOk, IfOk, MatchOpt
 ghost use Rattle.schema_decisions.specs.validator.Passing.{Passes, IsCheckRefused};
 ghost use Rattle.schema_decisions.specs.schema.Views.{schema_view};
 ghost use Rattle.explanations.specs.Parts.{AppendsSome};
-ghost use Rattle.explanations.specs.Policies.{is_searched, is_name, start_at, end_at, IsSpanFound, IsFaultText};
+ghost use Rattle.explanations.specs.Policies.{is_searched, is_name, start_at, end_at, note_of, IsSpanFound};
+ghost use Rattle.explanations.specs.Policies.{IsFaultText};
 ghost use Rattle.explanations.specs.Policies.{IsCheckExplained, IsPolicyExplained};
 ghost use Rattle.explanations.specs.Policies.{ArePoliciesExplained};
 
-use crate::parts::{part_of, push_at};
+use crate::parts::{PlainFinding, part_of, push_at};
 use crate::pieces::{Piece, piece_at};
-use blame_texts::{PolicyFault, TypeFault, check, explain_fault};
 use explanation_texts::{SourceFinding, push_source};
+use fault_paths::{PolicyFault, TypeFault, check, explain_fault};
 use plain::NoMemory;
 use schema_decisions::{Policy, Schema};
 use std::alloc::Global;
 use token_spans::{Span, name_span, span_of};
 
-// The most bytes of a policy that is searched for the expression at fault. The search checks the part that is at fault
-// again on each level, of which there are at most 1,000: so it checks at most 10,000,000 forms in an environment, ten
-// times those of the largest policy.
+// The greatest length in bytes of a policy that is searched for the expression at fault. The search types the part at
+// fault again on each of at most 1,000 levels: at most 10,000,000 nodes in an environment, ten times those of the
+// largest policy.
 const MOST_SEARCHED: usize = 10000;
 
 /// Returns whether a policy is searched for the expression at fault.
@@ -44,7 +45,7 @@ fn is_name(fault: TypeFault) -> bool
     }
 }
 
-/// Returns the span of the name or of the expression that is at fault, in the text of the policy.
+/// Returns the span of the name or of the expression at fault, in the text of the policy.
 fn found_span(
     alloc: Global,
     text: &str,
@@ -63,19 +64,20 @@ fn found_span(
     Ok(found)
 }
 
-/// A part of a text that is shown.
+/// The shown part of a text.
 #[derive(Clone, Copy)]
 struct Spot {
     start: usize,
     end: usize,
-    /// What the part is, if it is not that of the error itself; empty if it is.
+    /// What the part is, if it is not the error itself; else empty.
     note: &'static str,
 }
 
-/// Returns the part that is shown of a policy; the whole policy if nothing was found.
+/// Returns the shown part of a policy; the whole policy if nothing was found.
 fn spot_of(piece: Piece, found: Option<Span>) -> Spot
     ensures start { result.start ≡ start_at piece found }
     ensures end { result.end ≡ end_at piece found }
+    ensures note { result.note.now ≡ note_of found }
 {
     match found {
         Some(span) => Spot {
@@ -91,7 +93,7 @@ fn spot_of(piece: Piece, found: Option<Span>) -> Spot
     }
 }
 
-/// Appends why a policy does not pass, as its error was found.
+/// Appends why a policy does not pass, by the error that was found.
 fn push_fault(
     alloc: Global,
     out: &mut String,
@@ -158,7 +160,7 @@ fn rejection_of(
     }
 }
 
-/// Appends why a policy that is not searched does not pass, if it does not.
+/// Appends why a policy does not pass, if it does not, without a search for the expression at fault.
 fn explain_large(
     alloc: Global,
     out: &mut String,
@@ -175,15 +177,14 @@ fn explain_large(
     match rejection_of(alloc, schema, policy)? {
         None => Ok(()),
         Some(fault) => {
-            let finding = SourceFinding {
+            let finding = PlainFinding {
                 code: u16::from(fault.code()),
                 start: piece.start,
                 end: piece.end,
                 cause: "",
-                detail: "",
                 note: "the policy is too large to show the expression at fault",
             };
-            push_at(alloc, out, file, text, &finding)?;
+            push_at(alloc, out, file, text, finding)?;
             Ok(())
         }
     }

@@ -1,21 +1,22 @@
 //! Files of policies that do not parse.
+ghost use Rattle.std.specs.Prelude.{◌==◌, unwrap_or};
 ghost use Rattle.std.specs.Prelude.{◌≡◌, ◌∷◌, ◌||◌, [], OnOk, IfOk, map, option_map, string_bytes};
 ghost use Rattle.schema_decisions.specs.schema.Views.{schema_view};
 ghost use Rattle.explanations.specs.Parts.{AppendsSome, IsSourceAt};
 ghost use Rattle.explanations.specs.Policies.{ArePoliciesExplained};
 ghost use Rattle.explanations.specs.Unread.{IsPieceExplained, ArePiecesExplained, AppendsTold};
+ghost use Rattle.explanations.specs.Unread.{is_placeless, is_that};
 
-use crate::parts::{part_of, push_at};
+use crate::parts::{PlainFinding, part_of, push_at};
 use crate::pieces::Piece;
 use crate::policies::explain_policies;
-use explanation_texts::SourceFinding;
 use grammar_desugaring::Token;
 use plain::NoMemory;
 use policy_grammar::{ReadFault, parse_policies};
-use schema_decisions::{Policy, Schema};
+use schema_decisions::{Policy, Refusal, Schema};
 use std::alloc::Global;
 
-/// The tokens of a text, with its file.
+/// The tokens of a text that does not parse, with its file and its error.
 #[derive(Clone, Copy)]
 pub(crate) struct Lexed<'t> {
     /// The name of the file.
@@ -24,9 +25,11 @@ pub(crate) struct Lexed<'t> {
     pub text: &'t str,
     /// Its tokens.
     pub tokens: &'t [Token],
+    /// The error of the file.
+    pub refusal: Refusal,
 }
 
-/// Returns the end of the token that starts at a byte; the byte itself if none starts there.
+/// Returns the end of the token that starts at a byte; the byte itself if no token starts there.
 fn end_of_token(tokens: &[Token], at: usize) -> usize {
     match tokens.iter().find(|token| token.start == at) {
         Some(token) => token.end,
@@ -39,7 +42,7 @@ fn names_token(code: u8) -> bool {
     matches!(code, 11..=16)
 }
 
-/// Returns the text between two bytes, or that the text ends there; nothing for an error that names no token.
+/// Returns the text between two bytes, or that the text ends there; nothing for an error that does not name a token.
 fn cause_at(text: &str, code: u8, at: usize, end: usize) -> &str {
     if !names_token(code) {
         return "";
@@ -51,18 +54,18 @@ fn cause_at(text: &str, code: u8, at: usize, end: usize) -> &str {
 }
 
 /// Returns the finding of this code at this byte, with the token there.
-fn finding_at<'t>(lexed: Lexed<'t>, code: u8, at: usize) -> SourceFinding<'t>
+fn finding_at<'t>(lexed: Lexed<'t>, code: u8, at: usize) -> PlainFinding<'t>
     ensures code { result.code ≡ code }
     ensures start { result.start ≡ at }
+    ensures note { result.note.now ≡ [] }
 {
     let end = end_of_token(lexed.tokens, at);
     let cause = cause_at(lexed.text, code, at, end);
-    SourceFinding {
+    PlainFinding {
         code: u16::from(code),
         start: at,
         end,
         cause,
-        detail: "",
         note: "",
     }
 }
@@ -75,11 +78,11 @@ pub(crate) fn push_read_fault(
     code: u8,
     at: usize,
 ) -> Result<(), NoMemory>
-    ensures { OnOk result (AppendsSome (IsSourceAt lexed.entry.file.now lexed.entry.text.now code at)
+    ensures { OnOk result (AppendsSome (IsSourceAt lexed.entry.file.now lexed.entry.text.now [] code at)
         (string_bytes out.old) (string_bytes out.new)) }
 {
     let finding = finding_at(lexed, code, at);
-    push_at(alloc, out, lexed.file, lexed.text, &finding)?;
+    push_at(alloc, out, lexed.file, lexed.text, finding)?;
     Ok(())
 }
 
@@ -114,8 +117,29 @@ fn no_failed_growth(fault: ReadFault) -> Result<ReadFault, NoMemory>
     }
 }
 
-/// Appends why a piece of a file does not parse as a file, or why its policy does not pass. Returns whether it does not
-/// parse.
+/// Returns whether errors of this code have no byte of their own.
+fn is_placeless(code: u8) -> bool
+    ensures { result ≡ is_placeless code }
+{
+    matches!(code, 18..=19)
+}
+
+/// Returns whether an error is at the place of that of the file, or has none.
+fn is_there(refusal: Refusal, code: u8, at: usize) -> bool
+    ensures { result ≡ ((at == unwrap_or refusal.place 0) || is_placeless code) }
+{
+    at == refusal.place.unwrap_or(0) || is_placeless(code)
+}
+
+/// Returns whether an error of this code at this byte is that of the file.
+fn is_that(refusal: Refusal, code: u8, at: usize) -> bool
+    ensures { result ≡ is_that refusal code at }
+{
+    code == refusal.code && is_there(refusal, code, at)
+}
+
+/// Appends why a piece of a file does not parse as a file, or why its policy does not pass. Returns whether the error
+/// of the file is told.
 fn explain_piece(
     alloc: Global,
     out: &mut String,
@@ -124,7 +148,8 @@ fn explain_piece(
     piece: &Piece,
 ) -> Result<bool, NoMemory>
     ensures { IfOk result (AppendsTold (IsPieceExplained (option_map (λ s. schema_view s.now) schema.entry)
-        lexed.entry.file.now lexed.entry.text.now piece.now) (string_bytes out.old) (string_bytes out.new)) }
+        lexed.entry.file.now lexed.entry.text.now lexed.entry.refusal piece.now) (string_bytes out.old)
+        (string_bytes out.new)) }
 {
     match parse_policies(alloc, part_of(lexed.text, piece.start, piece.end)) {
         Ok(policies) => {
@@ -135,7 +160,7 @@ fn explain_piece(
             let fault = no_failed_growth(fault)?;
             let at = piece.start.saturating_add(fault.place().unwrap_or(0));
             push_read_fault(alloc, out, lexed, fault.code(), at)?;
-            Ok(true)
+            Ok(is_that(lexed.refusal, fault.code(), at))
         }
     }
 }
@@ -146,7 +171,7 @@ fn either(first: bool, second: bool) -> bool
     first || second
 }
 
-/// Appends the same for each piece, in order. Returns whether one of them does not parse.
+/// Appends the same for each piece, in order. Returns whether the error of the file is that of one of them.
 pub(crate) fn explain_pieces(
     alloc: Global,
     out: &mut String,
@@ -155,12 +180,13 @@ pub(crate) fn explain_pieces(
     pieces: &[Piece],
 ) -> Result<bool, NoMemory>
     ensures { IfOk result (AppendsTold (ArePiecesExplained (option_map (λ s. schema_view s.now) schema.entry)
-        lexed.entry.file.now lexed.entry.text.now pieces.now) (string_bytes out.old) (string_bytes out.new)) }
+        lexed.entry.file.now lexed.entry.text.now lexed.entry.refusal pieces.now) (string_bytes out.old)
+        (string_bytes out.new)) }
 {
     let mut some = false;
     for piece in pieces {
-        let unread = explain_piece(alloc, out, schema, lexed, piece)?;
-        some = either(some, unread);
+        let told = explain_piece(alloc, out, schema, lexed, piece)?;
+        some = either(some, told);
     }
     Ok(some)
 }

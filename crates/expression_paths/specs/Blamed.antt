@@ -1,9 +1,9 @@
--- Defines which expression a fault of typing blames: the path to it, the form whose demand is not met, and the types
+-- Defines the expression that a typing error blames: the path to it, the form whose demand is not met, and the types
 -- that this demand is about.
 -- Source: the rules of typing (Faults.antt of `typing`), whose derivations say why an expression has no type.
--- Rules of this product: the first faulty operand is blamed, down to a form all operands of which have types. Where
--- a form demands a boolean of one operand, or is an operator or `has` with one operand, that operand is blamed; else
--- the form itself. Operands are numbered from 0, as they are written in the form.
+-- Rules of this product: the first operand with an error is blamed, down to a form whose operands all have types. If
+-- this form demands a boolean of one operand, or is an operator or `has` with one operand, that operand is blamed;
+-- else the form itself. Operands are numbered from 0, as they are written in the form.
 use Rattle.std.specs.Prelude.{ℕ, suc, List, [], ◌∷◌}
 use Rattle.grammar_core.specs.declared.expr.Expr.{Expr}
 use Rattle.grammar_core.specs.declared.expr.Expr.TheVariants as form
@@ -65,7 +65,7 @@ abbrev mutual
   blamed (fault_in_else a b c h i g) = under 2 (blamed g)
   blamed (branches_differ a b c {s} {t} h g i e) = at_itself (form.If a b c) (s ∷ t ∷ [])
 
-  -- what the first faulty one of several operands blames, the first of which has this index
+  -- what the first operand with an error blames, among several the first of which has this index
   pub blamed_each : {env : Environment} {K : Pairs} {xs : List Expr} {n : ExpressionFault} → ℕ → FaultsEach env K xs n
       → Blame
   blamed_each i (fault_here g) = under i (blamed g)

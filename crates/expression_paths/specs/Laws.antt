@@ -1,5 +1,5 @@
--- Defines that the faults of an expression blame one place, whatever their derivations, and that it is a part of the
--- expression.
+-- Defines the theorems that the errors of an expression blame one place, whatever their derivations, and that it is a
+-- part of the expression.
 -- Source: Blamed.antt and Places.antt.
 use Rattle.std.specs.Prelude.{◌≡◌, ◌⊎◌, ℕ, List, [], ◌∷◌, ◌++◌, Some, slice_get}
 use Rattle.grammar_core.specs.declared.expr.Expr.{Expr}

@@ -1,4 +1,4 @@
-//! Paths in expressions, by the indexes of operands, and which expression a fault of typing blames.
+//! Paths in expressions, by the indexes of operands, and the expression that a typing error blames.
 #![tactic(auto)]
 
 mod laws;

@@ -61,7 +61,7 @@ fn field_at<'a>(fields: &'a [Named<Expr>], at: usize) -> Option<&'a Expr>
     }
 }
 
-/// Returns the operand of this index, or `None` where there are not so many. Does not allocate.
+/// Returns the operand at the index `at`, or `None` if `expr` has fewer operands. Does not allocate.
 pub fn operand<'a>(expr: &'a Expr, at: usize) -> Option<&'a Expr>
     ensures item { IsAt (operands_of expr.entry.now) at result }
     ensures few { IsSome result → at < usize.MAX }
@@ -85,7 +85,7 @@ pub fn operand<'a>(expr: &'a Expr, at: usize) -> Option<&'a Expr>
     }
 }
 
-/// Returns the expression to which a path leads, or `None` where it leads to none. Does not allocate.
+/// Returns the expression to which a path leads, if it leads to one. Does not allocate.
 pub fn at_path<'a>(whole: &'a Expr, path: &[usize]) -> Option<&'a Expr>
     ensures { MatchOption result (follow path.now whole.entry.now ≡ None) (λ y. follow path.now whole.entry.now
         ≡ Some y.now) }

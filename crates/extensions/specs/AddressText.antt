@@ -23,7 +23,7 @@ pub record IsGroup (text : List ℕ) (n : ℕ) : Type 0 where
   pub short : length text ≤ 4
   pub value : digits_value 16 text ≡ n
 
--- `AreGroups text ns` holds if `text` is groups with a colon between each two, or empty if there are none.
+-- `AreGroups text ns` holds if `text` is groups with a colon between each two, or empty if `ns` is.
 abbrev pub AreGroups : List ℕ → List ℕ → Type 0
 AreGroups text [] = text ≡ []
 AreGroups text (n ∷ []) = IsGroup text n
@@ -35,7 +35,7 @@ pub record IsFull (text groups : List ℕ) : Type 0 where
   pub written : AreGroups text groups
   pub eight : length groups ≡ 8
 
--- `IsElided text groups` holds if `text` has groups on each side of `::`, which stands for at least one group of
+-- `IsElided text groups` holds if `text` has groups on each side of `::`, which represents at least one group of
 -- zero, so that there are eight.
 pub record IsElided (text groups : List ℕ) : Type 0 where
   pub head_text : List ℕ

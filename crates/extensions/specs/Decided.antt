@@ -1,4 +1,4 @@
--- Defines decisions: a proof, or a refutation.
+-- Defines decisions of a statement: a proof, or a refutation.
 use Rattle.std.specs.Prelude.{◌⊎◌, Bool, true, false, Option, Some, None}
 use Rattle.std.proofs.Common.{inl, inr}
 

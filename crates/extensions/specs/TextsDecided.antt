@@ -1,4 +1,4 @@
--- Defines decisions: whether a string is a decimal, or an IP address, and of which value, and whether a range is
+-- Defines decisions on decimals and IP addresses: whether a string is one, and of which value, and whether a range is
 -- within another. The type of each says what it decides; how it does so is not trusted.
 use Rattle.std.specs.Prelude.{◌⊎◌, ℕ, ℤ, List, Option}
 use Rattle.extensions.specs.Decided.{Decided, found}

@@ -184,7 +184,7 @@ fn ten_thousandths(fraction: &str) -> Option<u64>
     Some(number(fraction)? * scale(places))
 }
 
-/// Returns the ten-thousandths in one unit of the last of so many places.
+/// Returns how many ten-thousandths one unit of the decimal place `places` has.
 fn scale(places: usize) -> u64
     requires { places ≤ 4 }
     ensures { result ≡ 10 ^ (4 - places) }

@@ -1,8 +1,19 @@
-pub mod Declared
-pub mod Environments
-pub mod Finding
-pub mod Naming
-pub mod OneName
-pub mod Reaching
-pub mod Stepping
-pub mod Telling
+-- What is proved of blamed expressions and of the words on them.
+--   Declared, Environments, Finding, Reaching, Stepping, Telling
+--                the first environment with an error, and the way down in it
+--   Naming, OneName
+--                the first name that is not declared
+--   Appending    bytes after others
+--   Listing      the words for one type more
+--   Reading      the attribute that a form reads, and whether it is declared
+mod Appending
+mod Declared
+mod Environments
+mod Finding
+mod Listing
+mod Naming
+mod OneName
+mod Reaching
+mod Reading
+mod Stepping
+mod Telling

@@ -7,12 +7,12 @@ use Rattle.validator.specs.typing.Environment.{Environment, ExpressionFault}
 use Rattle.validator.specs.Passing.{FirstFaulty, faulty_here, faulty_later}
 use Rattle.expression_paths.specs.Blamed.{Blame, blamed}
 
--- how many environments stand before the first faulty one
+-- `environment_blamed f` is the number of environments before the first faulty one.
 abbrev pub environment_blamed : {x : Expr} {envs : List Environment} {n : ExpressionFault} → FirstFaulty x envs n → ℕ
 environment_blamed (faulty_here g) = 0
 environment_blamed (faulty_later h g) = suc (environment_blamed g)
 
--- and what is blamed in it
+-- `blamed_there f` is what is blamed in it
 abbrev pub blamed_there : {x : Expr} {envs : List Environment} {n : ExpressionFault} → FirstFaulty x envs n → Blame
 blamed_there (faulty_here g) = blamed g
 blamed_there (faulty_later h g) = blamed_there g

@@ -1,5 +1,5 @@
--- Defines that the first fault of an expression blames one place, in one environment, whatever its derivation; and that
--- the first unknown name stands at one place.
+-- Defines the theorems that the first error of an expression blames one place in one environment, whatever its
+-- derivation, and that the first undeclared name has one place.
 -- Source: FirstBlamed.antt.
 use Rattle.std.specs.Prelude.{◌≡◌, ℕ, List}
 use Rattle.grammar_core.specs.declared.expr.Expr.{Expr}
@@ -11,12 +11,12 @@ use Rattle.validator.specs.Passing.{FirstFaulty}
 use Rattle.fault_paths.specs.FirstBlamed.{environment_blamed, blamed_there}
 use Rattle.fault_paths.specs.NamesAt.{FirstUnknownAt}
 
--- no two derivations of the first fault in several environments say otherwise
+-- any two derivations of the first error blame the same place in the same environment
 abbrev pub OneFirstBlame : Type 0
 OneFirstBlame = (x : Expr) (envs : List Environment) (m n : ExpressionFault) (g : FirstFaulty x envs m)
     (h : FirstFaulty x envs n) → (environment_blamed g ≡ environment_blamed h) × (blamed_there g ≡ blamed_there h)
 
--- the first name that a schema does not know is one name, and stands at one place
+-- the first name that a schema does not declare is one name at one place
 abbrev pub OneUnknownName : Type 0
 OneUnknownName = (s : StatedSchema) (x : Expr) (p q : List ℕ) (m n : Name) (f g : TypeFault) → FirstUnknownAt s x p m f
     → FirstUnknownAt s x q n g → (p ≡ q) × (m ≡ n)

@@ -4,4 +4,6 @@ pub mod NamesAt
 pub mod Refused
 pub mod Told
 pub mod Views
+pub mod Words
+pub mod Worded
 pub mod inner

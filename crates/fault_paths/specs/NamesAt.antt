@@ -1,7 +1,7 @@
--- Defines where the first name of an expression stands that a schema does not know.
+-- Defines the place in an expression of its first name that the schema does not declare.
 -- Source: Names.antt and Unknown.antt of `validator`.
--- Rules of this product: names are in the order of the text, so the operands' come before the one that a form has
--- itself.
+-- Rules of this product: names are in the order of the text, so those of the operands precede the one that a form
+-- itself has.
 use Rattle.std.specs.Prelude.{◌≡◌, ℕ, List, [], ◌∷◌, ◌++◌, All, length}
 use Rattle.grammar_core.specs.declared.expr.Expr.{Expr}
 use Rattle.grammar_core.specs.declared.expr.Expr.TheOpen.{Expr-F}
@@ -15,18 +15,18 @@ use Rattle.fault_paths.specs.declared.names.UnknownName.{UnknownName}
 use Rattle.fault_paths.specs.declared.names.UnknownName.TheVariants.{TestedType, Entity}
 use Rattle.fault_paths.specs.declared.names.NameBlame.{NameBlame}
 
--- the name that a form has itself, beside those of its operands
+-- the name that a form itself has, without those of its operands
 abbrev pub names_at : Expr-F Expr → List Name
 names_at (Expr-F.Literal l) = literal_names l
 names_at (Expr-F.Unary op a) = operator_names op
 names_at y = []
 
--- The first name that is unknown is this one, and stands in the form to which the path leads.
+-- The first undeclared name is this one, and the path leads to its form.
 pub data FirstUnknownAt (s : StatedSchema) : Expr → List ℕ → Name → TypeFault → Type 0 where
-  -- all names of the operands are known, and the form's own is not
+  -- all names of the operands are declared, and the form's own is not
   unknown_itself : {x : Expr} {n : Name} {f : TypeFault} → All (λ y. All (IsKnown s) (names_in y)) (operands_of x)
       → names_at (out-Expr x) ≡ n ∷ [] → IsUnknown s n f → FirstUnknownAt s x [] n f
-  -- all names of the operands before y are known
+  -- all names of the operands before y are declared
   unknown_in : {x y : Expr} {p : List ℕ} {n : Name} {f : TypeFault} (before rest : List Expr)
       → operands_of x ≡ before ++ y ∷ rest → All (λ z. All (IsKnown s) (names_in z)) before → FirstUnknownAt s y p n f
       → FirstUnknownAt s x (length before ∷ p) n f
@@ -35,7 +35,7 @@ abbrev pub name_view : UnknownName → Name
 name_view (TestedType n) = tested_type n.now
 name_view (Entity u) = entity u.now
 
--- what is told of the first unknown name
+-- the report on the first undeclared name
 pub record IsNameBlame (s : StatedSchema) (x : Expr) (b : NameBlame) : Type 0 where
   pub first : FirstUnknown s (names_in x) b.fault
   pub at : FirstUnknownAt s x b.path.items (name_view b.name) b.fault

@@ -1,6 +1,6 @@
--- Defines what is told of a refused policy, by its names and its types.
+-- Defines the report on a rejected policy, by its names and its types.
 -- Source: docs/codes.md.
--- Rule of this product: names go before types.
+-- Rule of this product: names are reported before types.
 use Rattle.std.specs.Prelude.{All}
 use Rattle.type_checker.specs.policy_grammar.declared.policy.Policy.{Policy}
 use Rattle.type_checker.specs.policy_grammar.Whole.{expression_of}
@@ -14,16 +14,16 @@ use Rattle.fault_paths.specs.Told.{IsTypeBlame}
 use Rattle.fault_paths.specs.declared.refusing.PolicyBlame.{PolicyBlame}
 use Rattle.fault_paths.specs.declared.refusing.PolicyBlame.TheVariants.{Name, Typing}
 
--- the fault that is told
+-- `fault_of b` is the reported error.
 abbrev pub fault_of : PolicyBlame → TypeFault
 fault_of (Name b) = b.fault
 fault_of (Typing b) = b.fault
 
--- and its place: of an unknown name, or, where all names are known, of the first fault of typing
+-- and its place: that of an undeclared name or, if all names are declared, of the first typing error
 abbrev pub IsPlace : StatedSchema → Policy → PolicyBlame → Type 0
 IsPlace s policy (Name b) = IsNameBlame s (expression_of policy) b
 IsPlace s policy (Typing b) = All (IsKnown s) (names_of policy) × IsTypeBlame s (expression_of policy) b
 
--- the fault is the one for which `check` refuses the policy
+-- the error is the one for which `check` rejects the policy
 abbrev pub IsBlame : StatedSchema → Policy → PolicyBlame → Type 0
 IsBlame s policy b = IsCheckRefused s policy (fault_of b) × IsPlace s policy b

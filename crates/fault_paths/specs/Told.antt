@@ -1,6 +1,6 @@
--- Defines what is told of a refused policy: the fault, the environment, and what is blamed in it.
+-- Defines the report on the first typing error: the error, the environment, and what is blamed in it.
 -- Source: docs/codes.md; Blamed.antt.
--- Rules of this product: the fault is that of `check`; the environment, by its index, the first one that has a fault.
+-- Rules of this product: the error is that of `check`; the environment, given by its index, is the first with an error.
 use Rattle.std.specs.Prelude.{◌≡◌, List}
 use Rattle.grammar_core.specs.declared.expr.Expr.{Expr}
 use Rattle.type_checker.specs.schema.Schemas.{StatedSchema}
@@ -11,8 +11,8 @@ use Rattle.fault_paths.specs.FirstBlamed.{environment_blamed, blamed_there}
 use Rattle.fault_paths.specs.Views.{place_view}
 use Rattle.fault_paths.specs.declared.blaming.TypeBlame.{TypeBlame}
 
--- The expression is at fault in some of these environments, and what is told is what each derivation says of the first
--- fault: there is one, and no two say otherwise.
+-- The expression has an error in some of these environments, and the report is what each derivation of the first error
+-- gives: one exists, and no two differ.
 pub record IsFirstBlame (envs : List Environment) (x : Expr) (b : TypeBlame) : Type 0 where
   pub fault : ExpressionFault
   pub first : FirstFaulty x envs fault

@@ -1,4 +1,4 @@
--- Defines what the places at hand are.
+-- Defines the abstract views of reported places.
 -- Source: Blamed.antt.
 use Rattle.std.specs.Prelude.{map}
 use Rattle.type_checker.specs.Views.{static_view}

@@ -11,12 +11,12 @@ use type_checker::{
     Environment, ExpressionFault, Schema, StaticType, TypingEnvironment, field_type,
 };
 
-/// Returns whether an attribute of a type is declared, required or optional: whether it may be read where it is known
-/// to be present. Where it is not, no `has` before it helps.
+/// Returns whether an attribute of a type is declared, required or optional, and so may be read if it is known to be
+/// present. If it is not declared, no test by `has` helps.
 ///
 /// # Errors
 ///
-/// * `NoMemory`: the attribute's type is held by as many as can be counted.
+/// - `NoMemory`: the attribute's type has as many owners as can be counted.
 pub fn is_declared<'a>(
     schema: &'a Schema,
     environment: &'a Environment,

@@ -1,4 +1,4 @@
-//! The first environment in which a policy is at fault, and what the fault blames there.
+//! The first environment in which a policy has an error, and what the error blames there.
 ghost use Rattle.std.specs.Prelude.{◌≡◌, IfOk, MatchOption, All};
 ghost use Rattle.type_checker.specs.policy_grammar.Whole.{expression_of};
 ghost use Rattle.type_checker.specs.schema.Views.{schema_view, environment_view};
@@ -18,18 +18,18 @@ use type_checker::{
 };
 use validator::TypeFault;
 
-/// What a fault of typing blames.
+/// What a typing error blames.
 #[derive(Drop)]
 pub struct TypeBlame<'a> {
-    /// The fault, as [`check`](validator::check) gives it.
+    /// The error, as [`check`](validator::check) returns it.
     pub fault: TypeFault,
-    /// The index of the first environment of the schema that has a fault.
+    /// The index of the first environment of the schema with an error.
     pub environment: usize,
     /// What is blamed in it.
     pub place: Place<'a>,
 }
 
-/// Returns the fault that is told, or `None` where there is a type.
+/// Returns the reported error, or `None` if the expression has a type.
 fn told(judged: Result<Typed<'_>, ExpressionFault>) -> Result<Option<TypeFault>, NoMemory>
     ensures { IsToldIn judged.entry result }
 {
@@ -45,7 +45,7 @@ fn told(judged: Result<Typed<'_>, ExpressionFault>) -> Result<Option<TypeFault>,
     }
 }
 
-/// Returns why an expression has no type where nothing is known, or `None` where it has one.
+/// Returns why an expression has no type without capabilities, or `None` if it has one.
 fn fault_in<'a>(
     alloc: Global,
     env: TypingEnvironment<'a>,
@@ -57,7 +57,7 @@ fn fault_in<'a>(
     told(judge_behind(alloc, env, nothing.as_slice(), whole))
 }
 
-/// Returns the fault in one environment with what it blames, or `None` where there is none.
+/// Returns the error in one environment with what it blames, or `None` if the expression has no error there.
 fn blame_in<'a>(
     alloc: Global,
     schema: &'a Schema,
@@ -82,18 +82,18 @@ fn blame_in<'a>(
     }
 }
 
-/// Returns what the first fault of typing of a policy blames, in the first environment that has one, or `None` where
-/// the policy has a boolean type in each environment.
+/// Returns what the first typing error of a policy blames, in the first environment that has one, or `None` if the
+/// policy has a boolean type in each environment.
 ///
 /// `whole` is the policy's expression, as [`expression_of`](validator::expression_of) builds it: paths begin at its
 /// root.
 ///
-/// It judges the policy once in each environment up to the first that has a fault; there, as often again as the blamed
-/// expression is deep.
+/// Types the policy once in each environment up to the first with an error; there, once more for each level of the
+/// blamed expression.
 ///
 /// # Errors
 ///
-/// * `NoMemory`: an allocation failed.
+/// - `NoMemory`: an allocation failed.
 pub fn blame_type<'a>(
     alloc: Global,
     schema: &'a Schema,

@@ -1,4 +1,4 @@
-//! The way down to the blamed expression.
+//! The path to the blamed expression.
 ghost use Rattle.std.specs.Prelude.{◌≡◌, [], ◌++◌, IfOk};
 ghost use Rattle.validator.specs.typing.Environment as typing;
 ghost use Rattle.validator.specs.typing.Faults.{Faults};
@@ -13,7 +13,7 @@ use plain::NoMemory;
 use std::alloc::Global;
 use type_checker::{StaticType, TypingEnvironment};
 
-/// What a fault blames in one environment.
+/// What an error blames in one environment.
 #[derive(Drop)]
 pub struct Place<'a> {
     /// The indexes of operands that lead from the whole expression to the blamed one.
@@ -24,7 +24,7 @@ pub struct Place<'a> {
     pub types: Vec<StaticType<'a>>,
 }
 
-/// Puts the index of the blamed operand behind the path to its form.
+/// Appends the index of the blamed operand to the path to its form.
 fn close(path: &mut Vec<usize>, operand: Option<usize>) -> Result<(), NoMemory>
     ensures { IfOk result (λ _. path.new.items ≡ path.old.items ++ last_of operand) }
 {
@@ -37,7 +37,7 @@ fn close(path: &mut Vec<usize>, operand: Option<usize>) -> Result<(), NoMemory>
     }
 }
 
-/// Returns what the fault of an expression blames; of one without a fault, anything.
+/// Returns what the error of an expression blames; for an expression without an error, any value.
 pub(crate) fn descend<'a>(
     alloc: Global,
     env: TypingEnvironment<'a>,

@@ -1,4 +1,4 @@
-//! Expressions judged on the way down.
+//! The types of expressions on the path to the one at fault.
 ghost use Rattle.std.specs.Prelude.{◌≡◌, ◌++◌, IfOk};
 ghost use Rattle.type_checker.specs.Views.{typing_environment};
 ghost use Rattle.type_checker.specs.type_capabilities.Pairs.{pairs};
@@ -9,7 +9,7 @@ use plain::NoMemory;
 use std::alloc::Global;
 use type_checker::{Capability, ExpressionFault, Typed, TypingEnvironment, judge_behind};
 
-/// Returns the type that was found, or `None` where there is none.
+/// Returns the type that was found, or `None` if the expression has no type.
 fn found<'a>(judged: Result<Typed<'a>, ExpressionFault>) -> Result<Option<Typed<'a>>, NoMemory>
     ensures { IsFoundIn judged.entry result }
 {
@@ -22,7 +22,7 @@ fn found<'a>(judged: Result<Typed<'a>, ExpressionFault>) -> Result<Option<Typed<
     }
 }
 
-/// Returns the type of an expression where these pairs are known, or `None` where it has none.
+/// Returns the type of an expression with these capabilities, or `None` if it has none.
 pub(crate) fn judge<'a>(
     alloc: Global,
     env: TypingEnvironment<'a>,
@@ -35,7 +35,7 @@ pub(crate) fn judge<'a>(
     found(judge_behind(alloc, env, known.as_slice(), expr))
 }
 
-/// Puts what is learned behind what is known.
+/// Appends the gained capabilities to the known ones.
 pub(crate) fn know_too<'a>(
     known: &mut Vec<Capability<'a>>,
     learns: &Vec<Capability<'a>>,
@@ -46,7 +46,7 @@ pub(crate) fn know_too<'a>(
     Ok(())
 }
 
-/// Returns both: what is known, and behind it what is learned.
+/// Returns the known capabilities, followed by the gained ones.
 fn both<'a>(
     alloc: Global,
     known: &Vec<Capability<'a>>,
@@ -60,7 +60,7 @@ fn both<'a>(
     Ok(both)
 }
 
-/// Returns the type of an expression where both are known, or `None` where it has none.
+/// Returns the type of an expression with both lists of capabilities, or `None` if it has none.
 pub(crate) fn judge_with<'a>(
     alloc: Global,
     env: TypingEnvironment<'a>,

@@ -1,4 +1,4 @@
-//! The first name of a policy that the schema does not know, and where it stands.
+//! The first name of a policy that the schema does not declare, with its place.
 ghost use Rattle.std.specs.Prelude.{[], ◌∷◌, IfOk, MatchOption, All};
 ghost use Rattle.type_checker.specs.schema.Views.{schema_view};
 ghost use Rattle.validator.specs.Names.{names_in, entity, tested_type, literal_names, operator_names};
@@ -14,34 +14,34 @@ use type_checker::Schema;
 use validator::{TypeFault, unknown_entity, unknown_tested_type};
 use values::{EntityUid, TypeName};
 
-/// A name that a schema does not know.
+/// A name that a schema does not declare.
 #[derive(Clone, Copy)]
 pub enum UnknownName<'a> {
-    /// A type behind `is`.
+    /// A type after `is`.
     TestedType(&'a TypeName),
-    /// An entity that is written out.
+    /// The uid of a literal.
     Entity(&'a EntityUid),
 }
 
-/// An unknown name with its fault.
+/// An undeclared name with its error.
 #[derive(Clone, Copy)]
 pub(crate) struct NameFault<'a> {
     pub(crate) name: UnknownName<'a>,
     pub(crate) fault: TypeFault,
 }
 
-/// The first name of a policy that the schema does not know.
+/// The first name of a policy that the schema does not declare.
 #[derive(Drop)]
 pub struct NameBlame<'a> {
-    /// The fault, as [`check`](validator::check) gives it.
+    /// The error, as [`check`](validator::check) returns it.
     pub fault: TypeFault,
     /// The name.
     pub name: UnknownName<'a>,
-    /// The indexes of operands that lead from the whole expression to the form that has the name.
+    /// The indexes of operands that lead from the whole expression to the form with the name.
     pub path: Vec<usize>,
 }
 
-/// Returns an entity that is written out, if the schema does not know it.
+/// Returns the uid of a literal, if the schema does not declare it.
 fn entity_fault<'a>(schema: &Schema, uid: &'a EntityUid) -> Option<NameFault<'a>>
     ensures { AreNames (schema_view schema.now) (entity uid.entry.now ∷ []) result }
 {
@@ -54,7 +54,7 @@ fn entity_fault<'a>(schema: &Schema, uid: &'a EntityUid) -> Option<NameFault<'a>
     }
 }
 
-/// Returns a type behind `is`, if the schema does not know it.
+/// Returns a type after `is`, if the schema does not declare it.
 fn type_fault<'a>(schema: &Schema, name: &'a TypeName) -> Option<NameFault<'a>>
     ensures { AreNames (schema_view schema.now) (tested_type name.entry.now ∷ []) result }
 {
@@ -67,7 +67,7 @@ fn type_fault<'a>(schema: &Schema, name: &'a TypeName) -> Option<NameFault<'a>>
     }
 }
 
-/// Returns the entity of a literal, if the schema does not know it.
+/// Returns the entity of a literal, if it is one that the schema does not declare.
 fn literal_fault<'a>(schema: &Schema, literal: &'a Literal) -> Option<NameFault<'a>>
     ensures { AreNames (schema_view schema.now) (literal_names literal.entry.now) result }
 {
@@ -79,7 +79,7 @@ fn literal_fault<'a>(schema: &Schema, literal: &'a Literal) -> Option<NameFault<
     }
 }
 
-/// Returns the type of an operator, if the schema does not know it.
+/// Returns the type of an operator, if it is one that the schema does not declare.
 fn operator_fault<'a>(schema: &Schema, operator: &'a Unary) -> Option<NameFault<'a>>
     ensures { AreNames (schema_view schema.now) (operator_names operator.entry.now) result }
 {
@@ -91,7 +91,7 @@ fn operator_fault<'a>(schema: &Schema, operator: &'a Unary) -> Option<NameFault<
     }
 }
 
-/// Returns the name that a form has itself, if the schema does not know it.
+/// Returns the name that a form itself has, if the schema does not declare it.
 fn own_name<'a>(schema: &Schema, expr: &'a Expr) -> Option<NameFault<'a>>
     ensures { IsOwnName (schema_view schema.now) expr.entry.now result }
 {
@@ -112,8 +112,8 @@ fn own_name<'a>(schema: &Schema, expr: &'a Expr) -> Option<NameFault<'a>>
     }
 }
 
-/// Returns the first name of an expression that the schema does not know; the path to it is put behind what stands in
-/// `path`, which else stays as it is.
+/// Returns the first name of an expression that the schema does not declare, and appends the path to it to
+/// `path`. If the schema declares all names, `path` stays as it is.
 fn find<'a>(
     schema: &Schema,
     expr: &'a Expr,
@@ -138,11 +138,11 @@ fn find<'a>(
     }
 }
 
-/// Returns the first name of an expression that the schema does not know, or `None` where it knows all.
+/// Returns the first name of an expression that the schema does not declare, or `None` if it declares all.
 ///
 /// # Errors
 ///
-/// * `NoMemory`: an allocation failed.
+/// - `NoMemory`: an allocation failed.
 pub fn blame_name<'a>(
     alloc: Global,
     schema: &Schema,

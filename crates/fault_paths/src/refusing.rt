@@ -1,4 +1,4 @@
-//! What is told of a refused policy.
+//! The report on a policy that does not pass validation.
 ghost use Rattle.std.specs.Prelude.{◌≡◌, All, IfOk, MatchOption};
 ghost use Rattle.type_checker.specs.policy_grammar.Whole.{expression_of};
 ghost use Rattle.type_checker.specs.schema.Views.{schema_view};
@@ -14,16 +14,16 @@ use plain::NoMemory;
 use std::alloc::Global;
 use type_checker::{Policy, Schema};
 
-/// What a policy is refused for, and where it stands.
+/// The error for which a policy is rejected, with its place.
 #[derive(Drop)]
 pub enum PolicyBlame<'a> {
-    /// A name that the schema does not know (40, 41).
+    /// A name that the schema does not declare (40, 41).
     Name(NameBlame<'a>),
-    /// A fault of typing (42 to 46).
+    /// A typing error (42 to 46).
     Typing(TypeBlame<'a>),
 }
 
-/// Returns what the first fault of typing of a policy blames, all names of which are known.
+/// Returns what the first typing error of a policy blames, if all of its names are declared.
 fn by_types<'a>(
     alloc: Global,
     schema: &'a Schema,
@@ -40,15 +40,14 @@ fn by_types<'a>(
     }
 }
 
-/// Returns what a policy is refused for, with its place, or `None` where the policy passes.
+/// Returns the error for which a policy is rejected, with its place, or `None` if the policy passes.
 ///
 /// `whole` is the policy's expression, as [`expression_of`](validator::expression_of) builds it: paths begin at its
-/// root.
-/// The fault is the one that [`check`](validator::check) gives.
+/// root. The error is the one that [`check`](validator::check) returns.
 ///
 /// # Errors
 ///
-/// * `NoMemory`: an allocation failed.
+/// - `NoMemory`: an allocation failed.
 pub fn blame<'a>(
     alloc: Global,
     schema: &'a Schema,

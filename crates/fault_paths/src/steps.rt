@@ -1,4 +1,4 @@
-//! One step down towards the blamed expression.
+//! One step towards the blamed expression.
 ghost use Rattle.std.specs.Prelude.{◌≡◌, ◌∷◌, [], ◌++◌, IfOk, Some, None};
 ghost use Rattle.grammar_core.specs.declared.expr.Expr.{Expr};
 ghost use Rattle.grammar_core.specs.declared.expr.Expr.TheVariants as form;
@@ -19,16 +19,16 @@ use type_checker::{
     Capability, StaticType, Typed, TypingEnvironment, expressions_have_one_judgement,
 };
 
-/// A step from a form that is at fault.
+/// A step from a form with an error.
 #[derive(Drop)]
 pub(crate) enum Step<'a> {
-    /// Down to the operand of this index, which is at fault.
+    /// To the operand of this index, which has the error.
     Down(usize, &'a Expr),
-    /// The form's demand is not met: the operand of this index is blamed, or the form, and these are the types.
+    /// The form's demand is not met: the operand of this index is blamed, or the form. The types are its operands'.
     Stop(Option<usize>, Vec<StaticType<'a>>),
 }
 
-/// Stops at an operand that is no boolean.
+/// Stops at an operand that is not a boolean.
 fn stop_at<'a>(alloc: Global, at: usize, kind: StaticType<'a>) -> Result<Step<'a>, NoMemory>
     ensures { IfOk result (StopsAt at kind.entry) }
 {
@@ -51,7 +51,7 @@ fn stop_at_branches<'a>(
     Ok(Step::Stop(None, types))
 }
 
-/// Returns the step from `&&` behind its left.
+/// Returns the step from `&&` after its left.
 fn from_right_of_and<'a>(
     alloc: Global,
     env: TypingEnvironment<'a>,
@@ -92,7 +92,7 @@ fn from_and<'a>(
     }
 }
 
-/// Returns the step from `||` behind its left.
+/// Returns the step from `||` after its left.
 fn from_right_of_or<'a>(
     alloc: Global,
     env: TypingEnvironment<'a>,
@@ -196,7 +196,7 @@ fn from_if<'a>(
     }
 }
 
-/// Puts the type that was found behind the others, and returns whether one was found.
+/// Appends the found type to the others, and returns whether one was found.
 fn keep_type<'a>(
     types: &mut Vec<StaticType<'a>>,
     found: Option<Typed<'a>>,
@@ -212,8 +212,7 @@ fn keep_type<'a>(
     }
 }
 
-/// Returns the step from a form that wants the types of all its operands, which blames the one of this index, or
-/// itself.
+/// Returns the step from a form that needs the types of all its operands; it blames the one of this index, or itself.
 fn from_operands<'a>(
     alloc: Global,
     env: TypingEnvironment<'a>,
@@ -301,8 +300,8 @@ fn step_if<'a>(
     }
 }
 
-/// Returns the step from a form that is at fault where these pairs are known; of a step down, those that are known
-/// there are put in their place.
+/// Returns the step from a form with an error under these capabilities; a step to an operand replaces them by those
+/// that apply there.
 pub(crate) fn step_from<'a>(
     alloc: Global,
     env: TypingEnvironment<'a>,

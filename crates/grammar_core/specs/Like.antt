@@ -1,6 +1,6 @@
 -- Defines the meaning of `like`.
 -- Source: Cedar reference guide, "Operators: like" (`*` is any run of characters, the empty one too; everything else
--- stands for itself).
+-- matches itself).
 use Rattle.std.specs.Prelude.{◌≡◌, ℕ, List, [], ◌∷◌}
 use Rattle.std.specs.List.{AllZip, concat}
 use Rattle.std.specs.Str.{IsUtf8}

@@ -39,7 +39,7 @@ height_step (Expr-F.BinaryCall called left right) = max left right + 1
 abbrev pub height : Expr → ℕ
 height = fold-Expr ℕ height_step
 
--- `forms_step e` is the number of nodes of a node over operands of so many.
+-- `forms_step e` is the number of nodes of a node, given the numbers of nodes of its operands.
 abbrev pub forms_step : Expr-F ℕ → ℕ
 forms_step (Expr-F.Literal literal) = 1
 forms_step (Expr-F.Variable variable) = 1

@@ -1,4 +1,4 @@
--- Defines the core expression of a syntax tree, with the text in which its tokens stand, by one line for each form of
+-- Defines the core expression of a syntax tree, with the text that has its tokens, by one line for each form of
 -- tree. It says nothing useful of a tree with errors, which is rejected.
 -- Source: Cedar reference guide 4.0, "Grammar specification for Cedar policy syntax" and "Operators and functions".
 -- Operators of one level group to the left.

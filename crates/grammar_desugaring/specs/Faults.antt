@@ -1,4 +1,4 @@
--- Defines the errors of a syntax tree, with the text in which its tokens stand: its own and those of its parts.
+-- Defines the errors of a syntax tree, with the text that has its tokens: its own and those of its parts.
 -- Source: Cedar reference guide 4.0, "Data types: Long", "Data types: Record", "Operators and functions". The offsets
 -- are a rule of this product.
 use Rattle.std.specs.Prelude.{ℕ, Bool, List, [], ◌∷◌, ◌++◌, map, length, Option, Some, None, nat_eq, if◌then◌else◌}

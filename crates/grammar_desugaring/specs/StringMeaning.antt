@@ -1,4 +1,4 @@
--- Defines what it means for functions to give the meaning of strings.
+-- Defines functions that give the meaning of strings.
 -- Source: Cedar reference guide 4.0, "Data types: String" and "Operators: like".
 use Rattle.std.specs.Prelude.{◌≡◌, ℕ, List}
 use Rattle.grammar_trees.specs.grammar_tokens.Strings.{IsStringOf, IsPatternOf}

@@ -32,7 +32,7 @@ leaf fault = measure 1 1 fault
 abbrev pub above : Measure → Measure
 above j = measure (j.height + 1) (j.forms + 1) j.fault
 
--- `beside i j` is that of two expressions side by side; `paired i j` that of a node over both.
+-- `beside i j` is the measure of two expressions side by side; `paired i j` that of a node over both.
 abbrev pub beside : Measure → Measure → Measure
 beside i j = measure (max i.height j.height) (i.forms + j.forms) (earlier_of i.fault j.fault)
 

@@ -64,7 +64,7 @@ fn measure_negated_number(text: &str, token: Token) -> Measure
     Measure::leaf(range_fault(fits_negated(digits), token))
 }
 
-/// Returns the error of a call with so many arguments, given how many a known name takes.
+/// Returns the error of a call with `count` arguments, given how many a known name takes.
 fn call_fault(at: usize, takes: Option<usize>, count: usize) -> Option<DesugarFault>
     ensures { result ≡ least (call_faults at takes count) }
 {

@@ -96,7 +96,7 @@ abbrev pub variable_at : Token → List Token → Option Variable
 variable_at first [] = variable_of first.kind
 variable_at first (t ∷ ts) = None
 
--- `variable_by o` is the variable, or an error if there is none.
+-- `variable_by o` is the variable of `o`, or an error if `o` is `None`.
 abbrev pub variable_by : Option Variable → Parser ExprTree
 variable_by (Some variable) = pure (tree.Variable variable)
 variable_by None = refuse

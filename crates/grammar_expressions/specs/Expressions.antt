@@ -90,7 +90,7 @@ keys kind = identifiers kind
 
 -- ## Productions
 
--- `joined make x more` is `x` with the pieces `more` after it, or `x` itself if there are none.
+-- `joined make x more` is `x` with the pieces `more` after it, or `x` itself if `more` is empty.
 abbrev pub joined : {A : Type 0} → (ExprTree → List A → ExprTree) → ExprTree → List A → ExprTree
 joined make x [] = x
 joined make x (next ∷ more) = make x (next ∷ more)
@@ -213,7 +213,7 @@ module _ (may : Bool) (inner : Lang ExprTree) where
   abbrev pub member : Lang ExprTree
   member = chain primary (dotted or indexed) tree.Member
 
-  -- at most so many of a sign, and a Member
+  -- at most this many of a sign, and a Member
   abbrev pub signed : TokenKind → (ExprTree → ExprTree) → ℕ → Lang ExprTree
   signed sign make zero = member
   signed sign make (suc n) = (do one sign; x ← signed sign make n; empty (make x)) or member
@@ -305,7 +305,7 @@ abbrev pub is_positive : ℕ → Bool
 is_positive zero = false
 is_positive (suc n) = true
 
--- `expr levels`: Expr, with at most so many levels of nesting: its own, and one more inside parentheses, brackets,
+-- `expr levels`: Expr, with at most `levels` levels of nesting: its own, and one more inside parentheses, brackets,
 -- braces or call arguments, and in each part of an `if`.
 unfoldable pub expr : ℕ → Lang ExprTree
 expr zero = never

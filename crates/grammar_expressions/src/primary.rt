@@ -82,7 +82,7 @@ fn alone(tokens: &Cursor<'_>, path: PathTree) -> Result<ExprTree, StopCause>
     }
 }
 
-/// A parser of expressions that may open so many levels of nesting. The parser of the expressions one level deeper is
+/// A parser of expressions that may open `levels` levels of nesting. The parser of the expressions one level deeper is
 /// a parameter, so that each production is proved by itself.
 #[derive(Drop)]
 pub(crate) struct Reader<F> {

@@ -7,14 +7,14 @@ use Rattle.std.proofs.lemmas.Str.{IsCharBoundary-before_ascii, IsCharBoundary-af
 use Rattle.grammar_tokens.specs.declared.token.TokenKind.{TokenKind}
 use Rattle.grammar_tokens.specs.declared.token.Token.{Token}
 use Rattle.grammar_tokens.specs.declared.piece.Piece.{Piece}
-use Rattle.grammar_tokens.specs.Lexing.{Entry, listed, reserved, named, singles, pairs, slots, kind_of_word, IsBody, kind_of_pieces, IsToken, word, number, quoted, single, pair, slot, spelling_of, IsSpelledIn}
+use Rattle.grammar_tokens.specs.Lexing.{SpelledKind, listed, reserved, named, singles, pairs, slots, kind_of_word, IsBody, kind_of_pieces, IsToken, word, number, quoted, single, pair, slot, spelling_of, IsSpelledIn}
 use Rattle.grammar_tokens.specs.Strings.{is_string}
 use Rattle.grammar_tokens.proofs.WordKinds.{listed_passes, found, lacking, looked}
 use Rattle.grammar_tokens.proofs.Ends.{at_seam}
 use Rattle.grammar_tokens.proofs.Values.{one_body}
 use Rattle.grammar_tokens.proofs.Parts.{negated, not_both, plus_zero}
 
-abbrev no_string : Entry → Bool
+abbrev no_string : SpelledKind → Bool
 no_string e = not (is_string e.kind)
 
 reserved_no : list_all no_string reserved ≡ true

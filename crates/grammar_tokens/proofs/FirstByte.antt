@@ -7,7 +7,7 @@ use Rattle.std.proofs.lemmas.Slice.Eq.{bytes_eq-Decides}
 use Rattle.grammar_tokens.specs.declared.token.TokenKind.{TokenKind}
 use Rattle.grammar_tokens.specs.declared.token.TokenKind.TheVariants.{Number}
 use Rattle.plain.specs.Words.{is_letter, is_digit, IsWord}
-use Rattle.grammar_tokens.specs.Lexing.{IsNumber, Entry, kind_of_word, listed, singles, pairs, slots, IsToken, word, number, quoted, single, pair, slot, quote, IsBody, kind_of_pieces}
+use Rattle.grammar_tokens.specs.Lexing.{IsNumber, SpelledKind, kind_of_word, listed, singles, pairs, slots, IsToken, word, number, quoted, single, pair, slot, quote, IsBody, kind_of_pieces}
 use Rattle.grammar_tokens.specs.declared.piece.Piece.{Piece}
 
 pub data Class : Type 0 where
@@ -30,7 +30,7 @@ OfClass question k w = listed slots w ≡ Some k
 OfClass others k w = ((listed singles w ≡ Some k) × (length w ≡ 1)) ⊎ ((listed pairs w ≡ Some k) × (length w ≡ 2))
 
 -- what all spellings of a table pass, each spelling in it passes
-pub known : (test : List ℕ → Bool) (table : List Entry) → list_all (λ e. test e.spelling) table ≡ true →
+pub known : (test : List ℕ → Bool) (table : List SpelledKind) → list_all (λ e. test e.spelling) table ≡ true →
     (w : List ℕ) (k : TokenKind) → listed table w ≡ Some k → test w ≡ true
 known test [] a w k h = absurd (cc)
 known test (e ∷ table) a w k h =

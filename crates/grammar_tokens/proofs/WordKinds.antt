@@ -9,19 +9,19 @@ use Rattle.plain.proofs.Members.{Contains-here, Contains-there, Contains-cases}
 use Rattle.plain.specs.Words.{is_letter, IsWord, reserved_words, IsReserved, IsIdent}
 use Rattle.grammar_tokens.specs.declared.token.TokenKind.{TokenKind}
 use Rattle.grammar_tokens.specs.declared.token.TokenKind.TheVariants.{Ident, Text, StarText}
-use Rattle.grammar_tokens.specs.Lexing.{Entry, listed, reserved, named, singles, pairs, slots, kind_of_word, has_star, IsToken, word, number, quoted, single, pair, slot}
+use Rattle.grammar_tokens.specs.Lexing.{SpelledKind, listed, reserved, named, singles, pairs, slots, kind_of_word, has_star, IsToken, word, number, quoted, single, pair, slot}
 use Rattle.grammar_tokens.specs.Idents.{is_ident, is_reserved, IdentsByKind, ReservedByKind, IdentsAreTokens}
 use Rattle.grammar_tokens.proofs.FirstByte.{Class, known, of_class, OfClass, class_of_letter}
 use Rattle.grammar_tokens.proofs.Parts.{negated, not_both}
 
-abbrev entry_at : List ℕ → TokenKind → Entry
+abbrev entry_at : List ℕ → TokenKind → SpelledKind
 entry_at w k = record { spelling = w; kind = k }
 
 same_spelling : (s w : List ℕ) → bytes_eq s w ≡ true → s ≡ w
 same_spelling s w h = (bytes_eq-Decides s w).0 h
 
 -- what all entries of a table pass, a spelling passes with the kind that the table gives it
-pub listed_passes : (test : Entry → Bool) (table : List Entry) → list_all test table ≡ true → (w : List ℕ) (k : TokenKind) → listed table w ≡ Some k → test (entry_at w k) ≡ true
+pub listed_passes : (test : SpelledKind → Bool) (table : List SpelledKind) → list_all test table ≡ true → (w : List ℕ) (k : TokenKind) → listed table w ≡ Some k → test (entry_at w k) ≡ true
 listed_passes test [] a w k h = absurd (cc)
 listed_passes test (e ∷ table) a w k h =
     let both = and_parts (test e) (list_all test table) a in
@@ -33,11 +33,11 @@ listed_passes test (e ∷ table) a w k h =
       | inr n ↦ let g : listed table w ≡ Some k = rw n at h in listed_passes test table both.1 w k g
     ]
 
-abbrev spellings : List Entry → List (List ℕ)
+abbrev spellings : List SpelledKind → List (List ℕ)
 spellings table = map (λ e. e.spelling) table
 
 -- a spelling that a table has is one of its spellings
-listed_contains : (table : List Entry) (w : List ℕ) (k : TokenKind) → listed table w ≡ Some k → Contains (spellings table) w
+listed_contains : (table : List SpelledKind) (w : List ℕ) (k : TokenKind) → listed table w ≡ Some k → Contains (spellings table) w
 listed_contains [] w k h = absurd (cc)
 listed_contains (e ∷ table) w k h = elim (cases_Bool (bytes_eq e.spelling w)) [
   | inl y ↦ subst (λ (s : List ℕ). Contains (e.spelling ∷ spellings table) s) (same_spelling e.spelling w y) (Contains-here e.spelling (spellings table))
@@ -45,7 +45,7 @@ listed_contains (e ∷ table) w k h = elim (cases_Bool (bytes_eq e.spelling w)) 
 ]
 
 -- and one that it lacks is none
-unlisted_lacks : (table : List Entry) (w : List ℕ) → listed table w ≡ None → Contains (spellings table) w → ⊥
+unlisted_lacks : (table : List SpelledKind) (w : List ℕ) → listed table w ≡ None → Contains (spellings table) w → ⊥
 unlisted_lacks [] w h c = omega (arith, c.1)
 unlisted_lacks (e ∷ table) w h c = elim (cases_Bool (bytes_eq e.spelling w)) [
   | inl y ↦ let g : Some e.kind ≡ None = rw y at h in cc

@@ -1,6 +1,6 @@
 -- Defines which kinds of tokens are identifiers, and which are reserved words.
 -- Source: Cedar reference guide 4.0, "Grammar specification for Cedar policy syntax": IDENT and RESERVED; `permit`,
--- `when`, `principal` and the like are identifiers too, and may stand in a Path.
+-- `when`, `principal` and the like are identifiers too, and may occur in a Path.
 use Rattle.std.specs.Prelude.{◌≡◌, ◌↔◌, ℕ, Bool, true, false, List}
 use Rattle.plain.specs.Words.{IsIdent, IsReserved}
 use Rattle.grammar_tokens.specs.declared.token.TokenKind.{TokenKind}

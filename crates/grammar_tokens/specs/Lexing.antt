@@ -4,7 +4,7 @@
 -- WHITESPC, COMMENT and the marks of the productions). The escapes in strings are those of string literals in Rust,
 -- as the guide says, and `\*` ("Operators: like").
 -- Rules of this product: white space is what Unicode calls White_Space; a comment ends before a line feed or a
--- carriage return; a line end may stand in a string; the longest token is taken; `__cedar` is reserved.
+-- carriage return; a line end may occur in a string; the longest token is taken; `__cedar` is reserved.
 --
 -- A text is the list of its bytes in UTF-8, and an offset is a number of bytes from its start. `codes "if"` is the
 -- list of the code points of these characters, and `code "i"` that of this one.
@@ -37,32 +37,32 @@ use Rattle.grammar_tokens.specs.declared.lex_fault.LexFault.TheVariants.{NoMemor
 
 -- ## Tokens with one spelling
 
--- An `Entry` is a spelling and its kind of token.
-pub record Entry : Type 0 where
+-- A `SpelledKind` is a spelling and its kind of token.
+pub record SpelledKind : Type 0 where
   pub spelling : List ℕ
   pub kind : TokenKind
 
-abbrev entry : List ℕ → TokenKind → Entry
+abbrev entry : List ℕ → TokenKind → SpelledKind
 entry s k = record { spelling = s; kind = k }
 
 -- `entries ss ks` are the spellings `ss`, each with its kind of `ks`.
-abbrev entries : List (List ℕ) → List TokenKind → List Entry
+abbrev entries : List (List ℕ) → List TokenKind → List SpelledKind
 entries [] ks = []
 entries (s ∷ ss) [] = []
 entries (s ∷ ss) (k ∷ ks) = entry s k ∷ entries ss ks
 
 -- `reserved` are the reserved words, which are not identifiers.
-abbrev pub reserved : List Entry
+abbrev pub reserved : List SpelledKind
 reserved = entries reserved_words (True ∷ False ∷ If ∷ Then ∷ Else ∷ In ∷ Is ∷ Like ∷ Has ∷ Cedar ∷ [])
 
 -- `named` are the identifiers that are keywords too.
-abbrev pub named : List Entry
+abbrev pub named : List SpelledKind
 named = entry (codes "permit") Permit ∷ entry (codes "forbid") Forbid ∷ entry (codes "when") When
     ∷ entry (codes "unless") Unless ∷ entry (codes "principal") Principal ∷ entry (codes "action") Action
     ∷ entry (codes "resource") Resource ∷ entry (codes "context") Context ∷ []
 
 -- `singles` are the punctuation marks of one byte.
-abbrev pub singles : List Entry
+abbrev pub singles : List SpelledKind
 singles = entry (codes "@") At ∷ entry (codes "(") LParen ∷ entry (codes ")") RParen ∷ entry (codes "{") LBrace
     ∷ entry (codes "}") RBrace ∷ entry (codes "[") LBracket ∷ entry (codes "]") RBracket ∷ entry (codes ",") Comma
     ∷ entry (codes ";") Semicolon ∷ entry (codes ":") Colon ∷ entry (codes ".") Dot ∷ entry (codes "<") Less
@@ -70,17 +70,17 @@ singles = entry (codes "@") At ∷ entry (codes "(") LParen ∷ entry (codes ")"
     ∷ entry (codes "!") Not ∷ []
 
 -- `pairs` are the punctuation marks of two bytes.
-abbrev pub pairs : List Entry
+abbrev pub pairs : List SpelledKind
 pairs = entry (codes "::") Colons ∷ entry (codes "==") Equal ∷ entry (codes "!=") NotEqual
     ∷ entry (codes "<=") LessEqual ∷ entry (codes ">=") GreaterEqual ∷ entry (codes "&&") And ∷ entry (codes "||") Or
     ∷ []
 
 -- `slots` are the slots of templates.
-abbrev pub slots : List Entry
+abbrev pub slots : List SpelledKind
 slots = entry (codes "?principal") PrincipalSlot ∷ entry (codes "?resource") ResourceSlot ∷ []
 
 -- `listed table w` is the kind of the spelling `w` in `table`.
-abbrev pub listed : List Entry → List ℕ → Option TokenKind
+abbrev pub listed : List SpelledKind → List ℕ → Option TokenKind
 listed [] w = None
 listed (e ∷ table) w = if bytes_eq e.spelling w then Some e.kind else listed table w
 
@@ -107,7 +107,7 @@ IsNumber (c ∷ cs) = (is_digit c ≡ true) × AllAre is_digit cs
 
 -- ## Strings
 --
--- A string is a quote, then bytes that stand for themselves and escapes, then a quote. The escapes are
+-- A string is a quote, then bytes that denote themselves and escapes, then a quote. The escapes are
 --
 -- \n  \r  \t  \\  \0  \'  \"    a letter or mark, with its meaning in `escapes`
 -- \*                            a star, which is not a wildcard in a pattern
@@ -155,7 +155,7 @@ pub data IsEscape : Piece → List ℕ → Type 0 where
       → IsScalar (hex_after 0 digits) →
       w ≡ codes "\\u{" ++ (digits ++ codes "}") → p ≡ piece.Char (hex_after 0 digits) → IsEscape p w
 
--- `IsBody ps w` holds if the bytes `w` between two quotes are the pieces `ps`: bytes that stand for themselves, and
+-- `IsBody ps w` holds if the bytes `w` between two quotes are the pieces `ps`: bytes that denote themselves, and
 -- escapes.
 pub data IsBody : List Piece → List ℕ → Type 0 where
   done : IsBody [] []

@@ -44,7 +44,7 @@ goes_on true = λ kind. false
 unfoldable pub piece : Parser Token
 piece = token k.Colons >> take pieces
 
--- `ends ended ts` tests whether the last of the pieces `ts` is a String; `ended` if there is none.
+-- `ends ended ts` tests whether the last of the pieces `ts` is a String; it is `ended` if `ts` is empty.
 abbrev pub ends : Bool → List Token → Bool
 ends ended [] = ended
 ends ended (t ∷ ts) = ends (is_text t) ts
@@ -55,7 +55,7 @@ beginning [] = []
 beginning (t ∷ []) = []
 beginning (t ∷ (u ∷ us)) = t ∷ beginning (u ∷ us)
 
--- `last_of t ts` is the last of `ts`, or `t` if there is none.
+-- `last_of t ts` is the last of `ts`, or `t` if `ts` is empty.
 abbrev pub last_of : Token → List Token → Token
 last_of t [] = t
 last_of t (u ∷ us) = last_of u us

@@ -87,7 +87,7 @@ pub record AnsweredWithin {A : Type 0} (L K : Lang A) (ts : List Token) : Type 0
 abbrev pub HasOneAnswerWithin : {A : Type 0} → Lang A → Lang A → Type 0
 HasOneAnswerWithin L K = (ts : List Token) → AnsweredWithin L K ts
 
--- `OpensNextLevel L levels` holds if a token that is too deep for so many levels opens the next one: with one level
+-- `OpensNextLevel L levels` holds if a token that is too deep for `levels` levels opens the next one: with one level
 -- more the language goes on there.
 abbrev pub OpensNextLevel : {A : Type 0} → (ℕ → Lang A) → ℕ → Type 0
 OpensNextLevel L levels = (ts : List Token) (place : ℕ) → IsRefusedWithin (L levels) (at_any L) ts (fault.TooDeep place)

@@ -9,6 +9,10 @@ use crate::lex_fault::LexFault;
 use crate::token::Token;
 use std::alloc::Global;
 
+/// The bytes of a text for each token that the list has room for at first. Ordinary policies have fewer tokens, so that
+/// the list does not grow.
+const BYTES_A_TOKEN: usize = 3;
+
 /// Returns the tokens of a text, each the longest that starts at its byte, between whitespace and comments.
 ///
 /// Takes time proportional to the text, and memory for the tokens.
@@ -24,7 +28,7 @@ pub fn tokens(alloc: Global, text: &str) -> Result<Vec<Token>, LexFault>
     ensures ordered { IfOk result (λ tokens. AreInOrder 0 tokens.items) }
     ensures fault { IfErr result (λ fault. IsFault fault text.now) }
 {
-    let mut tokens = Vec::new(alloc);
+    let mut tokens = Vec::with_capacity(alloc, text.len() / BYTES_A_TOKEN)?;
     let mut at = 0;
     while at < text.len() {
         let rest = &text[at..];

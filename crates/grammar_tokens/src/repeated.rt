@@ -1,5 +1,6 @@
 //! Repetition of a parser.
 
+ghost use Rattle.std.specs.Prelude.{◌≡◌, [], IfOk};
 ghost use Rattle.grammar_tokens.specs.ParsesTo.{ParsesTo};
 ghost use Rattle.grammar_tokens.specs.Reading.{Parser, many};
 ghost use Rattle.grammar_tokens.specs.Repeats.{CallsRead, many_onto, many_after};
@@ -7,8 +8,19 @@ ghost use Rattle.grammar_tokens.specs.Repeats.{CallsRead, many_onto, many_after}
 use crate::cursor::Cursor;
 use crate::fault::StopCause;
 use crate::kind_sets::KindSet;
-use plain::Items;
+use plain::{Items, NoMemory};
 use std::alloc::Global;
+
+/// Returns an empty list, with room for one item if one is `wanted`: most lists of pieces have one item or none.
+fn room_for_one<T>(alloc: Global, wanted: bool) -> Result<Items<T>, NoMemory>
+    ensures { IfOk result (λ found. found ≡ []) }
+{
+    if wanted {
+        let room = Vec::with_capacity(alloc, 1)?;
+        return Ok(Items::from_vec(room));
+    }
+    Ok(Items::new(alloc))
+}
 
 /// Appends pieces to `found` as long as a token of the set comes next; returns the first error of a call, or
 /// `NoMemory`.
@@ -34,7 +46,7 @@ fn read_on<T: Drop, S: KindSet, F: Fn(&mut Cursor<'_>) -> Result<T, StopCause>>(
 
 /// Parses pieces as long as a token of the set comes next, each by a call of `read`.
 ///
-/// Returns the first error of such a call, or `NoMemory` if the list cannot grow.
+/// Returns the first error of such a call, or `NoMemory` if the list cannot grow. Without pieces it does not allocate.
 pub fn read_many<T: Drop, S: KindSet, F: Fn(&mut Cursor<'_>) -> Result<T, StopCause>>(
     alloc: Global,
     tokens: &mut Cursor<'_>,
@@ -45,7 +57,8 @@ pub fn read_many<T: Drop, S: KindSet, F: Fn(&mut Cursor<'_>) -> Result<T, StopCa
     ensures { (p : Parser T) → CallsRead p (F.post read)
         → ParsesTo (many (S.included set) p tokens.old.rest.now) result tokens.new.rest.now }
 {
-    read_on(Items::new(alloc), tokens, set, read)
+    let none = room_for_one(alloc, tokens.sees_one_of(set))?;
+    read_on(none, tokens, set, read)
 }
 
 /// Parses further pieces after `first` as long as a token of the set comes next, each by a call of `read`.
@@ -62,7 +75,7 @@ pub fn read_more<T: Drop, S: KindSet, F: Fn(&mut Cursor<'_>) -> Result<T, StopCa
     ensures { (p : Parser T) → CallsRead p (F.post read)
         → ParsesTo (many_after first (S.included set) p tokens.old.rest.now) result tokens.new.rest.now }
 {
-    let mut found = Items::new(alloc);
+    let mut found = room_for_one(alloc, true)?;
     found.push(first)?;
     read_on(found, tokens, set, read)
 }

@@ -20,7 +20,7 @@ struct Literal {
     len: usize,
 }
 
-/// Returns whether a byte between quotes stands for itself; a star does not in a pattern.
+/// Returns whether a byte between quotes denotes itself; a star does not in a pattern.
 #[tactic(auto, unfolding(crate::specs::inner::Reading::is_plain))]
 fn plain_byte(in_pattern: bool, byte: u8) -> bool
     ensures { result ≡ is_plain in_pattern byte }
@@ -28,7 +28,7 @@ fn plain_byte(in_pattern: bool, byte: u8) -> bool
     !(byte == b'\\' || (in_pattern && byte == b'*'))
 }
 
-/// Returns the number of leading bytes that stand for themselves.
+/// Returns the number of leading bytes that denote themselves.
 fn plain_len(in_pattern: bool, text: &[u8]) -> usize
     ensures is { result ≡ run (is_plain in_pattern) text.now }
     ensures within { result ≤ length text.now }

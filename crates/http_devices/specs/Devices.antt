@@ -1,4 +1,5 @@
--- Defines readers and writers that count their failures. Rules of this product.
+-- Defines readers and writers that count their failures.
+-- Rules of this product: a count stays at `u64::MAX`.
 use Rattle.std.specs.Prelude.{◌≡◌, ℕ, ◌+◌, ◌-◌, ◌^◌, ◌<◌, ◌⊎◌, min, Result, Ok, Err}
 
 -- A `Watched T` is a reader or writer, with the number of its failures.

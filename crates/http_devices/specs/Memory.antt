@@ -1,4 +1,5 @@
--- Defines devices over memory, and the plan of each. Rules of this product.
+-- Defines devices over memory, and the plan of each.
+-- Rules of this product: what a plan names: the sizes of pieces, and the call that fails.
 use Rattle.std.specs.Prelude.{◌≡◌, ◌≢◌, ℕ, ◌-◌, ◌^◌, min, max, Option, Some, List, [], ◌∷◌, ◌++◌, length, take}
 use Rattle.http_devices.specs.Devices.{counted}
 

@@ -1,4 +1,5 @@
--- Defines the meaning of the fields of a head (RFC 9110, sections 5.1, 5.6.1, 7.6.1 and 8.6).
+-- Defines the meaning of the fields of a head.
+-- Source: RFC 9110, sections 5.1, 5.6.1, 7.6.1 and 8.6.
 use Prim.Native.Char.{code}
 use Rattle.std.specs.Prelude.{ℕ, Bool, ◌&&◌, List, [], ◌∷◌, ◌++◌, length, map, if◌then◌else◌, ◌==◌, nat_lt}
 use Rattle.std.specs.Prelude.{nat_le, codes, bytes_eq}

@@ -1,4 +1,5 @@
--- Defines where a reply ends, and which replies are rejected (RFC 9112, sections 4 to 6; RFC 9110, section 8.6).
+-- Defines where a reply ends, and which replies are rejected.
+-- Source: RFC 9112, sections 4 to 6; RFC 9110, section 8.6.
 use Rattle.std.specs.Prelude.{◌≡◌, ℕ, ◌<◌, ◌≤◌, ◌⊎◌, List, [], ◌∷◌, ◌++◌, length, map, drop}
 use Rattle.std.specs.Prelude.{if◌then◌else◌, codes}
 use Rattle.std.specs.List.{list_any}

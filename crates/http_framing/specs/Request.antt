@@ -1,5 +1,5 @@
--- Defines where the requests of a stream end, and which of them are rejected (RFC 9112, sections 2 to 6, 9.3 and
--- 9.6).
+-- Defines where the requests of a stream end, and which of them are rejected.
+-- Source: RFC 9112, sections 2 to 6, 9.3 and 9.6.
 -- Rules of this product: the limits, and the order of the errors.
 use Rattle.std.specs.Prelude.{◌≡◌, ℕ, ◌<◌, ◌≤◌, ◌⊎◌, Bool, ◌||◌, List, [], ◌∷◌, ◌++◌, length, map, drop}
 use Rattle.std.specs.Prelude.{if◌then◌else◌, ◌==◌, codes, bytes_eq}

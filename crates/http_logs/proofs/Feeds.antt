@@ -18,10 +18,9 @@ use Rattle.http.specs.declared.status.StatusCode.{StatusCode}
 use Rattle.http_routes.specs.Routes.{route_stated}
 use Rattle.http_routes.specs.declared.route.Route.{Route}
 use Rattle.http_routes.specs.declared.route.Route.TheVariants as route
-use Rattle.http_logs.specs.LogLines.{asked_members, decision_tail, head_text, inner_text, IsLogLine, IsUndone, log_line, made_tail}
+use Rattle.http_logs.specs.LogLines.{decision_tail, head_text, inner_text, IsLogLine, IsUndone, log_line, made_tail}
 use Rattle.http_logs.specs.LogLines.{member_text, members_text as asked_text, name_text, named_text, object_text, plain_tail}
 use Rattle.http_logs.specs.LogLines.{stamp_tail, status_text, string_or_null, tail_of, text_of, uid_text, unread_line}
-use Rattle.http_logs.specs.declared.TheConstants.{MOST_STAMP}
 use Rattle.http_logs.specs.OneLine.{HasNoLineFeed, IsOneLine, is_line_feed}
 
 -- ---- pieces
@@ -204,19 +203,19 @@ stamp_at true status reply h = led (status_text status ++ codes ",\"stamp\":" ++
 stamp_at false status reply h = plain_one status
 
 stamp_one : (status : StatusCode) (reply : List ℕ) → HasNoLineFeed reply → IsOneLine (stamp_tail status reply)
-stamp_one status reply h = stamp_at (nat_le (length reply) MOST_STAMP) status reply h
+stamp_one status reply h = stamp_at (nat_le (length reply) 128) status reply h
 
-decision_one : (status : StatusCode) (body reply : List ℕ) → HasNoLineFeed reply → IsOneLine (decision_tail status body reply)
-decision_one status body reply h =
-    led (status_text status ++ asked_members body ++ codes "," ++ drop 1 reply) (codes "\n")
-    (joined (status_text status ++ asked_members body ++ codes ",") (drop 1 reply)
-    (joined (status_text status ++ asked_members body) (codes ",")
-    (joined (status_text status) (asked_members body) (status_free status) (asked_free (json_of body))) refl) (dropped reply h))
+decision_one : (status : StatusCode) (json : Option Data) (reply : List ℕ) → HasNoLineFeed reply → IsOneLine (decision_tail status json reply)
+decision_one status json reply h =
+    led (status_text status ++ asked_text json ++ codes "," ++ drop 1 reply) (codes "\n")
+    (joined (status_text status ++ asked_text json ++ codes ",") (drop 1 reply)
+    (joined (status_text status ++ asked_text json) (codes ",")
+    (joined (status_text status) (asked_text json) (status_free status) (asked_free json)) refl) (dropped reply h))
     ([], refl, refl)
 
 pub made_one : (asking : Route) (status : StatusCode) (body reply : List ℕ) → HasNoLineFeed reply
     → IsOneLine (made_tail asking status body reply)
-made_one route.Authorize status body reply h = decision_one status body reply h
+made_one route.Authorize status body reply h = decision_one status (json_of body) reply h
 made_one (route.PutPolicy id) status body reply h = stamp_one status reply h
 made_one (route.DeletePolicy id) status body reply h = stamp_one status reply h
 made_one route.PutEntity status body reply h = stamp_one status reply h
@@ -269,7 +268,7 @@ other_status s e f = omega (arith, e, f)
 decided_at : (asking : Route) (method target body : List ℕ) (reply line : List ℕ) → asking ≡ route.Authorize
     → (line ≡ head_text (text_of method) (text_of target) ++ tail_of asking 200 body reply)
     ⊎ ((line ≡ unread_line 200) × IsUndone asking 200 reply)
-    → line ≡ head_text (text_of method) (text_of target) ++ decision_tail 200 body reply
+    → line ≡ head_text (text_of method) (text_of target) ++ decision_tail 200 (json_of body) reply
 decided_at asking method target body reply line is (inl e) =
     e ∙ ap (λ (r : Route). head_text (text_of method) (text_of target) ++ tail_of r 200 body reply) is
 decided_at asking method target body reply line is (inr (e, undone)) =
@@ -277,6 +276,6 @@ decided_at asking method target body reply line is (inr (e, undone)) =
 
 pub decision_tells : (method target body reply line : List ℕ) → route_stated method target ≡ route.Authorize
     → IsLogLine method target body 200 reply line
-    → line ≡ head_text (text_of method) (text_of target) ++ decision_tail 200 body reply
+    → line ≡ head_text (text_of method) (text_of target) ++ decision_tail 200 (json_of body) reply
 decision_tells method target body reply line is h =
     decided_at (route_stated method target) method target body reply line is h

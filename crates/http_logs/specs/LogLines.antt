@@ -1,8 +1,8 @@
--- Defines the line that a log has of a request and its reply.
+-- Defines the line that a log gets for a request and its reply.
 -- Source: RFC 8259; docs/formats.md, the log.
--- Rules of this product: one compact object a line, its keys in this order: method, target and status; of a change that
--- was made its stamp; of a decision the request's principal, action and resource, each as it was named, and then the
--- members of the reply. What was not read is null.
+-- Rules of this product: one compact object on each line, its keys in this order: method, target and status; for a
+-- change that was made its stamp; for a decision the request's principal, action and resource, each as it was named,
+-- and then the members of the reply. Parts that were not read are null.
 use Rattle.std.specs.Prelude.{◌≡◌, ◌⊎◌, ℕ, List, ◌++◌, drop, Option, Some, None, option_and_then, codes, decimal}
 use Rattle.std.specs.Prelude.{if◌then◌else◌, ◌==◌, length, nat_le}
 use Rattle.std.specs.Str.{is_utf8}
@@ -12,14 +12,13 @@ use Rattle.serde_json.specs.Find.{as_str, get}
 use Rattle.json_words.specs.Json.{json_of, text_at}
 use Rattle.http.specs.declared.status.StatusCode.{StatusCode}
 use Rattle.http_texts.specs.ReplyText.{error_line}
-use Rattle.http_logs.specs.declared.TheConstants.{MOST_STAMP}
 use Rattle.http_routes.specs.Routes.{route_stated}
 use Rattle.http_routes.specs.declared.route.Route.{Route}
 use Rattle.http_routes.specs.declared.route.Route.TheVariants.{Authorize, PutPolicy, GetPolicy, DeletePolicy}
 use Rattle.http_routes.specs.declared.route.Route.TheVariants.{PutEntity, DeleteEntity, State, Summary, Delta}
 use Rattle.http_routes.specs.declared.route.Route.TheVariants.{Merge, Unknown, OtherMethod}
 
--- `string_or_null text` is a text as a JSON string, in whose escapes no control character is left; or null.
+-- `string_or_null text` is a text as a JSON string, without a control character below U+0020; or null.
 abbrev pub string_or_null : Option (List ℕ) → List ℕ
 string_or_null (Some text) = quoted text
 string_or_null None = codes "null"
@@ -37,7 +36,7 @@ head_text method target =
 abbrev pub status_text : StatusCode → List ℕ
 status_text status = codes ",\"status\":" ++ decimal status
 
--- `plain_tail status` ends the line that tells of nothing else.
+-- `plain_tail status` ends a line that reports nothing else.
 abbrev pub plain_tail : StatusCode → List ℕ
 plain_tail status = status_text status ++ codes "}\n"
 
@@ -46,7 +45,7 @@ plain_tail status = status_text status ++ codes "}\n"
 -- No stamp is longer than 128 bytes; a longer reply would be left out.
 abbrev pub stamp_tail : StatusCode → List ℕ → List ℕ
 stamp_tail status reply =
-    if nat_le (length reply) MOST_STAMP then status_text status ++ codes ",\"stamp\":" ++ reply ++ codes "}\n"
+    if nat_le (length reply) 128 then status_text status ++ codes ",\"stamp\":" ++ reply ++ codes "}\n"
     else plain_tail status
 
 -- `uid_text type id` is a uid of this type and this id, as in the answer line, {"id":"ann","type":"User"}; null if one
@@ -60,7 +59,7 @@ uid_text None id = codes "null"
 abbrev pub object_text : Data → List ℕ
 object_text d = uid_text (text_at (codes "type") d) (text_at (codes "id") d)
 
--- `inner_text d inner` is that of the member `__entity` of `d`, or of `d` itself if there is none.
+-- `inner_text d inner` is that of the member `__entity` of `d`, or of `d` itself without such a member.
 abbrev pub inner_text : Data → Option Data → List ℕ
 inner_text d None = object_text d
 inner_text d (Some inner) = object_text inner
@@ -79,25 +78,25 @@ named_text None = codes "null"
 unfoldable pub member_text : List ℕ → List ℕ → Option Data → List ℕ
 member_text label key json = label ++ named_text (option_and_then (get key) json)
 
--- `members_text json` is what a body's JSON asks: ,"principal":"User::\"ann\"","action":..,"resource":..
+-- `members_text json` is the request of a body's JSON: ,"principal":"User::\"ann\"","action":..,"resource":..
 abbrev pub members_text : Option Data → List ℕ
 members_text json =
     member_text (codes ",\"principal\":") (codes "principal") json
     ++ member_text (codes ",\"action\":") (codes "action") json
     ++ member_text (codes ",\"resource\":") (codes "resource") json
 
--- `asked_members body` is what a body asks.
-abbrev pub asked_members : List ℕ → List ℕ
-asked_members body = members_text (json_of body)
+-- `decision_tail status json reply` ends that of a decision, whose reply is an object: its members follow the request,
+-- as ,"cycle":[],"decision":"Allow","errors":[],"reason":["p"]}
+abbrev pub decision_tail : StatusCode → Option Data → List ℕ → List ℕ
+decision_tail status json reply = status_text status ++ members_text json ++ codes "," ++ drop 1 reply ++ codes "\n"
 
--- `decision_tail status body reply` ends that of a decision, whose reply is an object: its members follow what was
--- asked, as ,"cycle":[],"decision":"Allow","errors":[],"reason":["p"]}
-abbrev pub decision_tail : StatusCode → List ℕ → List ℕ → List ℕ
-decision_tail status body reply = status_text status ++ asked_members body ++ codes "," ++ drop 1 reply ++ codes "\n"
+-- `decided_tail status json reply` ends that of a request to decide; a rejection is reported by its status.
+abbrev pub decided_tail : StatusCode → Option Data → List ℕ → List ℕ
+decided_tail status json reply = if status == 200 then decision_tail status json reply else plain_tail status
 
--- `made_tail route status body reply` is the end by what was asked for, where it was done.
+-- `made_tail route status body reply` is the end for an operation that was executed.
 abbrev pub made_tail : Route → StatusCode → List ℕ → List ℕ → List ℕ
-made_tail Authorize status body reply = decision_tail status body reply
+made_tail Authorize status body reply = decision_tail status (json_of body) reply
 made_tail (PutPolicy id) status body reply = stamp_tail status reply
 made_tail (DeletePolicy id) status body reply = stamp_tail status reply
 made_tail PutEntity status body reply = stamp_tail status reply
@@ -110,7 +109,7 @@ made_tail Merge status body reply = plain_tail status
 made_tail Unknown status body reply = plain_tail status
 made_tail OtherMethod status body reply = plain_tail status
 
--- `tail_of route status body reply` ends the line: what was refused is told by its status.
+-- `tail_of route status body reply` ends the line; a rejection is reported by its status.
 abbrev pub tail_of : Route → StatusCode → List ℕ → List ℕ → List ℕ
 tail_of route status body reply = if status == 200 then made_tail route status body reply else plain_tail status
 
@@ -119,21 +118,21 @@ abbrev pub log_line : List ℕ → List ℕ → List ℕ → StatusCode → List
 log_line method target body status reply =
     head_text (text_of method) (text_of target) ++ tail_of (route_stated method target) status body reply
 
--- `unread_line status` is the line of what is refused since it is no request, or was for want of memory:
+-- `unread_line status` is the line for bytes that are not a request, and for a request when out of memory:
 -- {"method":null,"target":null,"status":400}
 abbrev pub unread_line : StatusCode → List ℕ
 unread_line status = head_text None None ++ plain_tail status
 
--- `IsUndone asking status reply` holds if the reply to what a route asks says that memory was refused for it and
--- nothing was done: the error line of code 1, without a place. What asks for no operation has its own error line,
--- whatever the memory.
+-- `IsUndone asking status reply` holds if the reply to a route's request says that an allocation failed and nothing was
+-- done: the error line of code 1, without a place. A request for no operation has its own error line, also when out of
+-- memory.
 abbrev pub IsUndone : Route → StatusCode → List ℕ → Type 0
 IsUndone Unknown status reply = (status ≡ 404) × (reply ≡ error_line 404)
 IsUndone OtherMethod status reply = (status ≡ 405) × (reply ≡ error_line 405)
 IsUndone _ status reply = (status ≡ 503) × (reply ≡ error_line 1)
 
--- `IsLogLine method target body status reply line` holds if the log may get this line: the request's; or where memory
--- for it was refused, so that nothing was done, one without method and target.
+-- `IsLogLine method target body status reply line` holds if the log may get this line: the request's or, if its
+-- allocation failed, so that nothing was done, a line without method and target.
 abbrev pub IsLogLine : List ℕ → List ℕ → List ℕ → StatusCode → List ℕ → List ℕ → Type 0
 IsLogLine method target body status reply line =
     (line ≡ log_line method target body status reply)

@@ -1,23 +1,24 @@
-//! Laws of the lines of a log.
+//! Theorems on the lines of a log. The functions are no-ops.
 ghost use Rattle.std.specs.Prelude.{◌≡◌, ◌++◌, ℕ, List};
 ghost use Rattle.http.specs.declared.status.StatusCode.{StatusCode};
+ghost use Rattle.json_words.specs.Json.{json_of};
 ghost use Rattle.http_routes.specs.Routes.{route_stated};
 ghost use Rattle.http_routes.specs.declared.route.Route.TheVariants as route;
 ghost use Rattle.http_logs.specs.LogLines.{IsLogLine, decision_tail, head_text, log_line, text_of, unread_line};
 ghost use Rattle.http_logs.specs.OneLine.{HasNoLineFeed, IsOneLine};
 
 /// Proves that lines can't be forged: whatever the method, the target and the body of a request are, its line has one
-/// line feed, its last byte, if the reply has none. So has the line of what is no request. No-op.
+/// line feed, its last byte, if the reply has no line feed. So has the line for bytes that are not a request. No-op.
 pub fn lines_have_one_line_feed()
     ensures line { (method target body : List ℕ) (status : StatusCode) (reply line : List ℕ) → HasNoLineFeed reply
         → line ≡ log_line method target body status reply → IsOneLine line }
     ensures unread { (status : StatusCode) (line : List ℕ) → line ≡ unread_line status → IsOneLine line }
 {}
 
-/// Proves that the line of each decision that was made names principal, action and resource as the request does, and
-/// holds the members of the reply. No-op.
+/// Proves that the line of each decision names principal, action and resource as the request does, and has the
+/// members of the reply. No-op.
 pub fn decisions_tell_who_asked()
     ensures { (method target body reply line : List ℕ) → route_stated method target ≡ route.Authorize
         → IsLogLine method target body 200 reply line
-        → line ≡ head_text (text_of method) (text_of target) ++ decision_tail 200 body reply }
+        → line ≡ head_text (text_of method) (text_of target) ++ decision_tail 200 (json_of body) reply }
 {}

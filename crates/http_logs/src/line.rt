@@ -1,22 +1,25 @@
-//! The line of a request, in two steps: method and target before anything is done, and the rest behind the reply.
+//! The line of a request, in two steps: method and target before anything is done, and the rest after the reply.
 //!
-//! The first step makes room for the rest of each line of a change: so the line of a change that was made needs no
-//! further memory.
-ghost use Rattle.std.specs.Prelude.{◌≡◌, ◌≤◌, ◌+◌, ◌++◌, OnOk, OnErr, codes, drop, vec_len};
+//! The first step reserves memory for the rest of each line of a change, so the line of a change that was made never
+//! fails.
+ghost use Rattle.std.specs.Prelude.{◌≡◌, ◌≢◌, ◌≤◌, ◌+◌, ◌++◌, ℕ, List, OnOk, OnErr, codes, drop, option_map};
+ghost use Rattle.std.specs.Prelude.{vec_len};
 ghost use Rattle.std.specs.Vec.{vec_capacity};
-ghost use Rattle.http_logs.specs.LogLines.{decision_tail, head_text, made_tail, plain_tail, stamp_tail};
+ghost use Rattle.serde_json.specs.View.{view};
+ghost use Rattle.http_logs.specs.LogLines.{decided_tail, decision_tail, head_text, made_tail};
+ghost use Rattle.http_logs.specs.LogLines.{plain_tail, stamp_tail};
 ghost use Rattle.http_logs.specs.LogLines.{status_text, tail_of, text_of, unread_line};
 ghost use Rattle.http_logs.specs.declared.TheConstants.{TAIL_ROOM, UNREAD_ROOM};
 
-use crate::pieces::{append, append_number, asked_of, head_of};
+use crate::pieces::{append, append_number, head_of, members_of};
 use crate::{MOST_STAMP, TAIL_ROOM};
 use http::StatusCode;
 use http_routes::Route;
-use json_values::Scratch;
 use plain::NoMemory;
+use serde_json::Value;
 use std::alloc::Global;
 
-/// Puts the beginning of the line of a request, with room for the rest of a line that tells of a change.
+/// Puts the beginning of the line of a request, with room for the rest of the line of a change.
 ///
 /// Fails for memory alone; the line is then unchanged.
 pub fn put_head(
@@ -36,7 +39,7 @@ pub fn put_head(
     }
 }
 
-/// Appends a piece, and makes room for the rest of a line.
+/// Appends a piece, and reserves memory for the rest of a line.
 fn put_with_room(line: &mut Vec<u8>, piece: &[u8]) -> Result<(), NoMemory>
     ensures ok { OnOk result (line.new.items ≡ line.old.items ++ piece.now) }
     ensures room { OnOk result (vec_len line.new + TAIL_ROOM ≤ vec_capacity line.new) }
@@ -62,7 +65,7 @@ fn put_status(line: &mut Vec<u8>, status: StatusCode)
     append_number(line, u64::from(status.as_u16()));
 }
 
-/// Ends a line that tells of nothing but its status. Takes no memory.
+/// Ends a line that reports only its status. Does not allocate.
 pub fn put_plain_tail(line: &mut Vec<u8>, status: StatusCode)
     requires room { vec_len line.old + 32 ≤ vec_capacity line.old }
     ensures items { line.new.items ≡ line.old.items ++ plain_tail status }
@@ -72,7 +75,7 @@ pub fn put_plain_tail(line: &mut Vec<u8>, status: StatusCode)
     append(line, b"}\n");
 }
 
-/// Ends the line of a change, whose reply is its stamp. Takes no memory.
+/// Ends the line of a change, whose reply is its stamp. Does not allocate.
 fn put_stamp_tail(line: &mut Vec<u8>, status: StatusCode, reply: &[u8])
     requires { vec_len line.old + TAIL_ROOM ≤ vec_capacity line.old }
     ensures items { line.new.items ≡ line.old.items ++ stamp_tail status reply.now }
@@ -98,7 +101,7 @@ fn behind_first(bytes: &[u8]) -> &[u8]
     &bytes[1..]
 }
 
-/// Ends the line of a decision, of which this is what was asked.
+/// Ends the line of a decision, given the text of its request.
 fn put_asked_tail(
     line: &mut Vec<u8>,
     status: StatusCode,
@@ -126,89 +129,88 @@ fn put_asked_tail(
     Ok(())
 }
 
-/// Ends the line of a decision.
+/// Ends the line of a decision, by the JSON of its request.
 fn put_decision_tail(
     alloc: Global,
-    scratch: &mut Scratch,
     line: &mut Vec<u8>,
-    body: &[u8],
+    json: &Option<Value>,
     status: StatusCode,
     reply: &[u8],
 ) -> Result<(), NoMemory>
-    ensures ok { OnOk result (line.new.items ≡ line.old.items ++ decision_tail status body.now reply.now) }
+    ensures ok { OnOk result (line.new.items
+        ≡ line.old.items ++ decision_tail status (option_map view json.now) reply.now) }
     ensures err { OnErr result (line.new.items ≡ line.old.items) }
     ensures len { OnErr result (vec_len line.new ≡ vec_len line.old) }
     ensures kept { vec_capacity line.old ≤ vec_capacity line.new }
 {
-    match asked_of(alloc, scratch, body) {
+    match members_of(alloc, json) {
         Ok(asked) => put_asked_tail(line, status, asked.as_slice(), reply),
         Err(error) => Err(error),
     }
 }
 
-/// Ends the line of what was asked for and done.
-fn put_made_tail(
-    alloc: Global,
-    scratch: &mut Scratch,
-    line: &mut Vec<u8>,
-    route: &Route,
-    body: &[u8],
-    status: StatusCode,
-    reply: &[u8],
-) -> Result<(), NoMemory>
-    requires { vec_len line.old + TAIL_ROOM ≤ vec_capacity line.old }
-    ensures ok { OnOk result (line.new.items ≡ line.old.items ++ made_tail route.now status body.now reply.now) }
-    ensures decided { OnErr result (route.now ≡ Route.Authorize) }
-    ensures err { OnErr result (line.new.items ≡ line.old.items) }
-    ensures len { OnErr result (vec_len line.new ≡ vec_len line.old) }
-    ensures kept { vec_capacity line.old ≤ vec_capacity line.new }
-{
-    match route {
-        Route::Authorize => put_decision_tail(alloc, scratch, line, body, status, reply),
-        Route::PutPolicy(_) | Route::DeletePolicy(_) | Route::PutEntity | Route::DeleteEntity => {
-            put_stamp_tail(line, status, reply);
-            Ok(())
-        }
-        Route::GetPolicy(_)
-        | Route::State
-        | Route::Summary
-        | Route::Delta
-        | Route::Merge
-        | Route::Unknown
-        | Route::OtherMethod => {
-            put_plain_tail(line, status);
-            Ok(())
-        }
-    }
-}
-
-/// Ends the line of a request whose reply has this status and this body.
+/// Ends the line of a request to decide, by the JSON of its body, which the caller has parsed.
 ///
-/// Fails for memory alone, and only where a request was decided; the line is then unchanged.
-pub fn put_tail(
+/// Fails for memory alone; the line is then unchanged.
+pub fn put_decided_tail(
     alloc: Global,
-    scratch: &mut Scratch,
     line: &mut Vec<u8>,
-    route: &Route,
-    body: &[u8],
+    json: &Option<Value>,
     status: StatusCode,
     reply: &[u8],
 ) -> Result<(), NoMemory>
     requires { vec_len line.old + TAIL_ROOM ≤ vec_capacity line.old }
-    ensures ok { OnOk result (line.new.items ≡ line.old.items ++ tail_of route.now status body.now reply.now) }
-    ensures decided { OnErr result (route.now ≡ Route.Authorize) }
+    ensures ok { OnOk result (line.new.items
+        ≡ line.old.items ++ decided_tail status (option_map view json.now) reply.now) }
     ensures err { OnErr result (line.new.items ≡ line.old.items) }
     ensures len { OnErr result (vec_len line.new ≡ vec_len line.old) }
     ensures kept { vec_capacity line.old ≤ vec_capacity line.new }
 {
     if status.as_u16() == 200 {
-        return put_made_tail(alloc, scratch, line, route, body, status, reply);
+        return put_decision_tail(alloc, line, json, status, reply);
     }
     put_plain_tail(line, status);
     Ok(())
 }
 
-/// Puts the line of what is refused since it is no request, or was for want of memory. Takes no memory.
+/// Ends the line of an executed operation other than a decision.
+fn put_made_tail(line: &mut Vec<u8>, route: &Route, status: StatusCode, reply: &[u8])
+    requires { vec_len line.old + TAIL_ROOM ≤ vec_capacity line.old }
+    ensures items { route.now ≢ Route.Authorize
+        → (body : List ℕ) → line.new.items ≡ line.old.items ++ made_tail route.now status body reply.now }
+    ensures kept { vec_capacity line.old ≤ vec_capacity line.new }
+{
+    match route {
+        Route::PutPolicy(_) | Route::DeletePolicy(_) | Route::PutEntity | Route::DeleteEntity => {
+            put_stamp_tail(line, status, reply);
+        }
+        Route::Authorize
+        | Route::GetPolicy(_)
+        | Route::State
+        | Route::Summary
+        | Route::Delta
+        | Route::Merge
+        | Route::Unknown
+        | Route::OtherMethod => put_plain_tail(line, status),
+    }
+}
+
+/// Ends the line of a request whose reply has this status and this body; that of a request to decide is ended by
+/// [`put_decided_tail`]. Does not allocate.
+pub fn put_tail(line: &mut Vec<u8>, route: &Route, status: StatusCode, reply: &[u8])
+    requires { vec_len line.old + TAIL_ROOM ≤ vec_capacity line.old }
+    ensures items { route.now ≢ Route.Authorize
+        → (body : List ℕ) → line.new.items ≡ line.old.items ++ tail_of route.now status body reply.now }
+    ensures kept { vec_capacity line.old ≤ vec_capacity line.new }
+{
+    if status.as_u16() != 200 {
+        put_plain_tail(line, status);
+        return;
+    }
+    put_made_tail(line, route, status, reply);
+}
+
+/// Puts the line for bytes that are not a request, or for a request when out of memory. Does not allocate.
 pub fn put_unread_line(line: &mut Vec<u8>, status: StatusCode)
     requires room { vec_len line.old + UNREAD_ROOM ≤ vec_capacity line.old }
     ensures items { line.new.items ≡ line.old.items ++ unread_line status }

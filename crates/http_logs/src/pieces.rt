@@ -6,17 +6,16 @@ ghost use Rattle.std.specs.Vec.{vec_capacity};
 ghost use Rattle.json.specs.Print.{escape, escape_byte, escape_letter, quoted};
 ghost use Rattle.serde_json.specs.View.{view};
 ghost use Rattle.serde_json.specs.Find.{as_str, get};
-ghost use Rattle.http_logs.specs.LogLines.{asked_members, head_text, inner_text, member_text, members_text};
+ghost use Rattle.http_logs.specs.LogLines.{head_text, inner_text, member_text, members_text};
 ghost use Rattle.http_logs.specs.LogLines.{name_text, named_text, object_text, string_or_null, text_of, uid_text};
 
 use itoa::Buffer;
-use json_values::{Scratch, read_json_by};
 use json_words::text_at;
 use plain::NoMemory;
 use serde_json::Value;
 use std::alloc::Global;
 
-/// So much room is made at once for the pieces of a line, in bytes: most take less.
+/// The number of bytes that are reserved at once for the pieces of a line: most take less.
 const USUAL_LINE: usize = 256;
 
 /// Appends a piece, for which there is room.
@@ -80,7 +79,7 @@ fn is_special(byte: u8) -> bool
     byte == b'\\'
 }
 
-/// Appends what stands in a JSON string for a byte.
+/// Appends the escape of a byte in a JSON string.
 #[inline(never)]
 #[tactic(auto, unfolding(json::specs::Print::escape_byte))]
 fn append_special(line: &mut Vec<u8>, byte: u8) -> Result<(), NoMemory>
@@ -100,7 +99,7 @@ fn append_special(line: &mut Vec<u8>, byte: u8) -> Result<(), NoMemory>
     Ok(())
 }
 
-/// Appends what stands in a JSON string for a byte, for most bytes the byte.
+/// Appends a byte of a JSON string: its escape or, for most bytes, the byte itself.
 fn append_byte(line: &mut Vec<u8>, byte: u8) -> Result<(), NoMemory>
     ensures { OnOk result (line.new.items ≡ line.old.items ++ escape_byte byte) }
 {
@@ -111,7 +110,7 @@ fn append_byte(line: &mut Vec<u8>, byte: u8) -> Result<(), NoMemory>
     Ok(())
 }
 
-/// Appends what stands in a JSON string for a text.
+/// Appends a text as it is written in a JSON string.
 fn append_escaped(line: &mut Vec<u8>, text: &[u8]) -> Result<(), NoMemory>
     ensures { OnOk result (line.new.items ≡ line.old.items ++ escape text.now) }
 {
@@ -121,7 +120,7 @@ fn append_escaped(line: &mut Vec<u8>, text: &[u8]) -> Result<(), NoMemory>
     Ok(())
 }
 
-/// Returns a line with a text behind it, as a JSON string. A `json::Writer` a string would take three times as long.
+/// Returns a line followed by a text as a JSON string. A `json::Writer` for each string would take three times as long.
 fn with_string(line: Vec<u8>, text: &str) -> Result<Vec<u8>, NoMemory>
     ensures { IfOk result (λ made. made.items ≡ line.items ++ quoted text.now) }
 {
@@ -132,7 +131,7 @@ fn with_string(line: Vec<u8>, text: &str) -> Result<Vec<u8>, NoMemory>
     Ok(line)
 }
 
-/// Returns a line with a text behind it, as a JSON string, or with null.
+/// Returns a line followed by a text as a JSON string, or by null.
 fn with_text(line: Vec<u8>, text: Option<&str>) -> Result<Vec<u8>, NoMemory>
     ensures { IfOk result (λ made. made.items ≡ line.items ++ string_or_null (option_map (λ t. t.now) text.entry)) }
 {
@@ -142,7 +141,7 @@ fn with_text(line: Vec<u8>, text: Option<&str>) -> Result<Vec<u8>, NoMemory>
     }
 }
 
-/// Returns a line with a piece behind it.
+/// Returns a line followed by a piece.
 fn with_piece(line: Vec<u8>, piece: &[u8]) -> Result<Vec<u8>, NoMemory>
     ensures { IfOk result (λ made. made.items ≡ line.items ++ piece.now) }
 {
@@ -151,7 +150,7 @@ fn with_piece(line: Vec<u8>, piece: &[u8]) -> Result<Vec<u8>, NoMemory>
     Ok(line)
 }
 
-/// Returns bytes as text, where they are UTF-8.
+/// Returns bytes as text, if they are UTF-8.
 fn text_of(bytes: &[u8]) -> Option<&str>
     ensures { option_map (λ t. t.now) result ≡ text_of bytes.now }
 {
@@ -172,7 +171,7 @@ pub(crate) fn head_of(alloc: Global, method: &[u8], target: &[u8]) -> Result<Vec
     with_text(line, text_of(target))
 }
 
-/// Returns a line with a uid of this type and this id behind it.
+/// Returns a line followed by a uid of this type and this id.
 fn with_uid(line: Vec<u8>, kind: &str, id: &str) -> Result<Vec<u8>, NoMemory>
     ensures { IfOk result (λ made. made.items ≡ line.items ++ uid_text (Some kind.now) (Some id.now)) }
 {
@@ -183,7 +182,7 @@ fn with_uid(line: Vec<u8>, kind: &str, id: &str) -> Result<Vec<u8>, NoMemory>
     with_piece(line, b"}")
 }
 
-/// Returns a line with the uid of an object behind it, or with null.
+/// Returns a line followed by the uid of an object, or by null.
 fn with_object(line: Vec<u8>, value: &Value) -> Result<Vec<u8>, NoMemory>
     ensures { IfOk result (λ made. made.items ≡ line.items ++ object_text (view value.now)) }
 {
@@ -196,7 +195,7 @@ fn with_object(line: Vec<u8>, value: &Value) -> Result<Vec<u8>, NoMemory>
     }
 }
 
-/// Returns a line with the uid of an object or of its member `__entity` behind it.
+/// Returns a line followed by the uid of an object or of its member `__entity`.
 fn with_inner(line: Vec<u8>, value: &Value) -> Result<Vec<u8>, NoMemory>
     ensures { IfOk result (λ made.
         made.items ≡ line.items ++ inner_text (view value.now) (get (codes "__entity") (view value.now))) }
@@ -207,7 +206,7 @@ fn with_inner(line: Vec<u8>, value: &Value) -> Result<Vec<u8>, NoMemory>
     }
 }
 
-/// Returns a line with the name of an entity behind it, as the request has it.
+/// Returns a line followed by the name of an entity, as the request has it.
 fn with_name(line: Vec<u8>, value: &Value) -> Result<Vec<u8>, NoMemory>
     ensures { IfOk result (λ made. made.items ≡ line.items ++ name_text (view value.now) (as_str (view value.now))) }
 {
@@ -217,7 +216,7 @@ fn with_name(line: Vec<u8>, value: &Value) -> Result<Vec<u8>, NoMemory>
     }
 }
 
-/// Returns a line with the name of an entity behind it, or with null.
+/// Returns a line followed by the name of an entity, or by null.
 fn with_named(line: Vec<u8>, found: Option<&Value>) -> Result<Vec<u8>, NoMemory>
     ensures { IfOk result (λ made. made.items ≡ line.items ++ named_text (option_map (λ v. view v.now) found.entry)) }
 {
@@ -227,7 +226,7 @@ fn with_named(line: Vec<u8>, found: Option<&Value>) -> Result<Vec<u8>, NoMemory>
     }
 }
 
-/// Returns what a body has at a key.
+/// Returns the value of a body at a key.
 fn member<'v>(value: &'v Option<Value>, key: &str) -> Option<&'v Value>
     ensures { option_map (λ v. view v.now) result ≡ option_and_then (get key.now) (option_map view value.now) }
 {
@@ -237,7 +236,7 @@ fn member<'v>(value: &'v Option<Value>, key: &str) -> Option<&'v Value>
     }
 }
 
-/// Returns a line with a label and what the JSON of a body names at a key behind it.
+/// Returns a line followed by a label and the entity that the JSON of a body names at a key.
 #[tactic(auto, unfolding(crate::specs::LogLines::member_text))]
 fn with_member(
     line: Vec<u8>,
@@ -252,8 +251,8 @@ fn with_member(
     with_named(line, member(value, key))
 }
 
-/// Returns what the JSON of a body asks.
-fn members_of(alloc: Global, value: &Option<Value>) -> Result<Vec<u8>, NoMemory>
+/// Returns the text of the request in the JSON of a body.
+pub(crate) fn members_of(alloc: Global, value: &Option<Value>) -> Result<Vec<u8>, NoMemory>
     ensures { IfOk result (λ made. made.items ≡ members_text (option_map view value.now)) }
 {
     let line = Vec::with_capacity(alloc, USUAL_LINE)?;
@@ -261,16 +260,4 @@ fn members_of(alloc: Global, value: &Option<Value>) -> Result<Vec<u8>, NoMemory>
     let line = with_member(line, value, b",\"action\":", "action")?;
     let line = with_member(line, value, b",\"resource\":", "resource")?;
     Ok(line)
-}
-
-/// Returns what a body asks.
-pub(crate) fn asked_of(
-    alloc: Global,
-    scratch: &mut Scratch,
-    body: &[u8],
-) -> Result<Vec<u8>, NoMemory>
-    ensures { IfOk result (λ made. made.items ≡ asked_members body.now) }
-{
-    let value = read_json_by(scratch, alloc, body)?;
-    members_of(alloc, &value)
 }

@@ -18,7 +18,7 @@ use Rattle.http_replies.specs.Lines.{fault_line, found_line, put_line, stamp_lin
 abbrev pub fault_reply : SiteFault → StatusCode × List ℕ
 fault_reply f = (refusal_status (code_of f), fault_line (code_of f) (place_of f) (within_of f))
 
--- `status_reply s` is the reply to an error that has no code: its status stands for the code.
+-- `status_reply s` is the reply to an error without a code: its status takes the place of the code.
 abbrev pub status_reply : StatusCode → StatusCode × List ℕ
 status_reply s = (s, fault_line s None None)
 
@@ -54,8 +54,8 @@ abbrev pub message_reply : Result (List ℕ) SiteFault → StatusCode × List �
 message_reply (Ok bytes) = (200, bytes)
 message_reply (Err f) = fault_reply f
 
--- `IsReplyOrNoMemory reply told body` holds if status `told` and `body` are `reply`; or, if `reply` is no error, those
--- of `NoMemory`.
+-- `IsReplyOrNoMemory reply told body` holds if status `told` and `body` are those of `reply`; or, if `reply` is not an
+-- error, those of `NoMemory`.
 abbrev pub IsReplyOrNoMemory : StatusCode × List ℕ → StatusCode → List ℕ → Type 0
 IsReplyOrNoMemory reply told body =
     ((told, body) ≡ reply) ⊎ ((reply.0 ≡ 200) × ((told, body) ≡ fault_reply fault.NoMemory))

@@ -1,7 +1,6 @@
 //! The parts of a target.
 ghost use Rattle.std.specs.Prelude.{◌≡◌, option_map};
-ghost use Rattle.std.specs.List.{list_any};
-ghost use Rattle.http_routes.specs.Routes.{path_of, segment_of, is_slash};
+ghost use Rattle.http_routes.specs.Routes.{path_of, segment_of};
 
 /// The prefix of the path of a policy; the policy's id follows.
 const POLICIES: &[u8] = b"/v1/policies/";
@@ -19,20 +18,13 @@ pub(crate) fn path_of(target: &[u8]) -> &[u8]
     target
 }
 
-/// Returns whether the bytes contain a slash, and so are more than one segment.
-fn has_slash(bytes: &[u8]) -> bool
-    ensures { result ≡ list_any is_slash bytes.now }
-{
-    bytes.contains(&b'/')
-}
-
 /// Returns the segment that names a policy, if the path is that of one.
 #[tactic(auto, unfolding(crate::specs::Routes::segment_of, crate::specs::Routes::policies))]
 pub(crate) fn segment_of(path: &[u8]) -> Option<&[u8]>
     ensures { option_map (λ s. s.now) result ≡ segment_of path.now }
 {
     match path.strip_prefix(POLICIES) {
-        Some(rest) if !has_slash(rest) => Some(rest),
+        Some(rest) if !rest.contains(&b'/') => Some(rest),
         _ => None,
     }
 }

@@ -6,3 +6,4 @@ pub mod OneReply
 pub mod LoggedRuns
 pub mod Noted
 pub mod UnreadLemmas
+mod LineLaws

@@ -3,22 +3,21 @@ use Rattle.std.proofs.Common.{◌≡◌, ℕ, List, [], ◌++◌, drop, take, le
 use Rattle.std.proofs.Common.{IsTrue, option_and_then}
 use Rattle.std.proofs.lemmas.Bool.{false≢true}
 use Rattle.json_words.specs.Json.{json_of}
+use Rattle.serde_json.specs.Data.{Data}
 use Rattle.site_calls.specs.http_replies.entity_uids.Uids.{uid_in}
 use Rattle.std.proofs.lemmas.List.{drop_at, take_at}
 use Rattle.http.specs.declared.status.StatusCode.{StatusCode}
-use Rattle.http_logs.specs.LogLines.{IsUndone, head_text, log_line, plain_tail, tail_of, text_of, unread_line}
+use Rattle.http_logs.specs.LogLines.{IsUndone, decided_tail, head_text, plain_tail, tail_of, text_of, unread_line}
 use Rattle.site_calls.proofs.of_http_replies.LineLemmas.{one_line}
 use Rattle.site_calls.specs.http_replies.Replies.{fault_reply, status_reply}
-use Rattle.site_calls.specs.http_replies.site_steps.SiteViews.{SiteView, schema_of, store_in, IsSameSite}
-use Rattle.site_calls.specs.http_replies.site_steps.Runs.{Step}
+use Rattle.site_calls.specs.http_replies.site_steps.SiteViews.{SiteView}
 use Rattle.site_calls.specs.http_replies.site_steps.Inputs as input
 use Rattle.site_calls.specs.http_replies.site_steps.declared.fault.SiteFault.TheVariants as fault
-use Rattle.site_calls.specs.http_replies.site_steps.declared.reply.Reply.{Reply}
 use Rattle.site_calls.specs.http_replies.site_steps.declared.reply.Reply.TheVariants as reply
 use Rattle.http_routes.specs.Routes.{has_id, route_stated}
 use Rattle.http_routes.specs.declared.route.Route.{Route}
 use Rattle.http_routes.specs.declared.route.Route.TheVariants as route
-use Rattle.site_calls.specs.Asked.{Asked, gives, unserved}
+use Rattle.site_calls.specs.Asked.{Asked, unserved}
 use Rattle.http_service.specs.Asked.{asked}
 use Rattle.site_calls.specs.Answers.{Appends, Replies}
 use Rattle.http_service.specs.inner.Noting.{DealsLogged, DealsNoted, LacksMemory, unserved_status}
@@ -35,36 +34,42 @@ noted_so old new asking body status before after line ended shown at len cut (to
   e ∙ ap (λ (r : List ℕ). line ++ tail_of asking status body r) (cut ∙ ap (drop at) f ∙ drop_at before told at len),
 )
 
-decided_lacks : (old new : SiteView) (body : List ℕ) (r : Reply)
-    → Step (schema_of old) old.name (store_in old) (input.Authorize body) r (store_in new) → IsSameSite old new
-    → Replies old (gives (input.Authorize body)) (fault_reply fault.NoMemory).0 (fault_reply fault.NoMemory).1 new
-decided_lacks old new body (reply.Answered r) step same = (reply.Answered (Err fault.NoMemory), (tt, step.1), same, refl)
-decided_lacks old new body (reply.Put r) step same = absurd step
-decided_lacks old new body (reply.Stamped r) step same = absurd step
-decided_lacks old new body (reply.Taken r) step same = absurd step
-decided_lacks old new body (reply.Found r) step same = absurd step
-decided_lacks old new body (reply.Written r) step same = absurd step
-
-lacks_at : (old new : SiteView) (asking : Route) (body line : List ℕ) → asking ≡ route.Authorize
-    → (status : StatusCode) (told : List ℕ) → Replies old (asked asking body) status told new
-    → Replies old (asked asking body) (fault_reply fault.NoMemory).0 (fault_reply fault.NoMemory).1 new
-lacks_at old new asking body line is status told h =
-    let there = subst (λ (r : Route). Replies old (asked r body) status told new) is h in
-    subst (λ (r : Route). Replies old (asked r body) (fault_reply fault.NoMemory).0 (fault_reply fault.NoMemory).1 new) (sym is)
-    (decided_lacks old new body there.0 there.1 there.2)
-
--- a decision whose line finds no memory
-pub noted_lacking : (old new : SiteView) (asking : Route) (body : List ℕ) (status told : StatusCode) (before after cut last line ended : List ℕ)
-    → asking ≡ route.Authorize → Appends old (asked asking body) status before after new → cut ≡ before
-    → told ≡ (fault_reply fault.NoMemory).0 → last ≡ cut ++ (fault_reply fault.NoMemory).1 → ended ≡ line ++ plain_tail told
-    → DealsNoted old asking body told before last line ended new
-noted_lacking old new asking body status told before after cut last line ended is (shown, f, replies) c e g h = (
+-- a decision whose memory is refused
+pub undecided : (site : SiteView) (body : List ℕ) (status : StatusCode) (before after line ended : List ℕ)
+    → status ≡ (fault_reply fault.NoMemory).0 → after ≡ before ++ (fault_reply fault.NoMemory).1
+    → ended ≡ line ++ plain_tail status → DealsNoted site route.Authorize body status before after line ended site
+undecided site body status before after line ended e g h = (
   (fault_reply fault.NoMemory).1,
-  g ∙ ap (λ (t : List ℕ). t ++ (fault_reply fault.NoMemory).1) c,
-  subst (λ (s : StatusCode). Replies old (asked asking body) s (fault_reply fault.NoMemory).1 new) (sym e)
-      (lacks_at old new asking body line is status shown replies),
-  h ∙ subst (λ (s : StatusCode). line ++ plain_tail s ≡ line ++ tail_of asking s body (fault_reply fault.NoMemory).1) (sym e) refl,
+  g,
+  (reply.Answered (Err fault.NoMemory), (tt, refl), (refl, refl), ap (λ (s : StatusCode). (s, (fault_reply fault.NoMemory).1)) e),
+  h ∙ subst (λ (s : StatusCode). line ++ plain_tail s ≡ line ++ tail_of route.Authorize s body (fault_reply fault.NoMemory).1)
+      (sym e) refl,
 )
+
+-- the same from what was cut back
+pub noted_from : (site : SiteView) (body : List ℕ) (status : StatusCode) (before cut after line kept ended : List ℕ)
+    → cut ≡ before → kept ≡ line → DealsNoted site route.Authorize body status cut after kept ended site
+    → DealsNoted site route.Authorize body status before after line ended site
+noted_from site body status before cut after line kept ended e g (told, f, replies, is) = (
+  told,
+  f ∙ ap (λ (t : List ℕ). t ++ told) e,
+  replies,
+  is ∙ ap (λ (l : List ℕ). l ++ tail_of route.Authorize status body told) g,
+)
+
+-- the line of a decision is that of the request's JSON
+tail_by : (line ended body : List ℕ) (json : Option Data) (status : StatusCode) (shown : List ℕ) → json_of body ≡ json
+    → ended ≡ line ++ decided_tail status json shown → ended ≡ line ++ tail_of route.Authorize status body shown
+tail_by line ended body json status shown is e = e ∙ sym (ap (λ (o : Option Data). line ++ decided_tail status o shown) is)
+
+-- a decision and its line, both from that JSON
+pub noted_by : (site : SiteView) (body : List ℕ) (json : Option Data) (status : StatusCode) (before after line ended shown : List ℕ) (at : ℕ)
+    → length before ≡ at → shown ≡ drop at after → json_of body ≡ json
+    → Appends site (asked route.Authorize body) status before after site → ended ≡ line ++ decided_tail status json shown
+    → DealsNoted site route.Authorize body status before after line ended site
+noted_by site body json status before after line ended shown at len cut is appends e =
+    noted_so site site route.Authorize body status before after line ended shown at len cut appends
+    (tail_by line ended body json status shown is e)
 
 -- what was cut off is what was there
 pub cut_back : (before after cut : List ℕ) (at : ℕ) → length before ≡ at → ((told : List ℕ) × (after ≡ before ++ told)) → cut ≡ take at after

@@ -1,6 +1,6 @@
--- Defines how a request is answered, and what that leaves of the site.
+-- Defines the reply to a request, and the site afterwards.
 -- Source: docs/formats.md, of the routes.
--- Rules of this product: a request is answered as what its route and its body ask.
+-- Rules of this product: the reply is that of the call that the route and the body ask for.
 use Rattle.std.specs.Prelude.{◌≡◌, ℕ, List}
 use Rattle.http.specs.declared.status.StatusCode.{StatusCode}
 use Rattle.site_calls.specs.http_replies.site_steps.schema.Views.{IsStated}
@@ -17,12 +17,12 @@ abbrev pub answers : SiteView → List ℕ → List ℕ → List ℕ → StatusC
 answers old method target body status line new =
     Replies old (asked (route_stated method target) body) status line new
 
--- `answers_over` is the same of a borrowed site, which stays borrowed.
+-- `answers_over` is the same relation for a borrowed site, which stays borrowed.
 abbrev pub answers_over : SiteService → List ℕ → List ℕ → List ℕ → StatusCode → List ℕ → SiteService → Type 0
 answers_over old method target body status line new =
     answers old.site.now method target body status line new.site.now × (new.site.ghost_name ≡ old.site.ghost_name)
 
--- `answers_logged` is the same of the service that states lines for a log.
+-- `answers_logged` is the same relation for the service that makes lines for a log.
 abbrev pub answers_logged :
     LoggedService → List ℕ → List ℕ → List ℕ → StatusCode → List ℕ → LoggedService → Type 0
 answers_logged old method target body status line new =

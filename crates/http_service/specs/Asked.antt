@@ -1,6 +1,6 @@
 -- Defines what a request asks of a site, by its route and its body.
 -- Source: docs/formats.md, of the routes.
--- Rules of this product: a body is ignored where nothing is asked of it; an unknown path is 404, another method 405.
+-- Rules of this product: a body is ignored if its route needs none; an unknown path is 404, another method 405.
 use Rattle.std.specs.Prelude.{ℕ, List, option_and_then}
 use Rattle.json_words.specs.Json.{json_of}
 use Rattle.site_calls.specs.http_replies.entity_uids.Uids.{uid_in}
@@ -13,7 +13,7 @@ use Rattle.http_routes.specs.declared.route.PolicyId.TheVariants.{Named, NotUtf8
 use Rattle.http_routes.specs.declared.route.Route.{Route}
 use Rattle.http_routes.specs.declared.route.Route.TheVariants as route
 
--- `upon id asks` is what is asked of the policy of this id.
+-- `upon id asks` is `asks` of the policy id `id`; an id that is not UTF-8 is rejected as a bad id.
 abbrev pub upon : PolicyId → (List ℕ → Asked) → Asked
 upon (Named id) asks = asks id
 upon NotUtf8 asks = rejects (fault.Policy BadId)

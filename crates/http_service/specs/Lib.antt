@@ -1,6 +1,7 @@
 pub mod inner
 pub mod Asked
 pub mod Answered
+pub mod Lines
 pub mod Streams
 pub mod Serving
 -- crates below, passed on to those above

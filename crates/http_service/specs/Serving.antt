@@ -28,7 +28,7 @@ unasked site = record { site = site; inputs = []; replies = [] }
 
 -- `Continues old a status line new` holds if the request that asks `a` may be answered by `status` and `line`, from
 -- `old` to `new`. An input is one step of the site, whose reply is the next of the run; a request that is rejected
--- before, or asks for no operation, is no part of the run.
+-- before it becomes an input, or asks for no operation, is not part of the run.
 abbrev pub Continues : Served → Asked → StatusCode → List ℕ → Served → Type 0
 Continues old (gives i) status line new =
     (r : Reply) × Step (schema_of old.site) old.site.name (store_in old.site) i r (store_in new.site)
@@ -39,7 +39,7 @@ Continues old (rejects f) status line new =
 Continues old (unserved s) status line new =
     Replies old.site (unserved s) status line new.site × (new.inputs ≡ old.inputs) × (new.replies ≡ old.replies)
 
--- `continues_run` is the same of a request by its method, target and body.
+-- `continues_run` is the same relation for a request with a method, a target and a body.
 abbrev pub continues_run : Served → List ℕ → List ℕ → List ℕ → StatusCode → List ℕ → Served → Type 0
 continues_run old method target body status line new =
     Continues old (asked (route_stated method target) body) status line new
@@ -48,10 +48,10 @@ continues_run old method target body status line new =
 module _ {R W : Type 0} (left : R → Option (List ℕ)) (read_failures : R → ℕ) (reads : R → ℕ → List ℕ → R → Type 0)
     (read_fails : R → R → Type 0) (holds : W → Option (List ℕ)) (write_failures : W → ℕ)
     (write_fails : W → W → Type 0) where
-  -- `IsServed first last before after old new result` holds of one call that serves the site `old`. It read requests,
-  -- whose inputs are `inputs`, in order, and wrote their replies, with those of the site to these inputs among them;
-  -- the run of the inputs with these replies led from `old` to `new`. The result says how the stream ended, and so
-  -- which requests are answered: all, or those up to a reply of which a first part was sent.
+  -- `IsServed first last before after old new result` holds if one call served the site `old` and left `new`. It read
+  -- requests, whose inputs are `inputs`, in order, and wrote their replies, among them the site's replies to these
+  -- inputs; the run of the inputs with these replies leads from `old` to `new`. The result says how the stream ended,
+  -- and so which requests are answered: all, or those up to a reply of which a first part was sent.
   -- An example: `PUT /v1/policies/a` and `GET /nowhere` are read, and then the end. The one input is the put of that
   -- text under `a`, and its reply is a stamp; written are the reply 200 with the stamp and the reply 404; the new
   -- store is the join of the updates that the site had and this one.
@@ -63,7 +63,7 @@ module _ {R W : Type 0} (left : R → Option (List ℕ)) (read_failures : R → 
     pub answered :
         IsAnswered continues_run left read_failures reads read_fails holds write_failures write_fails first last
         before after (unasked old) (record { site = new; inputs = inputs; replies = replies }) result
-    -- so the promise of a run of one site holds
+    -- so the theorems on runs of one site apply
     pub run : Run (schema_of old) old.name (store_in old) inputs replies (store_in new)
     pub store : store_in new ≡ store_of (updates (store_in old) ++ took (schema_of old) inputs replies)
     pub same : IsSameSite old new

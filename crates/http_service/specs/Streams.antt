@@ -1,4 +1,4 @@
--- Defines what a stream of requests leaves of a site: what the run of their inputs leaves.
+-- Defines the site after a stream of requests: the site after the run of their inputs.
 -- Source: RFC 9112, section 9.3.
 use Rattle.std.specs.Prelude.{◌≡◌, ℕ, suc, zero, List, [], ◌∷◌, ◌++◌}
 use Rattle.httparse.specs.Grammar.{RequestHead}
@@ -12,7 +12,7 @@ use Rattle.http_routes.specs.Routes.{route_stated}
 use Rattle.site_calls.specs.Asked.{Asked, gives, rejects, unserved}
 use Rattle.http_service.specs.Asked.{asked}
 
--- `inputs_of a` is the list of the inputs of a request: one or none.
+-- `inputs_of a` is the list of the inputs of a request: one, or an empty list.
 abbrev pub inputs_of : Asked → List Input
 inputs_of (gives i) = i ∷ []
 inputs_of (rejects f) = []
@@ -25,8 +25,8 @@ AskFor (suc n) bytes rest is =
     (head : RequestHead) × (body : List ℕ) × (after : List ℕ) × (more : List Input) × ReadsWhole bytes head body after
     × (is ≡ inputs_of (asked (route_stated head.method head.target) body) ++ more) × AskFor n after rest more
 
--- `LeavesRun old bytes new` holds if the site `new` is what a run of the inputs of the first `count` requests of
--- `bytes` leaves of `old`: its store is the join of the updates that it had and those that it applied.
+-- `LeavesRun old bytes new` holds if a run of the inputs of the first `count` requests in `bytes` leads from the site
+-- `old` to `new`: its store is the join of the updates that it had and those that it applied.
 pub record LeavesRun (old : SiteView) (bytes : List ℕ) (new : SiteView) : Type 0 where
   pub count : ℕ
   pub rest : List ℕ

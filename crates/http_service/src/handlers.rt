@@ -1,26 +1,30 @@
-//! What each request asks of the site, with its reply: a handler a route.
-ghost use Rattle.std.specs.Prelude.{◌≡◌, ◌≤◌, ◌+◌, [], vec_len};
+//! The handler of each route: the call of the site, and its reply.
+ghost use Rattle.std.specs.Prelude.{◌≡◌, ◌≢◌, ◌≤◌, ◌+◌, ℕ, List, [], option_map, vec_len};
 ghost use Rattle.std.specs.Vec.{vec_capacity};
+ghost use Rattle.serde_json.specs.View.{view};
+ghost use Rattle.json_words.specs.Json.{json_of};
 ghost use Rattle.http_streams.specs.declared.TheConstants.{REPLY_ROOM};
 ghost use Rattle.http_routes.specs.Routes.{route_stated};
+ghost use Rattle.site_calls.specs.site_steps.SiteViews.{SiteView};
 ghost use Rattle.site_calls.specs.Answers.{Appends};
 ghost use Rattle.http_service.specs.Asked.{asked};
 ghost use Rattle.http_logs.specs.declared.TheConstants.{TAIL_ROOM, UNREAD_ROOM};
 ghost use Rattle.http_service.specs.inner.Noting.{DealsLogged, DealsNoted, LacksMemory, unserved_status};
 
 use http::StatusCode;
-use http_logs::{put_head, put_plain_tail, put_tail, put_unread_line};
+use http_logs::{put_decided_tail, put_head, put_plain_tail, put_tail, put_unread_line};
 use http_routes::{PolicyId, Route, route_of};
-use json_values::Scratch;
+use json_values::{Scratch, read_json_by};
+use serde_json::Value;
 use site_calls::{
-    Input, ReadFault, Site, SiteFault, delete_entity, put_text, reply_to, report_fault,
-    report_status,
+    Input, ReadFault, Site, SiteFault, delete_entity, put_text, reply_to, reply_to_request,
+    report_fault, report_status,
 };
 use std::alloc::Global;
 
 // ---- routes
 
-/// Answers what a route asks with this body.
+/// Answers a request of this route and body.
 fn answer_route(
     alloc: Global,
     scratch: &mut Scratch,
@@ -66,8 +70,8 @@ fn answer_route(
     }
 }
 
-/// Answers a request: one step of the site at most, and the reply to it behind the text that is there. Nothing of what
-/// the scratch held before is told.
+/// Answers a request: at most one step of the site, whose reply is appended to the text. The old content of the scratch
+/// has no effect.
 pub(crate) fn answer(
     alloc: Global,
     scratch: &mut Scratch,
@@ -90,7 +94,7 @@ pub(crate) fn answer(
 
 // ---- with a log
 
-/// Returns the status of what asks for no operation, or None where an operation is asked for.
+/// Returns the status of a request for no operation, or None for an operation.
 fn unserved_status(route: &Route) -> Option<StatusCode>
     ensures { result ≡ unserved_status route.now }
 {
@@ -110,8 +114,8 @@ fn unserved_status(route: &Route) -> Option<StatusCode>
     }
 }
 
-/// Reports that memory was refused before anything was done. What asks for no operation has its own status, whatever
-/// the memory.
+/// Reports that an allocation failed before anything was done. A request for no operation has its own status, also when
+/// out of memory.
 fn report_lacking(route: &Route, text: &mut Vec<u8>) -> StatusCode
     requires room { vec_len text.old + REPLY_ROOM ≤ vec_capacity text.old }
     ensures reply { LacksMemory route.now result text.old.items text.new.items }
@@ -123,8 +127,94 @@ fn report_lacking(route: &Route, text: &mut Vec<u8>) -> StatusCode
     }
 }
 
-/// Answers what a route asks, behind a line that has its beginning, and ends the line. If there is no memory for the
-/// line of a decision, that is the reply in place of the decision.
+/// Reports that an allocation failed for a decision, and ends its line.
+fn report_undecided(text: &mut Vec<u8>, line: &mut Vec<u8>) -> StatusCode
+    requires room { vec_len text.old + REPLY_ROOM ≤ vec_capacity text.old }
+    requires tail { vec_len line.old + TAIL_ROOM ≤ vec_capacity line.old }
+    ensures reply { (site : SiteView) (body : List ℕ) → DealsNoted site Route.Authorize body result text.old.items
+        text.new.items line.old.items line.new.items site }
+    ensures kept { vec_capacity text.old ≤ vec_capacity text.new }
+    ensures line_kept { vec_capacity line.old ≤ vec_capacity line.new }
+{
+    let status = report_fault(text, SiteFault::NoMemory);
+    put_plain_tail(line, status);
+    status
+}
+
+/// Decides the request whose body was parsed as this JSON, and ends its line, which has its beginning. If the line
+/// cannot be allocated, the reply is that error in place of the decision.
+fn decide_parsed(
+    alloc: Global,
+    site: &Site,
+    json: &Option<Value>,
+    text: &mut Vec<u8>,
+    line: &mut Vec<u8>,
+) -> StatusCode
+    requires room { vec_len text.old + REPLY_ROOM ≤ vec_capacity text.old }
+    requires tail { vec_len line.old + TAIL_ROOM ≤ vec_capacity line.old }
+    ensures reply { (body : List ℕ) → json_of body ≡ option_map view json.now → DealsNoted site.now Route.Authorize body
+        result text.old.items text.new.items line.old.items line.new.items site.now }
+    ensures kept { vec_capacity text.old ≤ vec_capacity text.new }
+    ensures line_kept { vec_capacity line.old ≤ vec_capacity line.new }
+{
+    let before = text.len();
+    let status = reply_to_request(alloc, site, json, text);
+    match put_decided_tail(alloc, line, json, status, &text[before..]) {
+        Ok(()) => status,
+        Err(_) => {
+            text.truncate(before);
+            report_undecided(text, line)
+        }
+    }
+}
+
+/// Decides a request, and ends its line, which has its beginning. The body is parsed once, for both.
+fn decide_noted(
+    alloc: Global,
+    scratch: &mut Scratch,
+    site: &Site,
+    body: &[u8],
+    text: &mut Vec<u8>,
+    line: &mut Vec<u8>,
+) -> StatusCode
+    requires room { vec_len text.old + REPLY_ROOM ≤ vec_capacity text.old }
+    requires tail { vec_len line.old + TAIL_ROOM ≤ vec_capacity line.old }
+    ensures reply { DealsNoted site.now Route.Authorize body.now result text.old.items text.new.items line.old.items
+        line.new.items site.now }
+    ensures kept { vec_capacity text.old ≤ vec_capacity text.new }
+    ensures line_kept { vec_capacity line.old ≤ vec_capacity line.new }
+{
+    match read_json_by(scratch, alloc, body) {
+        Ok(json) => decide_parsed(alloc, site, &json, text, line),
+        Err(_) => report_undecided(text, line),
+    }
+}
+
+/// Answers a request of a route other than that of decisions, and ends its line, which has its beginning.
+fn answer_undecided(
+    alloc: Global,
+    scratch: &mut Scratch,
+    site: &mut Site,
+    route: &Route,
+    body: &[u8],
+    text: &mut Vec<u8>,
+    line: &mut Vec<u8>,
+) -> StatusCode
+    requires other { route.now ≢ Route.Authorize }
+    requires room { vec_len text.old + REPLY_ROOM ≤ vec_capacity text.old }
+    requires tail { vec_len line.old + TAIL_ROOM ≤ vec_capacity line.old }
+    ensures reply { DealsNoted site.old route.now body.now result text.old.items text.new.items line.old.items
+        line.new.items site.new }
+    ensures kept { vec_capacity text.old ≤ vec_capacity text.new }
+    ensures line_kept { vec_capacity line.old ≤ vec_capacity line.new }
+{
+    let before = text.len();
+    let status = answer_route(alloc, scratch, site, route, body, text);
+    put_tail(line, route, status, &text[before..]);
+    status
+}
+
+/// Answers a request of a route, and ends its line, which has its beginning.
 fn answer_noted(
     alloc: Global,
     scratch: &mut Scratch,
@@ -141,21 +231,14 @@ fn answer_noted(
     ensures kept { vec_capacity text.old ≤ vec_capacity text.new }
     ensures line_kept { vec_capacity line.old ≤ vec_capacity line.new }
 {
-    let before = text.len();
-    let status = answer_route(alloc, scratch, site, route, body, text);
-    match put_tail(alloc, scratch, line, route, body, status, &text[before..]) {
-        Ok(()) => status,
-        Err(_) => {
-            text.truncate(before);
-            let status = report_fault(text, SiteFault::NoMemory);
-            put_plain_tail(line, status);
-            status
-        }
+    match route {
+        Route::Authorize => decide_noted(alloc, scratch, site, body, text, line),
+        _ => answer_undecided(alloc, scratch, site, route, body, text, line),
     }
 }
 
-/// Answers a request like [`answer`], and puts its line. Where there is no memory for method and target in it, nothing
-/// is done.
+/// Answers a request like [`answer`], and puts its line. If method and target in it cannot be allocated, nothing is
+/// done.
 pub(crate) fn answer_with_line(
     alloc: Global,
     scratch: &mut Scratch,

@@ -1,11 +1,18 @@
-//! Laws of streams over a site.
-ghost use Rattle.std.specs.Prelude.{◌≡◌, ℕ, List, Result};
+//! Theorems on streams over a site.
+ghost use Rattle.std.specs.Prelude.{◌≡◌, ◌≤◌, ◌++◌, ℕ, Bool, List, Result, length};
 ghost use Rattle.std.specs.Io.KnownBytes.{Consumes};
 ghost use Rattle.http.specs.declared.status.StatusCode.{StatusCode};
+ghost use Rattle.http_logs.specs.LogLines.{IsLogLine, head_text, text_of};
+ghost use Rattle.http_logs.specs.OneLine.{IsOneLine};
+ghost use Rattle.http_routes.specs.Routes.{route_stated};
 ghost use Rattle.http_streams.specs.Laws.{AgreeOn, AnswersAll, BeginsAnswer, HasOneAnswer, StopsIn, in_memory};
 ghost use Rattle.http_streams.specs.Serving.{IsAnswered};
 ghost use Rattle.http_streams.specs.Stream.{Ends, Rests, Stops};
+ghost use Rattle.site_calls.specs.http_replies.Lines.{put_line, stamp_line};
 ghost use Rattle.site_calls.specs.http_replies.site_steps.SiteViews.{SiteView};
+ghost use Rattle.site_calls.specs.http_replies.site_steps.Steps.{most_count};
+ghost use Rattle.site_calls.specs.http_replies.site_steps.stamped_store.SiteNames.{IsSiteName};
+ghost use Rattle.site_calls.specs.http_replies.site_steps.stamped_store.declared.entry.Stamp.{Stamp};
 ghost use Rattle.site_calls.specs.http_replies.site_steps.Inputs.{Input};
 ghost use Rattle.site_calls.specs.http_replies.site_steps.declared.reply.Reply.{Reply};
 ghost use Rattle.site_calls.specs.http_replies.site_steps.schema.Views.{IsStated};
@@ -14,6 +21,7 @@ ghost use Rattle.site_calls.specs.Answers.{Replies};
 ghost use Rattle.site_calls.specs.Asked.{gives};
 ghost use Rattle.site_calls.specs.Reports.{reported};
 ghost use Rattle.http_service.specs.Answered.{IsAlike, answers};
+ghost use Rattle.http_service.specs.Lines.{IsChange, stamped_end};
 ghost use Rattle.http_service.specs.Serving.{IsServed};
 ghost use Rattle.http_service.specs.Streams.{AskFor, LeavesRun};
 
@@ -23,8 +31,8 @@ use http_streams::serve::StreamFault;
 use http_streams::{Sink, Source};
 use site_calls::{inputs_have_one_outcome, runs_are_sound, runs_leave_what_they_took};
 
-/// However a stream of requests ends, the site goes on by a run of the inputs that the requests ask for, in their
-/// order: so its store is that of the updates that it had and of those that it took.
+/// Proves, however a stream of requests ends: the site afterwards is the result of a run of the inputs that the
+/// requests ask for, in order. So its store is that of the updates that it had and of those that it applied. No-op.
 pub fn streams_leave_runs()
     ensures rests { (old new : SiteView) (bytes out : List ℕ) → Rests answers old bytes out new
         → LeavesRun old bytes new }
@@ -36,10 +44,12 @@ pub fn streams_leave_runs()
     runs_leave_what_they_took();
 }
 
-/// What is said of a call that served a site (`IsServed`), in parts. `answered`: each request that was read is answered
-/// by the site as it then was, what was written are these replies, and the stream ended as the result says. `asked`:
-/// the inputs of the run are those that the first requests of what was read ask for. `run`: so the site's store is that
-/// of the updates that it had and of those that it took.
+/// Proves the parts of the promise on a call that served a site (`IsServed`). No-op.
+///
+/// - `answered`: the site as it then was answered each request that was read, the replies were written, and the stream
+///   ended as the result says.
+/// - `asked`: the inputs of the run are those that the first requests of what was read ask for.
+/// - `run`: so the site's store is that of the updates that it had and of those that it applied.
 pub fn served_streams_are_answered<R: Source, W: Sink>()
     ensures answered { (first last : R) (before after : W) (old new : SiteView) (result : Result (Unit {0}) StreamFault)
         → IsServed R.left R.failed R.reads R.fails W.holds W.failed W.fails first last before after old new result
@@ -55,18 +65,18 @@ pub fn served_streams_are_answered<R: Source, W: Sink>()
     runs_leave_what_they_took();
 }
 
-/// Sites of one schema, of one name and with equal stores answer each request by the same status and the same body, and
-/// hold equal stores afterwards, want of memory (503) aside.
+/// Proves that sites with one schema, one name and equal stores answer each request by the same status and body, and
+/// hold equal stores afterwards, except when out of memory (503). No-op.
 pub fn requests_have_one_reply()
     ensures { HasOneAnswer (in_memory answers) IsAlike }
 {
     inputs_have_one_outcome();
 }
 
-/// However a stream of requests is cut into reads, the same bytes go out, and the site holds the same store, want of
-/// memory (503) aside; and what went out before a read or a write failed, or memory was refused, is a beginning of
-/// these bytes. The one corner: a stream that ends inside a request target whose bytes are no UTF-8 may get the reply
-/// 400 or nothing. That an answer is one in memory, or a 503 stands in it, is `http_streams::laws::in_memory_or_503`.
+/// Proves, however a stream of requests is split into reads: the same bytes are sent, and the site holds the same
+/// store, except when out of memory (503); what is sent before a failed read, write or allocation is a prefix of these.
+/// The one exception: a stream that ends inside a request target that is not UTF-8 may get the reply 400 or nothing.
+/// `http_streams::laws::in_memory_or_503` proves that an answer is one with memory or contains a 503. No-op.
 pub fn cuts_make_no_difference()
     ensures whole { (old old2 new new2 : SiteView) (stream out more : List ℕ) → IsAlike old old2
         → AnswersAll (in_memory answers) old stream out new → AnswersAll (in_memory answers) old2 stream more new2
@@ -80,9 +90,8 @@ pub fn cuts_make_no_difference()
     begins_answer::<ViewedSite>();
 }
 
-/// What a request that is handed to a site is replied tells of no error of type, of attribute or of an extension
-/// function: it is the reply of one step, in whose answer a policy errs since an entity is not stored, or since a
-/// number leaves its bounds.
+/// Proves that no reply to an input reports an error of a type, an attribute or an extension function: it is the reply
+/// of one step, in whose answer a policy errs only since an entity is not stored, or a number is out of bounds. No-op.
 pub fn served_answers_are_sound()
     ensures { (old new : SiteView) (input : Input) (status : StatusCode) (line : List ℕ) → IsStated old.schema
         → Replies old (gives input) status line new
@@ -90,3 +99,23 @@ pub fn served_answers_are_sound()
 {
     runs_are_sound();
 }
+
+/// Proves that the log has the stamp of each change that was made: no stamp that a site issues has a line of more than
+/// 128 bytes, so the line of a put or a deletion with status 200 ends with the reply, which is the stamp. No-op.
+pub fn changes_tell_their_stamps()
+    ensures stamp { (s : Stamp) → IsSiteName s.site → s.count ≤ most_count → length (stamp_line s) ≤ 128 }
+    ensures put { (s : Stamp) (impossible : Bool) → IsSiteName s.site → s.count ≤ most_count
+        → length (put_line s impossible) ≤ 128 }
+    ensures line { (old new : SiteView) (method target body reply line : List ℕ) → IsSiteName old.name
+        → IsChange (route_stated method target) → answers old method target body 200 reply new
+        → IsLogLine method target body 200 reply line
+        → line ≡ head_text (text_of method) (text_of target) ++ stamped_end reply }
+{}
+
+/// Proves that the log can't be forged through the service: whatever a request is and however a site answers it, its
+/// line has one line feed, its last byte. No-op.
+pub fn served_lines_are_one_line()
+    ensures { (old new : SiteView) (method target body : List ℕ) (status : StatusCode) (reply line : List ℕ)
+        → answers old method target body status reply new → IsLogLine method target body status reply line
+        → IsOneLine line }
+{}

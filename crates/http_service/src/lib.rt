@@ -1,6 +1,6 @@
-//! The service over a site: handlers of the routes of HTTP, and streams of requests that are answered by it.
+//! The HTTP service over a site: a handler for each route, and the answers to streams of requests.
 //!
-//! Nothing here opens a socket. specs/ defines what a request asks; `site_calls` defines how that is answered, by at
+//! Nothing here opens a socket. specs/ defines the call that a request asks for; `site_calls` defines its reply, by at
 //! most one step of the site.
 #![tactic(auto)]
 
@@ -15,8 +15,9 @@ pub use http_streams::{
     Ask, Counted, Fed, Kept, Plan, Sink, Source, is_host, is_method, is_target,
 };
 pub use laws::{
-    cuts_make_no_difference, requests_have_one_reply, served_answers_are_sound,
-    served_streams_are_answered, streams_leave_runs,
+    changes_tell_their_stamps, cuts_make_no_difference, requests_have_one_reply,
+    served_answers_are_sound, served_lines_are_one_line, served_streams_are_answered,
+    streams_leave_runs,
 };
 pub use serving::{serve, serve_logged};
 pub use site_calls::{

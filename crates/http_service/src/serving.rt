@@ -15,7 +15,7 @@ use json_values::Scratch;
 use site_calls::{Site, runs_leave_what_they_took};
 use std::alloc::Global;
 
-/// Answers a stream over a borrowed site, which stays the same one.
+/// Answers a stream over a borrowed site.
 fn serve_borrowed<R: Source, W: Sink>(
     alloc: Global,
     service: &mut SiteService<'_>,
@@ -31,12 +31,15 @@ fn serve_borrowed<R: Source, W: Sink>(
     serve_stream(alloc, service, reader, writer)
 }
 
-/// Answers each whole request of the stream in order, before it reads on: each is one step of the site at most, told by
-/// its status and its body. It ends at the end of the input or after a reply that ends the stream.
+/// Answers each whole request of the stream in order, before it reads on: each is at most one step of the site,
+/// reported by status and body. It ends at the end of the input or after a reply that ends the stream.
 ///
-/// Less than a whole request changes nothing. A site's refusals, and want of memory for what one request asks, are
-/// replies (404, 405, 409, 422, 503), and the stream goes on; schema and name stay. The faults here are those of
-/// reader and writer, and want of memory for what is to be read next.
+/// Less than a whole request changes nothing. The site's errors, and lack of memory for one request, are replies (404,
+/// 405, 409, 422, 503), and the stream goes on; schema and name are unchanged.
+///
+/// # Errors
+///
+/// Those of the reader and the writer, and lack of memory for the next read.
 pub fn serve<R: Source, W: Sink>(
     alloc: Global,
     site: &mut Site,
@@ -45,7 +48,7 @@ pub fn serve<R: Source, W: Sink>(
 ) -> Result<(), StreamFault>
     ensures served { IsServed R.left R.failed R.reads R.fails W.holds W.failed W.fails reader.old reader.new writer.old
         writer.new site.old site.new result }
-    // Without a log no line is cut.
+    // Without a log no line can fail.
     ensures unlogged { result ≢ Err StreamFault.Log }
 {
     let mut scratch = Scratch::new(alloc);
@@ -57,7 +60,7 @@ pub fn serve<R: Source, W: Sink>(
     serve_borrowed(alloc, &mut service, reader, writer)
 }
 
-/// Answers a stream with a log over a borrowed site, which stays the same one.
+/// Answers a stream with a log over a borrowed site.
 fn serve_borrowed_logged<R: Source, W: Sink, L: Sink>(
     alloc: Global,
     logged: &mut LoggedService<'_>,
@@ -77,9 +80,9 @@ fn serve_borrowed_logged<R: Source, W: Sink, L: Sink>(
     serve_stream_logged(alloc, logged, reader, writer, log, line)
 }
 
-/// Serves like [`serve`], with a log: the line of each reply is written to `log` before anything of the reply goes out
-/// (docs/formats.md). If it can't be written whole, nothing of the reply goes out and the stream ends with
-/// [`StreamFault::Log`]; a change that the request made stays made.
+/// Serves like [`serve`], with a log: the line of each reply is written to `log` before anything of the reply is sent
+/// (docs/formats.md). If it can't be written whole, nothing of the reply is sent and the stream ends with
+/// [`StreamFault::Log`]; a change that the request made remains.
 pub fn serve_logged<R: Source, W: Sink, L: Sink>(
     alloc: Global,
     site: &mut Site,

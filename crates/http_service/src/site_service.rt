@@ -1,4 +1,4 @@
-//! A site as a service of HTTP.
+//! A site as an HTTP service.
 ghost use Rattle.std.specs.Prelude.{◌≡◌, ◌≤◌, []};
 ghost use Rattle.std.specs.Vec.{vec_capacity};
 ghost use Rattle.http_logs.specs.LogLines.{unread_line};
@@ -12,12 +12,11 @@ use site_calls::Site;
 use std::alloc::Global;
 use std::marker::Model;
 
-/// A site that answers requests of HTTP, each by one step at most. It is borrowed: whoever lent it has it again, with
-/// what the requests left.
+/// A borrowed site that answers HTTP requests, each by at most one step.
 #[derive(Drop)]
 pub struct SiteService<'a> {
     pub(crate) alloc: Global,
-    // lent to each body that is read, since a new one is zeroed whole
+    // reused for each body that is parsed, since a new one is zeroed whole
     pub(crate) kept: &'a mut Scratch,
     pub(crate) site: &'a mut Site,
 }
@@ -28,7 +27,7 @@ impl Answers for SiteService<'_> {
     ghost answers = { answers_over };
 }
 
-/// A site as laws of streams speak of it: its states are what contracts see of the site. Nothing holds one.
+/// A site as theorems on streams use it: its states are the views of a site in contracts. No value is ever made.
 #[derive(Drop)]
 pub struct ViewedSite {
     site: Site,
@@ -76,7 +75,7 @@ impl Service for SiteService<'_> {
     }
 }
 
-/// A site that answers requests of HTTP, and states the line of each for a log.
+/// A site that answers HTTP requests, and makes the line of each for a log.
 #[derive(Drop)]
 pub struct LoggedService<'a> {
     pub(crate) service: SiteService<'a>,

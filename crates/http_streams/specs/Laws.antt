@@ -7,8 +7,8 @@ use Rattle.http_streams.specs.Stream.{Answering, Ends, Exchanges, Rests, Serves,
 use Rattle.http_framing.specs.declared.TheConstants.{MAX_HEAD}
 use Rattle.http.specs.declared.status.StatusCode.{StatusCode}
 
--- `IsCorner rest` holds if the bytes `rest` end inside a target that is not UTF-8: they may be answered by 400 or not
--- at all, by how they are split.
+-- `IsCorner rest` holds if the bytes `rest` end inside a target that is not UTF-8: depending on how they are split,
+-- they are answered by 400 or not at all.
 pub record IsCorner (rest : List ℕ) : Type 0 where
   pub target : EndsInTarget rest
   pub never : NeverHasRequest rest

@@ -1,7 +1,7 @@
--- Defines what a log has of a stream: the line of each reply, written before the reply goes out.
+-- Defines the log of a stream: the line of each reply, written before the reply is sent.
 -- Source: docs/formats.md.
--- Rules of this product: a reply of which anything goes out has its whole line before; where a line is cut, nothing of
--- its reply goes out, and the stream ends.
+-- Rules of this product: before any byte of a reply is sent, its whole line is in the log; if a line is cut off,
+-- nothing of its reply is sent, and the stream ends.
 use Rattle.std.specs.Prelude.{◌≡◌, ◌<◌, ◌⊎◌, ℕ, Bool, true, Option, List, [], ◌++◌, length, Result, Ok, Err}
 use Rattle.std.specs.Io.KnownBytes.{Appends, Consumes}
 use Rattle.http_devices.specs.Devices.{FailsAtLast}
@@ -12,58 +12,60 @@ use Rattle.http_streams.specs.declared.serve.StreamFault.{StreamFault}
 use Rattle.http_streams.specs.declared.serve.StreamFault.TheVariants as fault
 use Rattle.http.specs.declared.status.StatusCode.{StatusCode}
 
--- `Lining`: of a request (method, target, body) and its reply (status, body) the log may get this line.
+-- `Lining`: a relation between a request (method, target, body), its reply (status, body) and the line that the log
+-- may get for them.
 abbrev pub Lining : Type 1
 Lining = List ℕ → List ℕ → List ℕ → StatusCode → List ℕ → List ℕ → Type 0
 
--- `IsFront line old new` holds if the bytes of a device went from `old` to `new` by a proper beginning of `line`.
+-- `IsFront line old new` holds if `new` is `old` followed by a proper prefix of `line`, for the bytes of a device.
 abbrev pub IsFront : List ℕ → Option (List ℕ) → Option (List ℕ) → Type 0
 IsFront line old new =
     (front : List ℕ) × (back : List ℕ) × (0 < length back) × (line ≡ front ++ back) × Appends old new front
 
--- what the log of a service gets of a request and of a refusal, and the bytes that a log took
+-- `lines` relates requests and replies to their lines; `refusal` below gives the line of a rejection by its status;
+-- `logged` gives the bytes that a log accepted
 module _ {L : Type 0} (lines : Lining) (logged : L → Option (List ℕ)) where
-  -- `notes old m t b status text new` holds if the log got the line of this request and this reply.
+  -- `notes old m t b status text new` holds if the log got the line for this request and this reply.
   abbrev pub notes : Answering L
   notes old m t b status text new =
       (line : List ℕ) × lines m t b status text line × Appends (logged old) (logged new) line
 
-  -- `cuts old m t b status text new` holds if it got that line but for its end.
+  -- `cuts old m t b status text new` holds if it got a proper prefix of that line.
   abbrev pub cuts : Answering L
   cuts old m t b status text new =
       (line : List ℕ) × lines m t b status text line × IsFront line (logged old) (logged new)
 
 module _ {L : Type 0} (lines : Lining) (refusal : StatusCode → List ℕ) (logged : L → Option (List ℕ)) where
-  -- `IsRefusalNoted old bytes reply new` holds if `bytes` are refused by `reply`, and the log got the line of that.
+  -- `IsRefusalNoted old bytes reply new` holds if `bytes` are rejected by `reply`, and the log got the line for that.
   abbrev pub IsRefusalNoted : L → List ℕ → List ℕ → L → Type 0
   IsRefusalNoted old bytes reply new = (status : StatusCode) × IsRefused bytes status
       × (reply ≡ reply_text true status (error_line status)) × Appends (logged old) (logged new) (refusal status)
 
-  -- `IsRefusalCut old bytes new` holds if `bytes` are refused, and the log got the line of that but for its end.
+  -- `IsRefusalCut old bytes new` holds if `bytes` are rejected, and the log got a proper prefix of the line for that.
   abbrev pub IsRefusalCut : L → List ℕ → L → Type 0
   IsRefusalCut old bytes new = (status : StatusCode) × IsRefused bytes status
       × IsFront (refusal status) (logged old) (logged new)
 
-  -- `IsNoted old bytes reply new` holds if `bytes` begin with a request or are refused, `reply` is the reply, and the
+  -- `IsNoted old bytes reply new` holds if `bytes` begin with a request or are rejected, `reply` is the reply, and the
   -- log got its line.
   abbrev pub IsNoted : L → List ℕ → List ℕ → L → Type 0
   IsNoted old bytes reply new =
       ((rest : List ℕ) × (last : Bool) × Exchanges (notes lines logged) old bytes last reply new rest)
       ⊎ IsRefusalNoted old bytes reply new
 
-  -- `IsCut old bytes new` holds if `bytes` begin with a request or are refused, and the log got the line of that but
-  -- for its end.
+  -- `IsCut old bytes new` holds if `bytes` begin with a request or are rejected, and the log got a proper prefix of the
+  -- line for that.
   abbrev pub IsCut : L → List ℕ → L → Type 0
   IsCut old bytes new =
       ((reply rest : List ℕ) × (last : Bool) × Exchanges (cuts lines logged) old bytes last reply new rest)
       ⊎ IsRefusalCut old bytes new
 
-  -- `IsLastNoted result old bytes out new` holds of how a stream ended behind the replies that went out whole: `out` is
-  -- what went out of one more.
-  -- Ok: there is none, or it ended the stream, its line was written, and it went out whole.
-  -- Write: its line was written, and it went out but for its end.
-  -- Log: its line was written but for its end, and nothing of it went out.
-  -- Read, NoMemory: there is none.
+  -- `IsLastNoted result old bytes out new` describes the end of a stream after its whole replies: `out` is what was
+  -- sent of one more reply, by `result`.
+  -- Ok: there is no further reply, or its line was written, all of it was sent, and it ended the stream.
+  -- Write: its line was written, and a proper prefix of it was sent.
+  -- Log: a proper prefix of its line was written, and nothing of it was sent.
+  -- Read, NoMemory: there is no further reply.
   abbrev pub IsLastNoted : Result (Unit {0}) StreamFault → L → List ℕ → List ℕ → L → Type 0
   IsLastNoted (Ok done) old bytes out new = ((out ≡ []) × (new ≡ old)) ⊎ IsNoted old bytes out new
   IsLastNoted (Err fault.Write) old bytes out new =
@@ -73,7 +75,7 @@ module _ {L : Type 0} (lines : Lining) (refusal : StatusCode → List ℕ) (logg
   IsLastNoted (Err fault.NoMemory) old bytes out new = (out ≡ []) × (new ≡ old)
 
   -- `AreNoted result old bytes out new` holds if `bytes` begin with requests, `out` is their replies, the log got the
-  -- line of each in this order, and the last one ended as `result` says.
+  -- line for each, in this order, and the last reply ended as `result` says (`IsLastNoted`).
   pub record AreNoted (result : Result (Unit {0}) StreamFault) (old : L) (bytes out : List ℕ) (new : L) : Type 0 where
     pub count : ℕ
     pub mid : L
@@ -86,7 +88,7 @@ module _ {L : Type 0} (lines : Lining) (refusal : StatusCode → List ℕ) (logg
 
 module _ {R W L : Type 0} (lines : Lining) (refusal : StatusCode → List ℕ) (logged : L → Option (List ℕ))
     (log_failures : L → ℕ) (log_fails : L → L → Type 0) (left : R → Option (List ℕ)) (holds : W → Option (List ℕ)) where
-  -- `HasLogFailed old new result` holds if the log failed exactly where the result says so, and then at its last call.
+  -- `HasLogFailed old new result` holds if the log failed if and only if `result` says so, and then at its last call.
   abbrev pub HasLogFailed : L → L → Result (Unit {0}) StreamFault → Type 0
   HasLogFailed old new (Ok done) = log_failures new ≡ log_failures old
   HasLogFailed old new (Err fault.Read) = log_failures new ≡ log_failures old
@@ -94,8 +96,8 @@ module _ {R W L : Type 0} (lines : Lining) (refusal : StatusCode → List ℕ) (
   HasLogFailed old new (Err fault.NoMemory) = log_failures new ≡ log_failures old
   HasLogFailed old new (Err fault.Log) = FailsAtLast log_failures log_fails old new
 
-  -- `IsLogged first last before after old new result` holds of one call: what was read, what was written, and the lines
-  -- that the log got.
+  -- `IsLogged first last before after old new result` relates what one call read, what it wrote, and the lines that the
+  -- log got.
   pub record IsLogged (first last : R) (before after : W) (old new : L) (result : Result (Unit {0}) StreamFault)
       : Type 0 where
     pub bytes : List ℕ

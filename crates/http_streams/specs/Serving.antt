@@ -1,6 +1,6 @@
 -- Defines one call that answers a stream: what it read and wrote, the states before and after, and how it ended.
 -- Source: RFC 9112, sections 9.3 and 9.6.
--- Rules of this product: what a result says of reader and writer.
+-- Rules of this product: what each result says about the reader and the writer.
 use Rattle.std.specs.Prelude.{◌≡◌, ◌≤◌, ◌^◌, ◌-◌, ◌⊎◌, ℕ, Option, List, length, Result, Ok, Err}
 use Rattle.std.specs.Io.KnownBytes.{Appends, Consumes, IsAtEnd}
 use Rattle.http_devices.specs.Devices.{FailsAtLast}
@@ -9,19 +9,19 @@ use Rattle.http_streams.specs.Stream.{Answering, Ends, KeepsUp, Rests, Stops}
 use Rattle.http_streams.specs.declared.serve.StreamFault.{StreamFault}
 use Rattle.http_streams.specs.declared.serve.StreamFault.TheVariants as fault
 
--- Of the service: its answers. Of a reader: the bytes left, the number of its failures, its calls, its failed calls. Of
--- a writer: the bytes that it took, the number of its failures, its failed calls.
+-- The service has its answers; a reader the bytes left, the number of its failures, its calls, its failed calls; a
+-- writer the bytes that it accepted, the number of its failures, its failed calls.
 module _ {S R W : Type 0} (answers : Answering S) (left : R → Option (List ℕ)) (read_failures : R → ℕ)
     (reads : R → ℕ → List ℕ → R → Type 0) (read_fails : R → R → Type 0) (holds : W → Option (List ℕ))
     (write_failures : W → ℕ) (write_fails : W → W → Type 0) where
-  -- `EndsAs first last before after old new bytes out result` holds of how the call ended, by its result:
+  -- `EndsAs first last before after old new bytes out result` describes how the call ended, by its result:
   -- Ok: neither device failed, and all requests in `bytes` are answered. The input is at its end, as the last read
   -- reported, or the last reply ended the stream and nothing was read after it.
   -- Read: the last read failed, or 2^64 - 1 bytes were read; all requests in `bytes` are answered.
   -- NoMemory: neither device failed, and all requests in `bytes` are answered: memory is allocated before a read.
   -- Write: the last write failed; some requests are answered, and a first part of one more reply may have been sent.
   -- All requests that were complete before the last read are answered.
-  -- Log: as Write, but only the log failed; that nothing of the last reply was sent is in Logs.
+  -- Log: as Write, but only the log failed; Logs states that nothing of the last reply was sent.
   abbrev pub EndsAs : R → R → W → W → S → S → List ℕ → List ℕ → Result (Unit {0}) StreamFault → Type 0
   EndsAs first last before after old new bytes out (Ok done) =
       ((Rests answers old bytes out new × IsAtEnd (left last) × EndsByOneRead left reads first last bytes bytes)
@@ -41,8 +41,8 @@ module _ {S R W : Type 0} (answers : Answering S) (left : R → Option (List ℕ
       Stops answers old bytes out new × KeepsUp answers left reads old first last bytes out
       × (write_failures after ≡ write_failures before) × (read_failures last ≡ read_failures first)
 
-  -- `IsAnswered first last before after old new result` holds of a call that led from the reader `first`, the writer
-  -- `before`, the state `old` to `last`, `after`, `new`: it read `bytes`, wrote `out`, and ended as `result` says.
+  -- `IsAnswered first last before after old new result` holds if a call led from the reader `first`, the writer
+  -- `before` and the state `old` to `last`, `after` and `new`: it read `bytes`, wrote `out`, ended as `result` says.
   pub record IsAnswered (first last : R) (before after : W) (old new : S) (result : Result (Unit {0}) StreamFault)
       : Type 0 where
     pub bytes : List ℕ

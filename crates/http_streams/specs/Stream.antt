@@ -33,17 +33,17 @@ module _ {S : Type 0} (answers : Answering S) where
       (mid : S) × (after : List ℕ) × (first : List ℕ) × (later : List ℕ)
       × Exchanges old bytes false first mid after × Serves n mid after rest later new × (out ≡ first ++ later)
 
-  -- `Refuses old bytes out new` holds if `bytes` are rejected, and `out` is the reply with the status of that.
+  -- `Refuses old bytes out new` holds if `bytes` are rejected, and `out` is the reply with the status of the rejection.
   abbrev pub Refuses : S → List ℕ → List ℕ → S → Type 0
   Refuses old bytes out new =
       (status : StatusCode) × IsRefused bytes status
       × (out ≡ reply_text true status (error_line status)) × (new ≡ old)
 
-  -- `Closes old bytes out new` holds if `out` is the reply to the front of `bytes`, and ends the stream.
+  -- `Closes old bytes out new` holds if `out` is the reply to a prefix of `bytes`, and ends the stream.
   abbrev pub Closes : S → List ℕ → List ℕ → S → Type 0
   Closes old bytes out new = ((rest : List ℕ) × Exchanges old bytes true out new rest) ⊎ Refuses old bytes out new
 
-  -- `Rests old bytes out new` holds if `out` are the replies to all requests in `bytes`, and less than one is left.
+  -- `Rests old bytes out new` holds if `out` are the replies to all requests in `bytes`, and the rest is less than one.
   pub record Rests (old : S) (bytes : List ℕ) (out : List ℕ) (new : S) : Type 0 where
     pub count : ℕ
     pub rest : List ℕ
@@ -61,14 +61,14 @@ module _ {S : Type 0} (answers : Answering S) where
     pub closes : Closes mid rest last new
     pub joined : out ≡ before ++ last
 
-  -- `Halts old bytes out new` holds if `out` is the reply to the front of `bytes` without some last bytes.
+  -- `Halts old bytes out new` holds if `out` is the reply to a prefix of `bytes`, without some of its last bytes.
   abbrev pub Halts : S → List ℕ → List ℕ → S → Type 0
   Halts old bytes out new =
       (back : List ℕ) × (0 < length back)
       × (((rest : List ℕ) × (last : Bool) × Exchanges old bytes last (out ++ back) new rest)
       ⊎ Refuses old bytes (out ++ back) new)
 
-  -- `Stops old bytes out new` holds if `out` are the replies to some requests in `bytes`, the last one cut.
+  -- `Stops old bytes out new` holds if `out` are the replies to some requests in `bytes`, the last one cut off.
   pub record Stops (old : S) (bytes : List ℕ) (out : List ℕ) (new : S) : Type 0 where
     pub count : ℕ
     pub mid : S

@@ -1,4 +1,4 @@
-//! What is read and not yet answered.
+//! The bytes that are read and not yet answered.
 ghost use Rattle.std.specs.Prelude.{◌≡◌, ◌≤◌, ◌<◌, ◌++◌, ℕ, List, [], Err, drop, length, IfOk, OnOk};
 ghost use Rattle.std.specs.Prelude.{OnErr, IsTrue, IsFalse, vec_len, ◌+◌};
 ghost use Rattle.std.specs.Vec.{vec_capacity};
@@ -11,21 +11,21 @@ use http_framing::{HEAD_ROOM, MAX_HEAD};
 use httparse::spans::{EMPTY_HEADER_SPAN, HeaderSpan};
 use std::alloc::{AllocError, Global};
 
-/// Why no bytes came. Nothing is read then.
+/// Why no bytes were read.
 #[derive(Clone, Copy)]
 pub(crate) enum FillFault {
     Read,
     NoMemory,
 }
 
-/// Room for a header at each byte of a head.
+/// Returns memory for a header at each byte of a head.
 pub(crate) fn room_for_heads(alloc: Global) -> Result<Vec<HeaderSpan>, AllocError>
     ensures { IfOk result (λ room. MAX_HEAD ≤ vec_len room) }
 {
     vec![in alloc; EMPTY_HEADER_SPAN; MAX_HEAD]
 }
 
-/// Room for the bytes of one read.
+/// Returns memory for the bytes of one read.
 pub(crate) fn room_for_reads(alloc: Global) -> Result<Vec<u8>, AllocError>
     ensures some { IfOk result (λ room. 0 < vec_len room) }
     ensures most { IfOk result (λ room. vec_len room ≤ MAX_READ) }
@@ -33,7 +33,7 @@ pub(crate) fn room_for_reads(alloc: Global) -> Result<Vec<u8>, AllocError>
     vec![in alloc; 0u8; MAX_READ]
 }
 
-/// Room for the longest head of a reply, with room for a short body behind it.
+/// Returns memory for the longest head of a reply and a short body after it.
 pub(crate) fn room_for_replies(alloc: Global) -> Result<Vec<u8>, AllocError>
     ensures head { IfOk result (λ text. HEAD_ROOM ≤ vec_len text) }
     ensures body { IfOk result (λ text. HEAD_ROOM + REPLY_ROOM ≤ vec_capacity text) }
@@ -43,7 +43,7 @@ pub(crate) fn room_for_replies(alloc: Global) -> Result<Vec<u8>, AllocError>
     Ok(text)
 }
 
-/// Takes the first `count` bytes away.
+/// Removes the first `count` bytes.
 pub(crate) fn drop_front(bytes: &mut Vec<u8>, count: usize)
     requires { count ≤ vec_len bytes.old }
     ensures { bytes.new.items ≡ drop count bytes.old.items }
@@ -56,7 +56,7 @@ pub(crate) fn drop_front(bytes: &mut Vec<u8>, count: usize)
     bytes.truncate(left);
 }
 
-/// Reads once, and says whether bytes came. Room for them is made first, so that none is lost.
+/// Reads once, and returns whether bytes were read. Memory for them is allocated first, so that no byte is lost.
 pub(crate) fn read_more<R: Source>(
     reader: &mut R,
     chunk: &mut [u8],

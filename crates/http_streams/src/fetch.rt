@@ -25,20 +25,20 @@ pub enum FetchFault {
     /// The writer failed.
     #[error("network 71: writing failed")]
     Write,
-    /// What came begins no reply of one length within the limits.
+    /// The received bytes do not begin a reply of one length within the limits.
     #[error("network 72: no HTTP reply of one length within the limits")]
     BadReply,
     /// The input ended before the reply did.
     #[error("network 73: connection closed before the end of the reply")]
     Ended,
-    /// Memory was refused.
+    /// An allocation failed.
     #[error("network 1: out of memory")]
     NoMemory,
 }
 
-/// Writes one request, and reads the reply to it: its status and its body. What comes behind the reply is not judged.
+/// Writes one request, and reads the reply to it: its status and its body. Bytes after the reply are not checked.
 ///
-/// Within the limits of `cut_request`, the bytes written parse as exactly what `ask` says (`requests_read_back` of
+/// Within the limits of `cut_request`, the written bytes parse as exactly the request `ask` (`requests_read_back` of
 /// `http_framing`).
 pub fn fetch<R: Source, W: Sink>(
     alloc: Global,
@@ -46,15 +46,14 @@ pub fn fetch<R: Source, W: Sink>(
     writer: &mut W,
     ask: &Ask<'_>,
 ) -> Result<(u16, Vec<u8>), FetchFault>
-    // The request was written, and what was read begins with this reply. Nothing was read behind it: before the last
-    // read less than a reply had come.
+    // The request was written, and what was read begins with this reply. No read followed the one that completed it.
     ensures ok { IfOk result (λ reply. (bytes : List ℕ) × (front : List ℕ) × (rest : List ℕ)
         × Consumes (R.left reader.old) (R.left reader.new) bytes
         × Appends (W.holds writer.old) (W.holds writer.new) (request_text ask.now)
         × ReadsReply bytes reply.0 reply.1.items rest
         × IsUnfinishedReply front × EndsByOneRead R.left R.reads reader.old reader.new bytes front) }
 
-    // The request was written, and what was read begins no reply that can be read. That wasn't known before the last
+    // The request was written, and what was read does not begin a readable reply, which was not known before the last
     // read.
     ensures bad { result ≡ Err FetchFault.BadReply → (bytes : List ℕ) × (front : List ℕ)
         × Consumes (R.left reader.old) (R.left reader.new) bytes
@@ -62,29 +61,29 @@ pub fn fetch<R: Source, W: Sink>(
         × IsBadReply bytes
         × IsUnfinishedReply front × EndsByOneRead R.left R.reads reader.old reader.new bytes front }
 
-    // The request was written, and the input is at its end, as the last read told, with less than a reply.
+    // The request was written, and the input ended, as the last read reported, with less than a reply.
     ensures ended { result ≡ Err FetchFault.Ended → (bytes : List ℕ)
         × Consumes (R.left reader.old) (R.left reader.new) bytes
         × Appends (W.holds writer.old) (W.holds writer.new) (request_text ask.now)
         × IsUnfinishedReply bytes × IsAtEnd (R.left reader.new)
         × EndsByOneRead R.left R.reads reader.old reader.new bytes bytes }
 
-    // The request was written, less than a reply came, and a read failed, which was the last.
+    // The request was written, less than a reply was read, and the last read failed.
     ensures read { result ≡ Err FetchFault.Read → (bytes : List ℕ)
         × Consumes (R.left reader.old) (R.left reader.new) bytes
         × Appends (W.holds writer.old) (W.holds writer.new) (request_text ask.now)
         × IsUnfinishedReply bytes × FailsAtLast R.failed R.fails reader.old reader.new }
 
-    // A write failed, which was the last, a first part of the request went out, and nothing was read.
+    // The last write failed, a first part of the request was sent, and nothing was read.
     ensures write { result ≡ Err FetchFault.Write → (reader.new ≡ reader.old)
         × FailsAtLast W.failed W.fails writer.old writer.new }
 
-    // After any fault a first part of the request went out, or all of it.
+    // After any error a first part of the request was sent, or all of it.
     ensures err { OnErr result ((bytes : List ℕ) × (front : List ℕ) × (back : List ℕ)
         × Consumes (R.left reader.old) (R.left reader.new) bytes
         × (request_text ask.now ≡ front ++ back) × Appends (W.holds writer.old) (W.holds writer.new) front) }
 
-    // No failure of a device is passed over.
+    // Each failure of a device is reported.
     ensures reads { result ≢ Err FetchFault.Read → R.failed reader.new ≡ R.failed reader.old }
     ensures writes { result ≢ Err FetchFault.Write → W.failed writer.new ≡ W.failed writer.old }
 {
@@ -113,7 +112,7 @@ enum SendFault {
     NoMemory,
 }
 
-/// Writes the request, by one write where the writer takes it whole.
+/// Writes the request, by one write if the writer accepts it whole.
 fn send<W: Sink>(alloc: Global, writer: &mut W, ask: &Ask<'_>) -> Result<(), SendFault>
     ensures ok { OnOk result (Appends (W.holds writer.old) (W.holds writer.new) (request_text ask.now)) }
     ensures err { OnErr result ((front : List ℕ) × (back : List ℕ) × (request_text ask.now ≡ front ++ back)
@@ -130,7 +129,7 @@ fn send<W: Sink>(alloc: Global, writer: &mut W, ask: &Ask<'_>) -> Result<(), Sen
     }
 }
 
-/// Keeps of the bytes only the reply's body.
+/// Removes all bytes except the reply's body.
 fn keep_body(bytes: &mut Vec<u8>, parts: &ReplyParts)
     requires { (parts.now.body ≤ parts.now.end) × (parts.now.end ≤ length bytes.old.items) }
     ensures { bytes.new.items ≡ slice_range bytes.old.items parts.now.body parts.now.end }
@@ -139,7 +138,7 @@ fn keep_body(bytes: &mut Vec<u8>, parts: &ReplyParts)
     drop_front(bytes, parts.body);
 }
 
-/// Room for the parts of a head, and for the bytes of one read.
+/// Returns memory for the parts of a head, and for the bytes of one read.
 fn rooms(alloc: Global) -> Result<(Vec<HeaderSpan>, Vec<u8>), AllocError>
     ensures heads { IfOk result (λ rooms. MAX_HEAD ≤ vec_len rooms.0) }
     ensures some { IfOk result (λ rooms. 0 < vec_len rooms.1) }
@@ -150,7 +149,7 @@ fn rooms(alloc: Global) -> Result<(Vec<HeaderSpan>, Vec<u8>), AllocError>
     Ok((heads, reads))
 }
 
-/// Reads until a reply is whole or can't be, in room that is there. `buffer` has all that came.
+/// Reads into given memory until a reply is whole or can't be. `buffer` has all bytes read.
 fn read_whole<R: Source>(
     reader: &mut R,
     room: &mut [HeaderSpan],
@@ -182,7 +181,7 @@ fn read_whole<R: Source>(
             Err(FillFault::NoMemory) => return Err(FetchFault::NoMemory),
         }
         if buffer.len() < needed {
-            // a whole head told where the reply ends, so it is not read anew with each piece of the body
+            // a whole head determines where the reply ends, so it is not parsed again with each piece of the body
             continue;
         }
         match cut_reply(buffer, room) {

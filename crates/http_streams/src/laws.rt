@@ -1,13 +1,14 @@
-//! Laws of the replies to a stream.
+//! Theorems on the replies to a stream.
 ghost use Rattle.std.specs.Prelude.{ℕ, List, ◌⊎◌, []};
 ghost use Rattle.http_streams.specs.Laws.{AgreeOn, AnswersAll, BeginsAnswer, HasOneAnswer};
 ghost use Rattle.http_streams.specs.Laws.{LacksMemory, StopsIn, in_memory};
 
 use crate::service::Answers;
 
-/// Where states that are the same have one answer to each request, want of memory aside, a stream has one answer from
-/// them, however it was cut into reads: the same bytes go out, and the states that are left are the same. One corner is
-/// aside: a stream that ends inside a request target whose bytes are no UTF-8 may get the reply 400 or nothing.
+/// Proves, if states that are the same have one answer to each request, except when out of memory: a stream has one
+/// answer from them, however it is split into reads. The same bytes are sent, and the states afterwards are the same.
+/// One exception: a stream that ends inside a request target that is not UTF-8 may get the reply 400 or nothing.
+/// No-op.
 pub fn one_answer<S: Answers>()
     ensures { HasOneAnswer (in_memory S.answers) S.same → (old old2 new new2 : S) → (stream out more : List ℕ)
         → S.same old old2
@@ -15,8 +16,8 @@ pub fn one_answer<S: Answers>()
         → AgreeOn (in_memory S.answers) S.same old old2 stream out more new new2 }
 {}
 
-/// What went out before a fault (a read or a write failed, or memory was refused) is a beginning of what goes out where
-/// there is none, the same corner aside.
+/// Proves that what is sent before an error (a failed read, write or allocation) is a prefix of what is sent without
+/// one, with the same exception. No-op.
 pub fn begins_answer<S: Answers>()
     ensures { HasOneAnswer (in_memory S.answers) S.same → (old old2 new new2 : S) → (stream out more : List ℕ)
         → S.same old old2
@@ -24,8 +25,8 @@ pub fn begins_answer<S: Answers>()
         → BeginsAnswer (in_memory S.answers) old2 stream out more new2 }
 {}
 
-/// Each answer to a stream is one in memory, or a reply 503 stands in it: the first, behind replies in memory. Of an
-/// answer that broke off, the 503 may have gone out in part.
+/// Proves that each answer to a stream is one with memory, or contains a reply 503: the first, after replies with
+/// memory. If the answer was cut off, a part of the 503 may have been sent. No-op.
 pub fn in_memory_or_503<S: Answers>()
     ensures whole { (old new : S) → (stream out : List ℕ) → AnswersAll S.answers old stream out new
         → AnswersAll (in_memory S.answers) old stream out new ⊎ LacksMemory S.answers old stream out [] }

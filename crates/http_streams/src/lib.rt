@@ -1,7 +1,7 @@
-//! HTTP/1.1 over bytes: requests are cut off a stream, each is answered before more is read, and a reply is fetched.
+//! HTTP/1.1 over bytes: answering the requests of a stream, each before more is read, and fetching a reply.
 //!
-//! Nothing here opens a socket. A reader and a writer are any values of the traits `Source` and `Sink`, and what
-//! answers a request is any value of the trait `Service`.
+//! Nothing here opens a socket. Readers, writers and services are any values of the traits `Source`, `Sink` and
+//! `Service`.
 #![tactic(auto)]
 
 mod buffers;
@@ -15,8 +15,8 @@ pub use http_devices::devices::{Counted, Sink, Source};
 pub use http_devices::memory::{Fed, Kept, Plan};
 pub use http_framing::{Ask, MAX_BODY, is_host, is_method, is_target};
 
-/// The most bytes that one read takes.
+/// The most bytes of one read.
 pub const MAX_READ: usize = 16_384;
 
-/// A service may append this many bytes to a reply without asking for memory.
+/// The number of bytes that a service may append to a reply without allocating.
 pub const REPLY_ROOM: usize = 256;

@@ -1,9 +1,9 @@
-//! A writer that takes all and keeps nothing: what stands for the log where none is kept.
+//! A writer that accepts and discards all bytes: the log of a stream without a log.
 ghost use Rattle.std.specs.Prelude.{None};
 
 use http_devices::devices::{DeviceFailed, Sink};
 
-/// Where lines go that nobody keeps.
+/// A writer that discards all bytes.
 #[derive(Drop)]
 pub(crate) struct Nowhere;
 

@@ -35,11 +35,11 @@ pub enum StreamFault {
     /// The writer failed.
     #[error("network 71: writing failed")]
     Write,
-    /// The log failed: the line of a reply was not written whole, and nothing of that reply went out.
+    /// The log failed: the line of a reply was not written whole, and nothing of that reply was sent.
     #[error("network 76: writing the log failed")]
     Log,
-    /// Memory was refused, before anything was read or for what was to be read next. No reply takes any, but for what
-    /// the service asks.
+    /// An allocation failed, before anything was read or before the next read. A reply allocates only what its service
+    /// allocates.
     #[error("network 1: out of memory")]
     NoMemory,
 }
@@ -47,8 +47,8 @@ pub enum StreamFault {
 /// Answers each whole request of the stream in order, before it reads on, and ends at the end of the
 /// input or after a reply that ends the stream.
 ///
-/// What was written is the replies to what was read, however it ends. Memory is asked for before bytes are read, and
-/// no reply takes any but what the service asks.
+/// However it ends, what was written is the replies to what was read. Memory is allocated before bytes are read; a
+/// reply allocates only what its service allocates.
 pub fn serve<S: Service, R: Source, W: Sink>(
     alloc: Global,
     service: &mut S,
@@ -58,16 +58,16 @@ pub fn serve<S: Service, R: Source, W: Sink>(
     requires { S.line_room ≡ 0 }
     ensures answered { IsAnswered S.answers R.left R.failed R.reads R.fails W.holds W.failed W.fails reader.old
         reader.new writer.old writer.new service.old service.new result }
-    // Without a log no line is cut.
+    // Without a log no line can fail.
     ensures unlogged { result ≢ Err StreamFault.Log }
 {
     let mut line = Vec::new(alloc);
     serve_logged(alloc, service, reader, writer, &mut Nowhere, &mut line)
 }
 
-/// Serves a stream like [`serve`], with a log: the line of each reply, that of a request that is refused too, is
-/// written to `log` before anything of the reply goes out. If the line is not written whole, nothing of the reply goes
-/// out, and the stream ends with [`StreamFault::Log`]. `line` is memory for one line.
+/// Serves a stream like [`serve`], with a log: the line of each reply, also of a rejection, is written to `log` before
+/// anything of the reply is sent. If the line is not written whole, nothing of the reply is sent, and the stream ends
+/// with [`StreamFault::Log`]. `line` is memory for one line.
 pub fn serve_logged<S: Service, R: Source, W: Sink, L: Sink>(
     alloc: Global,
     service: &mut S,
@@ -99,7 +99,7 @@ pub fn serve_logged<S: Service, R: Source, W: Sink, L: Sink>(
     )
 }
 
-/// Room for the parts of a head, for the bytes of one read, and for a reply.
+/// Returns memory for the parts of a head, for the bytes of one read, and for a reply.
 fn rooms(alloc: Global) -> Result<(Vec<HeaderSpan>, Vec<u8>, Vec<u8>), AllocError>
     ensures heads { IfOk result (λ rooms. MAX_HEAD ≤ vec_len rooms.0) }
     ensures some { IfOk result (λ rooms. 0 < vec_len rooms.1) }
@@ -113,16 +113,16 @@ fn rooms(alloc: Global) -> Result<(Vec<HeaderSpan>, Vec<u8>, Vec<u8>), AllocErro
     Ok((heads, reads, replies))
 }
 
-/// What is left of some bytes behind the whole requests at their front.
+/// The rest of some bytes after the whole requests that they begin with.
 #[derive(Clone, Copy)]
 struct Unanswered {
-    /// Where it begins.
+    /// The index of its first byte.
     at: usize,
-    /// It stays less than a request while it has less than so many bytes.
+    /// The number of bytes with fewer than which it is less than a request.
     needed: usize,
 }
 
-/// Reads and answers by turns, in room that is there. `buffer` has what is read and not yet answered.
+/// Reads and answers in turns, in given memory. `buffer` has the bytes that are read and not yet answered.
 fn answer_stream<S: Service, R: Source, W: Sink, L: Sink>(
     service: &mut S,
     reader: &mut R,
@@ -155,7 +155,7 @@ fn answer_stream<S: Service, R: Source, W: Sink, L: Sink>(
             Err(FillFault::NoMemory) => return Err(StreamFault::NoMemory),
         }
         if buffer.len() < needed {
-            // a whole head told where the request ends, so it is not read anew with each piece of the body
+            // a whole head determines where the request ends, so it is not parsed again with each piece of the body
             continue;
         }
         match answer_all(service, writer, log, buffer, room, text, line) {
@@ -171,16 +171,16 @@ fn answer_stream<S: Service, R: Source, W: Sink, L: Sink>(
     Err(StreamFault::Read)
 }
 
-/// Which device failed before a reply was out.
+/// Which device failed before a whole reply was sent.
 #[derive(Clone, Copy)]
 enum Broken {
-    /// The writer, behind the reply's line.
+    /// The writer, after the reply's line was written.
     Write,
-    /// The log, before anything of the reply went out.
+    /// The log, before anything of the reply was sent.
     Log,
 }
 
-/// Puts the head of a reply before the body that the text has, and says where it begins.
+/// Puts the head of a reply before the body in `text`, and returns the index of its first byte.
 fn finish(text: &mut Vec<u8>, last: bool, status: StatusCode) -> usize
     requires { HEAD_ROOM ≤ vec_len text.old }
     ensures start { result ≤ vec_len text.new }
@@ -218,8 +218,8 @@ fn send<W: Sink, L: Sink>(
     }
 }
 
-/// Answers one request, by one write where the writer takes it whole. Room for its head and a short body is there, so
-/// that only the service may ask for memory.
+/// Answers one request, by one write if the writer accepts it whole. Memory for its head and a short body is given, so
+/// only the service may allocate.
 fn answer<S: Service, W: Sink, L: Sink>(
     service: &mut S,
     writer: &mut W,
@@ -262,7 +262,7 @@ fn answer<S: Service, W: Sink, L: Sink>(
     }
 }
 
-/// Answers with an error that ends the stream. It takes no memory.
+/// Answers with an error that ends the stream. Does not allocate.
 fn refuse<S: Service, W: Sink, L: Sink>(
     writer: &mut W,
     log: &mut L,
@@ -288,7 +288,7 @@ fn refuse<S: Service, W: Sink, L: Sink>(
     send(writer, log, line.as_slice(), &room[start..])
 }
 
-/// Answers the whole requests at the front of `bytes`, and says what is left, or `None` where the last reply ended the
+/// Answers the whole requests that `bytes` begin with, and returns the rest, or `None` if the last reply ended the
 /// stream.
 fn answer_all<S: Service, W: Sink, L: Sink>(
     service: &mut S,

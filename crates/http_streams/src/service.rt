@@ -1,4 +1,4 @@
-//! What answers a request.
+//! Services, which answer requests.
 ghost use Rattle.std.specs.Prelude.{◌≡◌, ◌≤◌, ◌+◌, ℕ, List, [], ◌++◌, vec_len};
 ghost use Rattle.std.specs.Vec.{vec_capacity};
 ghost use Rattle.http_streams.specs.declared.TheConstants.{REPLY_ROOM};
@@ -6,32 +6,32 @@ ghost use Rattle.http.specs.declared.status.StatusCode.{StatusCode};
 
 use http::StatusCode;
 
-/// States in which requests have answers: what laws of streams speak of, with no code.
+/// States in which requests have answers, as theorems on streams use them. Has no code.
 pub trait Answers {
-    // In a state, a method, a target and a body may be answered by a status and a body, which leaves a state.
+    // Relates a state, a request (method, target, body), its reply (status, body), and the state afterwards.
     ghost answers: { Self → List ℕ → List ℕ → List ℕ → StatusCode → List ℕ → Self → Type 0 };
 
-    // States that laws take as the same: that requests tell no difference of them is a premise there. Where this isn't
-    // given, they are equal ones.
+    // Which states theorems consider the same: a premise there is that requests do not distinguish them. By default,
+    // equal states.
     ghost same: { Self → Self → Type 0 } = { λ one other. one ≡ other };
 }
 
-/// A state that answers requests, and states the line that a log gets of each.
+/// A state that answers requests, and makes the line that a log gets for each.
 pub trait Service: Answers {
-    // Of a request (method, target, body) and its reply (status, body) the log may get this line. Where this isn't
-    // given, it gets none.
+    // Relates a request (method, target, body) and its reply (status, body) to the line that the log may get. By
+    // default, an empty one.
     ghost lines: { List ℕ → List ℕ → List ℕ → StatusCode → List ℕ → List ℕ → Type 0 } = { λ _ _ _ _ _ line. line ≡ [] };
 
-    // The line of what is refused with a status, since it is no request.
+    // The line for bytes that are not a request, rejected with this status.
     ghost refusal_line: { StatusCode → List ℕ } = { λ _. [] };
 
-    // The room of a line that takes no memory.
+    // The length of the longest line that is made without allocating.
     ghost line_room: { ℕ } = { 0 };
 
-    /// Appends the body of the reply to `text`, and answers its status. There is room for a short reply, so that
-    /// it takes no memory; where memory is refused for a longer one, a short reply can still say so. The text keeps
-    /// its memory, for the next reply. Each reply announces a body, so no status is 1xx, 204 or 304 (RFC 9112, section
-    /// 6.3). Its line, if a log is kept, is put into `line`, where there is room for a short one.
+    /// Appends the body of the reply to `text`, and returns its status. `text` has room for a short reply, which is
+    /// made without allocating; if a longer one cannot be allocated, a short reply can still say so. `text` keeps its
+    /// memory for the next reply. Each reply announces a body, so no status is 1xx, 204 or 304 (RFC 9112, section
+    /// 6.3). The line for the log, if there is one, is put into `line`, which has room for a short one.
     fn call(
         &mut self,
         method: &[u8],
@@ -49,7 +49,7 @@ pub trait Service: Answers {
         ensures kept { vec_capacity text.old ≤ vec_capacity text.new }
         ensures line_kept { vec_capacity line.old ≤ vec_capacity line.new };
 
-    /// Puts the line of what is refused with this status. Takes no memory.
+    /// Puts the line for bytes that are not a request, rejected with this status. Does not allocate.
     fn put_refusal_line(status: StatusCode, line: &mut Vec<u8>)
         requires empty { line.old.items ≡ [] }
         requires room { line_room ≤ vec_capacity line.old }

@@ -1,5 +1,5 @@
--- Defines the bytes of a reply (RFC 9112, sections 4 and 5; the fields are those of RFC 9110, sections 8.3, 8.6 and
--- 7.6.1).
+-- Defines the bytes of a reply.
+-- Source: RFC 9112, sections 4 and 5; RFC 9110, sections 8.3, 8.6 and 7.6.1 (fields).
 use Rattle.std.specs.Prelude.{ℕ, Bool, List, [], ◌++◌, length, if◌then◌else◌, codes, decimal, unwrap_or}
 use Rattle.http.specs.StatusCode.{reason_phrase}
 use Rattle.http.specs.declared.status.StatusCode.{StatusCode}

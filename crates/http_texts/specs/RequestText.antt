@@ -1,4 +1,5 @@
--- Defines the bytes of a request (RFC 9112, section 3; RFC 9110, sections 7.2, 7.6.1 and 8.6).
+-- Defines the bytes of a request.
+-- Source: RFC 9112, section 3; RFC 9110, sections 7.2, 7.6.1 and 8.6.
 use Rattle.std.specs.Prelude.{ℕ, List, [], ◌++◌, Option, Some, None, length, codes, decimal}
 use Rattle.std.specs.Borrow.{Bor}
 use Rattle.http_texts.specs.declared.parts.Ask.{Ask}

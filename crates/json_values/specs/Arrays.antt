@@ -1,6 +1,6 @@
 -- Defines the members of a JSON array, and those that a reader of one has not yet read.
 -- Source: RFC 8259, section 5 (an array is brackets around values with commas between) and section 2 (a text is one
--- value, with nothing but blanks behind it).
+-- value, with only whitespace after it).
 -- Rules of this product: which error is reported (`each_of`, `told`).
 use Rattle.std.specs.Prelude.{◌≡◌, ◌<◌, ◌-◌, ⊤, ℕ, List, [], ◌∷◌, length, if◌then◌else◌, Result}
 use Rattle.std.specs.Prelude.{Option, Some, None, option_map, option_and_then, is_some}
@@ -45,13 +45,14 @@ rest_of_array tokens = members_in (whole (array_at (max_depth - 1) tokens))
 abbrev pub to_come : Members → Option (List Data)
 to_come members = rest_of_array members.reader
 
--- `Tells member before behind` holds if `member` is next, where `before` was to come, and then `behind` is.
+-- `Tells member before behind` holds if `member` is the first of the remaining members `before`, with `behind` as the
+-- rest; or `End`, and `before` is empty; or `NotJson`, and the text is not JSON.
 abbrev pub Tells : Member → Option (List Data) → Option (List Data) → Type 0
 Tells (Value v) before behind = before ≡ option_map (λ ds. view v ∷ ds) behind
 Tells End before behind = before ≡ Some []
 Tells NotJson before behind = before ≡ None
 
--- `IsFewer member before behind` holds if a member that is read leaves fewer tokens.
+-- `IsFewer member before behind` holds if a member, unless it is `End` or `NotJson`, leaves fewer tokens.
 abbrev pub IsFewer : Member → ℕ → ℕ → Type 0
 IsFewer (Value v) before behind = behind < before
 IsFewer End before behind = ⊤

@@ -8,7 +8,7 @@ abbrev pub ◌>>=◌ : {A B F : Type 0} → Result A F → (A → Result B F) �
 (Ok x) >>= f = f x
 (Err e) >>= f = Err e
 
--- `or_fault f o` is the value of `o`, or the error `f` if there is none.
+-- `or_fault f o` is the value of `o`, or the error `f` if `o` is `None`.
 abbrev pub or_fault : {A F : Type 0} → F → Option A → Result A F
 or_fault f (Some x) = Ok x
 or_fault f None = Err f

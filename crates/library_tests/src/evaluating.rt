@@ -1,4 +1,4 @@
-//! What an expression gives to whoever hands in a request and stored entities, one by one or as one question.
+//! Results of evaluation, with a request and stored entities given one by one or as one environment.
 use crate::shared::{holds, uid_of};
 use entities::{Entities, EntityStore, NoActions};
 use evaluator::{

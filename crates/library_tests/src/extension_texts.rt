@@ -1,10 +1,10 @@
-//! Texts of decimals and addresses where memory is refused.
+//! Texts of decimals and addresses when allocations fail.
 use crate::shared::{finished, holds};
 use extensions::{Decimal, IpNet, NoMemory};
 use std::alloc::Global;
 use std::process::Abort;
 
-// What has a canonical text.
+// A value with a canonical text.
 trait Written: Copy {
     fn write(self, out: &mut String) -> Result<(), NoMemory>;
 }
@@ -21,8 +21,7 @@ impl Written for IpNet {
     }
 }
 
-// Adds the canonical text. Where memory is refused, the text that is written to stays as it was, and a second call
-// writes it.
+// Appends the canonical text. If an allocation fails, the string is unchanged, and a second call appends the text.
 fn push<T: Written>(rt: &impl Abort, out: &mut String, value: T) -> Result<(), NoMemory> {
     if value.write(out).is_err() {
         holds(rt, out.as_str() == "=", "a refused text stays as it was");
@@ -37,7 +36,7 @@ fn shown<T: Written>(rt: &impl Abort, alloc: Global, value: T) -> Result<String,
     finished(out, done)
 }
 
-// A refused growth is asked for once more.
+// After a failed allocation tries once more.
 fn shown_at_last<T: Written>(rt: &impl Abort, alloc: Global, value: T) -> Result<String, NoMemory> {
     match shown(rt, alloc, value) {
         Ok(shown) => Ok(shown),
@@ -55,7 +54,7 @@ fn is_text(
     Ok(())
 }
 
-// What was read is written as this text.
+// The parsed value is written as this text.
 fn is_shown<T: Written>(
     rt: &impl Abort,
     alloc: Global,

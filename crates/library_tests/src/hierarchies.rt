@@ -1,4 +1,4 @@
-//! Hierarchies: questions, changes, cycles, and refused memory. Each test is of any type of hierarchy.
+//! Hierarchies: queries, changes, cycles, and failed allocations. Each test applies to any type of hierarchy.
 use crate::shared::{ended, finished, holds, uid_of};
 use ancestor_closure::{Ancestry, Closed, Hierarchy, Searched};
 use plain::{NoMemory, both};
@@ -8,10 +8,10 @@ use values::EntityUid;
 
 // A hierarchy under test.
 trait Tried: Hierarchy + Drop {
-    // One without edges.
+    // A hierarchy without edges.
     fn begun(alloc: Global) -> Self;
 
-    // Whether the last change wrote so many lists of ancestors anew, where these are kept.
+    // Whether the last change rewrote this many lists of ancestors, if there is a cache.
     fn has_touched(&self, count: usize) -> bool;
 }
 
@@ -35,7 +35,7 @@ impl Tried for Closed {
     }
 }
 
-// Returns the type and the id of an entity: User u or v, a User of the id before a prime, or a Group of that id.
+// Returns the type and the id of an entity: User u or v, a User with the id before a prime, or a Group with this id.
 fn named(word: &str) -> (&str, &str) {
     match word.split_once('\'') {
         Some((id, _)) => ("User", id),
@@ -56,7 +56,7 @@ fn push_entities(alloc: Global, list: &mut Vec<EntityUid>, ids: &str) -> Result<
     Ok(())
 }
 
-// The entities of these ids, with blanks between.
+// The entities of these ids, which are separated by blanks.
 fn entities(alloc: Global, ids: &str) -> Result<Vec<EntityUid>, NoMemory> {
     let mut list = Vec::new(alloc);
     let done = push_entities(alloc, &mut list, ids);
@@ -80,7 +80,7 @@ fn take_away<H: Hierarchy>(alloc: Global, hierarchy: &mut H, id: &str) -> Result
     ended(uid, done)
 }
 
-// `CHILD in PARENT ..` gives parents; a word alone is no longer stored.
+// `CHILD in PARENT ..` sets the parents; a word alone deletes its entity.
 fn apply<H: Hierarchy>(alloc: Global, hierarchy: &mut H, change: &str) -> Result<(), NoMemory> {
     match change.split_once(" in") {
         Some((child, parents)) => put(alloc, hierarchy, child, parents),
@@ -111,7 +111,7 @@ fn is_walk(found: &Option<Vec<&EntityUid>>, ids: &str) -> bool {
     }
 }
 
-// The entities above one; those on cycles, and the least cycle.
+// The ancestors of an entity; the cyclic entities, and the least cycle.
 type Told<'a> = (
     Vec<&'a EntityUid>,
     (Vec<&'a EntityUid>, Option<Vec<&'a EntityUid>>),
@@ -131,7 +131,7 @@ fn is_as_told(told: &Told<'_>, above: &str, cycles: &str) -> bool {
     are(told.0.as_slice(), above) && are(told.1.0.as_slice(), cyclic) && is_walk(&told.1.1, walk)
 }
 
-// The entities above one, behind a bar those on cycles, and behind another the least cycle.
+// The ancestors of an entity, after a bar the cyclic entities, and after another the least cycle.
 fn shows<H: Ancestry>(
     hierarchy: &H,
     uid: &EntityUid,
@@ -160,7 +160,7 @@ fn is_above_the_first<H: Ancestry>(
     }
 }
 
-// Whether one is above the first of some, and whether it would be on a cycle with them as its parents.
+// Whether an entity is an ancestor of the first of some others, and whether it would be cyclic with them as parents.
 fn answered<H: Hierarchy>(
     hierarchy: &H,
     uid: &EntityUid,
@@ -181,7 +181,7 @@ fn words_of(answer: (bool, bool)) -> &'static str {
     }
 }
 
-// With a bar, what is above the one; without, what the first is to the others.
+// With a bar, the ancestors of the entity; without, how the first is related to the others.
 fn is_told_of<H: Hierarchy>(
     hierarchy: &H,
     uid: &EntityUid,
@@ -194,7 +194,7 @@ fn is_told_of<H: Hierarchy>(
     }
 }
 
-// Of no entity, the least cycle is told.
+// Without an entity, the least cycle is expected.
 fn is_told_of_all<H: Hierarchy>(
     hierarchy: &H,
     asked: &[EntityUid],
@@ -220,7 +220,7 @@ fn is_told<H: Tried>(
     ended(asked, truth)
 }
 
-// `IDS: WHAT IS TOLD`, or `touched:COUNT`. A refused growth is asked for once more.
+// `IDS: EXPECTED`, or `touched:COUNT`. After a failed allocation tries once more.
 fn is_row<H: Tried>(alloc: Global, hierarchy: &H, row: &str) -> Result<bool, NoMemory> {
     let (asked, expected) = row.split_once(':').unwrap_or((row, ""));
     match is_told(alloc, hierarchy, asked, expected) {
@@ -239,7 +239,7 @@ fn row_holds<H: Tried>(
     Ok(())
 }
 
-// A change, or `new`, from which on nothing is stored.
+// A change, or `new`, which empties the hierarchy.
 fn change<H: Tried>(alloc: Global, hierarchy: &mut H, change: &str) -> Result<(), NoMemory> {
     if change == "new" {
         *hierarchy = H::begun(alloc);
@@ -248,7 +248,7 @@ fn change<H: Tried>(alloc: Global, hierarchy: &mut H, change: &str) -> Result<()
     apply(alloc, hierarchy, change)
 }
 
-// With a colon what is told, and else a change.
+// With a colon an expectation, else a change.
 fn row<H: Tried>(
     rt: &impl Abort,
     alloc: Global,
@@ -273,7 +273,7 @@ fn rows_hold<H: Tried>(
     Ok(())
 }
 
-// From nothing stored.
+// From an empty hierarchy.
 fn table<H: Tried>(rt: &impl Abort, alloc: Global, rows: &str) -> Result<(), NoMemory> {
     let mut hierarchy = H::begun(alloc);
     rows_hold(rt, alloc, &mut hierarchy, rows)
@@ -291,7 +291,7 @@ fn all_hold<H: Tried>(
     Ok(())
 }
 
-// A change that was refused has changed nothing, and can be handed in again.
+// A failed change has changed nothing, and can be made again.
 fn change_again<H: Tried>(
     rt: &impl Abort,
     alloc: Global,
@@ -316,7 +316,7 @@ fn change_at_last<H: Tried>(
     }
 }
 
-// `CHANGE; ROW; ROW ..`: what holds once the change is done. Returns these rows.
+// `CHANGE; ROW; ROW ..`: the expectations after the change. Returns these rows.
 fn step<'a, H: Tried>(
     rt: &impl Abort,
     alloc: Global,
@@ -330,8 +330,8 @@ fn step<'a, H: Tried>(
     Ok(after)
 }
 
-// Does steps, each from where the one before it ends. Where a change is refused, the rows of the step before still
-// hold, and a second try succeeds.
+// Makes steps, each from the end of the one before. If a change fails, the rows of the step before still hold, and a
+// second try succeeds.
 fn steps_hold<H: Tried>(
     rt: &impl Abort,
     alloc: Global,
@@ -345,16 +345,16 @@ fn steps_hold<H: Tried>(
     Ok(())
 }
 
-// From nothing stored.
+// From an empty hierarchy.
 fn steps<H: Tried>(rt: &impl Abort, alloc: Global, steps: &str) -> Result<(), NoMemory> {
     let mut hierarchy = H::begun(alloc);
     steps_hold(rt, alloc, &mut hierarchy, steps)
 }
 
-// Through a cycle and out of it. Then two cycles that share an entity; what leads to a cycle, and what a cycle leads
-// to, are on none. Then parents that repeat, or are not stored. Then, from the least entity on any cycle, a shortest
-// way round, and of these the least, item by item. Then what is answered of u below g1, g1 below g2. At the end
-// entities of one id and two types, which are others, also where one of the two goes or comes.
+// Closes a cycle and breaks it. Then two cycles that share an entity; entities that lead to a cycle, and those that it
+// leads to, are not cyclic. Then parents that repeat, or are not stored. Then, from the least cyclic entity, a shortest
+// cycle, and of these the least, item by item. Then queries on u below g1, g1 below g2. At the end entities with one
+// id and two types, which are different, also if one of the two is deleted or added.
 const ROWS: &str = "\
     u in g1/u: g1 | |/\
     g1 in g2/u: g1 g2 | |/\
@@ -421,8 +421,8 @@ const ROWS: &str = "\
     a in b/b in a'/a' in a/: a b a'/\
     a in a' b/: a a'";
 
-// A way that grows, is cut by a deletion, and is closed to a cycle by a parent that is not the first; an entity that is
-// its own parent; the cycles ended in turn. Behind each change stands what is above each entity that it bears on.
+// A path that grows, is cut by a deletion, and is closed to a cycle by a parent that is not the first; an entity that
+// is its own parent; the cycles broken in turn. After each change come the ancestors of each entity that it affects.
 const SURVIVED: &str = "\
     u in g1; u: g1 | |; v: | |; g1: | |; touched:1/\
     g1 in g2; u: g1 g2 | |; g1: g2 | |; g2: | |; touched:2/\
@@ -440,7 +440,7 @@ const SURVIVED: &str = "\
     g3 in; u: | |; v: g2 g3 u | |; g1: g2 g3 u | |; g2: g3 u | |; g3: | |; touched:4/\
     v; v: | |; g1: g2 g3 u | |; g2: g3 u | |; touched:1";
 
-// Those of its entity and of all below it, and no other.
+// The lists of its entity and of all descendants, and no other.
 const TOUCHED: &str = "\
     u in g1/g1 in g2/g2 in g3/v in g3/touched:1/g2 in/touched:3/\
     new/u in g1/g1 in g2/g2 in g3/v in g3/g2/touched:3/\

@@ -1,5 +1,5 @@
-//! Calls of the libraries by value, which no row of text can say: memory that is refused, orders, copies, hierarchies
-//! and stores that change. Tests alone: a crate that has tests of its own is proved twice by the gate.
+//! Tests of library calls that no row of text can express: failed allocations, orders, copies, hierarchies and stores
+//! that change. They are in a crate of their own, since the gate proves a crate with tests twice.
 #![tactic(auto)]
 
 #[cfg(test)]

@@ -1,4 +1,4 @@
-//! Messages of errors: of those that no row of a site shows (`says` in the crate `site_rows`).
+//! Messages of the errors that no row of a site shows (`says` in the crate `site_rows`).
 use crate::shared::holds;
 use authoriser::PolicyError;
 use evaluator::EvalFault;
@@ -10,7 +10,7 @@ use std::alloc::Global;
 use std::fmt::Display;
 use std::process::Abort;
 
-// Ends the test where an error does not show itself as this text.
+// Fails the test if an error is not displayed as this text.
 fn says<E: Display>(rt: &impl Abort, alloc: Global, error: &E, text: &str) -> Result<(), NoMemory> {
     let shown = format!(in alloc; "{error}")?;
     holds(rt, shown.as_str() == text, text);

@@ -1,4 +1,4 @@
-//! Names and values: their orders, and copies, also where memory is refused.
+//! Names and values: their orders, and copies, also when allocations fail.
 use crate::shared::{Copied, ended, finished, holds, is_copied, uid_of};
 use extensions::{Decimal, IpNet};
 use plain::{NoMemory, Text, both};
@@ -108,7 +108,7 @@ fn both_truths(alloc: Global) -> Result<Value, NoMemory> {
     Value::set(Vec::from_array(alloc, [Value::boolean(true), Value::boolean(false)])?)
 }
 
-// The first of the values that ascend: two of each kind.
+// The first of the ascending values: two of each kind.
 fn first_at(alloc: Global, place: u8) -> Result<Value, NoMemory> {
     match place {
         0 => Ok(Value::boolean(false)),
@@ -122,7 +122,7 @@ fn first_at(alloc: Global, place: u8) -> Result<Value, NoMemory> {
     }
 }
 
-// The value at a place of those that ascend.
+// The value at an index of the ascending ones.
 fn value_at(alloc: Global, place: u8) -> Result<Value, NoMemory> {
     match place {
         8 => Value::set(Vec::new(alloc)),
@@ -137,7 +137,7 @@ fn value_at(alloc: Global, place: u8) -> Result<Value, NoMemory> {
     }
 }
 
-// A refused growth is asked for once more.
+// After a failed allocation tries once more.
 fn value_had(alloc: Global, place: u8) -> Result<Value, NoMemory> {
     match value_at(alloc, place) {
         Ok(value) => Ok(value),
@@ -152,7 +152,7 @@ fn above<T: Ord + Drop>(rt: &impl Abort, pair: Result<(T, T), NoMemory>) -> Resu
     Ok(next)
 }
 
-// A value is below the next one, which is equal to its copy.
+// A value is less than the next one, which is equal to its copy.
 fn is_below_the_next(rt: &impl Abort, alloc: Global, place: u8) -> Result<(), NoMemory> {
     let pair = both(
         value_had(alloc, place),
@@ -161,7 +161,7 @@ fn is_below_the_next(rt: &impl Abort, alloc: Global, place: u8) -> Result<(), No
     is_copied(rt, alloc, above(rt, pair))
 }
 
-// Whichever allocation is refused, once: each value stays as it was, and its copy is had at the second try.
+// Whichever allocation fails, once: each value is unchanged, and the second try copies it.
 #[test]
 fn values_ascend_and_are_copied_under_refused_memory(rt: HostRuntime) -> Result<(), NoMemory> {
     let alloc = rt.alloc();

@@ -124,7 +124,7 @@ fn compares_lists(rt: &impl Abort, alloc: Global) -> Result<(), NoMemory> {
     ascend(rt, both(one(alloc), two(alloc, 1)), "lists")
 }
 
-// What holds one value.
+// Containers of one value.
 fn compares_values(rt: &impl Abort, alloc: Global) -> Result<(), NoMemory> {
     ascend(
         rt,

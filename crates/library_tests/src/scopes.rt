@@ -1,4 +1,4 @@
-//! The index of policies by their scopes: which policies a request is offered, and changes that are refused.
+//! The index of policies by their scopes: the candidates of a request, and failed changes.
 use crate::shared::{ended, holds, uid_of};
 use ancestor_closure::{Closed, Hierarchy};
 use plain::{NoMemory, Shared, both};
@@ -9,7 +9,7 @@ use std::process::Abort;
 use std::str::SplitWhitespace;
 use values::{EntityUid, Record, Request};
 
-// An index under test, and who is above whom.
+// An index under test, with the edges of its hierarchy.
 #[derive(Drop)]
 struct Tried {
     index: ScopeIndex,
@@ -41,7 +41,7 @@ fn of_parts(principal: EntityScope, resource: EntityScope) -> Scope {
     }
 }
 
-// `== ID` and `in ID` bind the principal, `on ID` and `within ID` the resource, and `any` none.
+// `== ID` and `in ID` constrain the principal, `on ID` and `within ID` the resource, and `any` neither.
 fn scope(alloc: Global, how: &str, id: &str) -> Result<Scope, NoMemory> {
     if how == "any" {
         return Ok(of_parts(EntityScope::Any, EntityScope::Any));
@@ -69,7 +69,7 @@ fn request(alloc: Global, principal: &str) -> Result<Request, NoMemory> {
     })
 }
 
-// A policy of this scope, whose condition asks nothing.
+// A policy of this scope, without a condition.
 fn policy_of(alloc: Global, scope: Scope) -> Result<Policy, NoMemory> {
     let asks_nothing = Expr::Literal(Literal::Boolean(true));
     let (scope, condition) = both(Shared::new(alloc, scope), Shared::new(alloc, asks_nothing))?;
@@ -84,7 +84,7 @@ fn policy(alloc: Global, how: &str, id: &str) -> Result<Policy, NoMemory> {
     policy_of(alloc, scope(alloc, how, id)?)
 }
 
-// A refused growth is asked for once more: so what is refused behind it is the index's own.
+// After a failed allocation tries once more: so a failure after that is the index's own.
 fn policy_at_last(alloc: Global, how: &str, id: &str) -> Result<Policy, NoMemory> {
     match policy(alloc, how, id) {
         Ok(policy) => Ok(policy),
@@ -130,7 +130,7 @@ fn change(alloc: Global, tried: &mut Tried, row: &str) -> Result<(), NoMemory> {
     }
 }
 
-// The next id, but for one.
+// The next id, without one of them.
 fn next_but<'a>(ids: &mut SplitWhitespace<'a>, but: &str) -> Option<&'a str> {
     let next = ids.next();
     if next == Some(but) {
@@ -139,7 +139,7 @@ fn next_but<'a>(ids: &mut SplitWhitespace<'a>, but: &str) -> Option<&'a str> {
     next
 }
 
-// These have these ids but for one, in this order.
+// These have these ids, without one of them, in this order.
 fn are(found: &[(&str, &Policy)], ids: &str, but: &str) -> bool {
     let mut ids = ids.split_whitespace();
     for offer in found {
@@ -164,7 +164,7 @@ fn is_offered(alloc: Global, tried: &Tried, row: &str, but: &str) -> Result<bool
     ended(request, truth)
 }
 
-// A refused growth is asked for once more.
+// After a failed allocation tries once more.
 fn is_row(alloc: Global, tried: &Tried, row: &str, but: &str) -> Result<bool, NoMemory> {
     match is_offered(alloc, tried, row, but) {
         Ok(truth) => Ok(truth),
@@ -183,7 +183,7 @@ fn row_holds(
     Ok(())
 }
 
-// With a colon what is offered, and else a change.
+// With a colon the candidates, else a change.
 fn row(rt: &impl Abort, alloc: Global, tried: &mut Tried, row: &str) -> Result<(), NoMemory> {
     if row.contains(':') {
         return row_holds(rt, alloc, tried, row, "");
@@ -216,7 +216,7 @@ fn all_hold(
     Ok(())
 }
 
-// The policy that is kept no more where a change is refused: the one that was to be added.
+// The policy that a failed change removes: the one that was to be added.
 fn lost_by(change: &str) -> &str {
     if change.contains(" below ") {
         return "";
@@ -227,7 +227,7 @@ fn lost_by(change: &str) -> &str {
     }
 }
 
-// A change that was refused can be asked for again.
+// A failed change can be made again.
 fn change_again(
     rt: &impl Abort,
     alloc: Global,
@@ -252,7 +252,7 @@ fn change_at_last(
     }
 }
 
-// `CHANGE; ROW; ROW ..`: what is offered once the change is done. Returns these rows.
+// `CHANGE; ROW; ROW ..`: the candidates after the change. Returns these rows.
 fn step<'a>(
     rt: &impl Abort,
     alloc: Global,
@@ -279,15 +279,15 @@ fn steps_hold(
     Ok(())
 }
 
-// From nothing.
+// From an empty index.
 fn table(rt: &impl Abort, alloc: Global, rows: &str) -> Result<(), NoMemory> {
     let mut tried = begun(alloc);
     rows_hold(rt, alloc, &mut tried, rows)
 }
 
-// Of a principal that is not stored, then of one below a group; then a policy that is bound no more, and one that is
-// taken away; then those bound by the resource, Doc x, of which each that names what x is or is below is offered; then
-// what is bound anew, and an entity on a cycle, which is offered each policy once.
+// For a principal that is not stored, then for one below a group; then a policy whose constraint is removed, and one
+// that is removed; then those constrained by the resource, Doc x: each that names x or an ancestor is a candidate; then
+// a new constraint, and a cyclic entity, for which each policy is a candidate once.
 const ROWS: &str = "\
     a:/\
     a == a/b == b/c any/d in g/e in a/\
@@ -302,9 +302,9 @@ const ROWS: &str = "\
     f == b/a: d e h i/b: f h i/\
     g below a/a: d e h i";
 
-// Steps, each from where the one before it ends. Where a change is refused, what was offered before is offered still,
-// but for the policy that was to be added; a second try succeeds. A policy that is new, and one that moves; what a
-// hierarchy brings; policies that are taken away; then more policies than a node of a map holds.
+// Steps, each from the end of the one before. If a change fails, the candidates are those of before, without the policy
+// that was to be added; a second try succeeds. A new policy, and one whose key changes; changes of the hierarchy;
+// removed policies; then more policies than a node of a map holds.
 const SURVIVED: &str = "\
     c any; u: c; v: c/\
     a == u; u: a c; v: c/\

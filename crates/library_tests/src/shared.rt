@@ -1,12 +1,12 @@
-//! What tests of several libraries share. A value that waits while another is made, or that is only let go, goes to a
-//! generic function: whatever it is made of is then one step of the proof.
+//! Helpers of the tests of several libraries. A value that is held while another is made, or that is only dropped, is
+//! passed to a generic function, so that its drop is one step of the proof.
 use plain::{NoMemory, both};
 use std::alloc::{AllocError, Global};
 use std::cmp::Ordering;
 use std::process::Abort;
 use values::{EntityUid, SharedText, TypeName};
 
-/// Returns a value that was worked on, where the work was done.
+/// Returns a value, if the work on it succeeded.
 pub(crate) fn finished<T: Drop>(value: T, done: Result<(), NoMemory>) -> Result<T, NoMemory> {
     match done {
         Ok(()) => Ok(value),
@@ -14,12 +14,12 @@ pub(crate) fn finished<T: Drop>(value: T, done: Result<(), NoMemory>) -> Result<
     }
 }
 
-/// Returns what came of it, once nothing more is kept.
+/// Returns the first value, and drops the second.
 pub(crate) fn ended<T: Drop, R>(_kept: T, came: R) -> R {
     came
 }
 
-/// Ends the test where something does not hold.
+/// Fails the test if something does not hold.
 pub(crate) fn holds(rt: &impl Abort, truth: bool, what: &str) {
     assert!(rt; truth, "{what}");
 }
@@ -30,7 +30,7 @@ fn is_less<T: Ord>(less: &T, greater: &T) -> bool {
         && greater.partial_cmp(less) == Some(Ordering::Greater)
 }
 
-/// Returns the first of two is less, by each comparison.
+/// Returns whether the first of two is less, by each comparison.
 pub(crate) fn ascend<T: Ord + Drop>(
     rt: &impl Abort,
     pair: Result<(T, T), NoMemory>,
@@ -41,12 +41,12 @@ pub(crate) fn ascend<T: Ord + Drop>(
     Ok(())
 }
 
-/// What can be copied where memory may be refused.
+/// A value that can be copied, if the allocations succeed.
 pub(crate) trait Copied: Sized {
     fn copied(&self, alloc: Global) -> Result<Self, NoMemory>;
 }
 
-// A refused growth is asked for once more.
+// After a failed allocation tries once more.
 fn copy_of<T: Copied>(alloc: Global, value: &T) -> Result<T, NoMemory> {
     match value.copied(alloc) {
         Ok(copy) => Ok(copy),
@@ -63,7 +63,7 @@ fn is_same<T: PartialEq + Drop>(
     Ok(())
 }
 
-/// Returns a copy is equal to what it was made of, which stays as it was where memory was refused.
+/// Returns whether a copy is equal to its original, which a failed allocation leaves unchanged.
 pub(crate) fn is_copied<T: Copied + PartialEq + Drop>(
     rt: &impl Abort,
     alloc: Global,
@@ -74,7 +74,7 @@ pub(crate) fn is_copied<T: Copied + PartialEq + Drop>(
     is_same(rt, both(Ok(value), copy))
 }
 
-// A value that is there, or want of memory.
+// A value, or `NoMemory`.
 fn some<T: Drop>(found: Result<Option<T>, NoMemory>) -> Result<T, NoMemory> {
     match found? {
         Some(value) => Ok(value),

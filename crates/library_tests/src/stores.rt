@@ -1,4 +1,4 @@
-//! Stores: what is looked up, and how they are joined.
+//! Stores: look-ups and joins.
 use crate::shared::{ended, finished, holds, uid_of};
 use plain::{NoMemory, Text, both};
 use stamped_store::{Entry, ReadText, SiteName, Stamp, Stamped, StampedStore, laws};
@@ -16,7 +16,7 @@ const FORBID: &str = "forbid (principal, action, resource);";
 // A count, a site's name and a text.
 type Row<'a> = (u64, &'a str, &'a str);
 
-// What an entry stands at.
+// The name of an entry.
 trait Named {
     fn id(&self) -> &str;
 
@@ -44,7 +44,7 @@ impl Named for EntityUid {
     }
 }
 
-// The text that an entry holds, read as its length; an empty text is a tombstone's.
+// The text of an entry, parsed as its length; an empty text is a tombstone.
 fn body(alloc: Global, text: &str) -> Result<Option<ReadText<usize>>, NoMemory> {
     if text.is_empty() {
         return Ok(None);
@@ -54,7 +54,7 @@ fn body(alloc: Global, text: &str) -> Result<Option<ReadText<usize>>, NoMemory> 
     Ok(Some(ReadText { text, read }))
 }
 
-// The site of this name; of a text that is none, that of number 0.
+// The site of this name; for a text that is not a site name, that of number 0.
 fn site(name: &str) -> SiteName {
     match SiteName::parse(name) {
         Some(site) => site,
@@ -75,7 +75,7 @@ fn entry(alloc: Global, row: Row<'_>) -> Result<Entry<usize>, NoMemory> {
     Ok(Entry { stamp, body })
 }
 
-// The text of an entry, and none of a tombstone.
+// The text of an entry; `None` for a tombstone.
 fn text_of(entry: &Entry<usize>) -> &str {
     match &entry.body {
         Some(read) => read.text.as_str(),
@@ -94,7 +94,7 @@ fn uid(alloc: Global, id: &str) -> Result<EntityUid, NoMemory> {
     uid_of(alloc, "User", id)
 }
 
-// What was done, or want of memory.
+// The result, or `NoMemory`.
 fn done<T: Drop, E: Drop>(tried: Result<T, E>) -> Result<T, NoMemory> {
     match tried {
         Ok(value) => Ok(value),
@@ -127,14 +127,14 @@ fn fill(alloc: Global, store: &mut Store, row: Row<'_>, names: &str) -> Result<(
     Ok(())
 }
 
-// A store that has at each of these names an entry of this stamp and text.
+// A store with an entry of this stamp and text at each of these names.
 fn filled(alloc: Global, row: Row<'_>, names: &str) -> Result<Store, NoMemory> {
     let mut store = StampedStore::new(alloc);
     let done = fill(alloc, &mut store, row, names);
     finished(store, done)
 }
 
-// As `filled`; a refused growth is asked for once more.
+// Like `filled`; after a failed allocation tries once more.
 fn filled_at_last(alloc: Global, row: Row<'_>, names: &str) -> Result<Store, NoMemory> {
     match filled(alloc, row, names) {
         Ok(store) => Ok(store),
@@ -142,15 +142,15 @@ fn filled_at_last(alloc: Global, row: Row<'_>, names: &str) -> Result<Store, NoM
     }
 }
 
-// Two lists of names: what stands in a store, and what is merged into it, policies before entities. Each name of the
-// first has count 1 and `PERMIT`, each of the second count 9 and `FORBID`.
+// Two lists of names, policies before entities: those in a store, and those merged into it. Each name of the first has
+// count 1 and `PERMIT`, each of the second count 9 and `FORBID`.
 #[derive(Clone, Copy)]
 struct Merge<'a> {
     own: &'a str,
     other: &'a str,
 }
 
-// Whether a key is one of the first so many of these names.
+// Whether a key is one of the first `count` of these names.
 fn is_among<K: Named>(names: &str, count: usize, key: &K) -> bool {
     let mut left = count;
     for name in names.split(' ') {
@@ -165,7 +165,7 @@ fn is_among<K: Named>(names: &str, count: usize, key: &K) -> bool {
     false
 }
 
-// Whether a key has what it has once the first so many names of the other store are joined, and no others.
+// Whether a key has its entry after a join with exactly the first `taken` names of the other store.
 fn is_joined<K: Named>(merge: Merge<'_>, taken: usize, key: &K, entry: &Entry<usize>) -> bool {
     if is_among(merge.other, taken, key) {
         return entry.stamp == stamp((9, "2", "")) && text_of(entry) == FORBID;
@@ -197,7 +197,7 @@ fn has_name(names: &str, name: &str) -> bool {
     false
 }
 
-// How many names are in the first list, or among the first so many of the second.
+// The number of names in the first list, or among the first `taken` of the second.
 fn count_joined(merge: Merge<'_>, taken: usize) -> usize {
     let mut count = merge.own.split(' ').count();
     for name in merge.other.split(' ').take(taken) {
@@ -206,7 +206,7 @@ fn count_joined(merge: Merge<'_>, taken: usize) -> usize {
     count
 }
 
-// Exactly the first so many names of the other store are joined.
+// Exactly the first `taken` names of the other store are joined.
 fn is_joined_up_to(store: &Store, merge: Merge<'_>, taken: usize) -> bool {
     let count = store
         .policies()
@@ -222,7 +222,7 @@ fn merge_again(alloc: Global, store: &mut Store, other: &str) -> Result<(), NoMe
     done(store.merge(filled_at_last(alloc, (9, "2", FORBID), other)?))
 }
 
-// Where memory is refused in a merge, the entries of the first names are joined, and no others; then it is done.
+// If an allocation fails in a merge, exactly the entries of the first names are joined; a second try joins the rest.
 fn merge_at_last(
     rt: &impl Abort,
     alloc: Global,
@@ -244,7 +244,7 @@ fn merge_at_last(
     }
 }
 
-// Merges at a store that lives on.
+// Merges into a store that stays in use.
 fn merge_into(
     rt: &impl Abort,
     alloc: Global,
@@ -266,8 +266,8 @@ fn merged(rt: &impl Abort, alloc: Global, own: &str, other: &str) -> Result<(), 
     ended(store, came)
 }
 
-// Five names each. A map asks for memory with its first name and its sixteenth, so that a merge may be refused behind
-// three names, behind none, or nowhere; in the last case behind one.
+// Five names each. A map allocates with its first name and its sixteenth, so that a merge may fail after three names,
+// before the first, or nowhere; in the last case after one.
 #[test]
 fn a_refused_merge_joins_the_first_names(rt: HostRuntime) -> Result<(), NoMemory> {
     let alloc = rt.alloc();
@@ -284,7 +284,7 @@ fn is_looked_up(store: &Store, uid: &EntityUid) -> bool {
         && is_text_of(store.get_entity(uid), PERMIT)
 }
 
-// The entries stand at these ids, in this order.
+// The entries have these ids, in this order.
 fn stand_at<K: Named>(entries: Iter<'_, K, Entry<usize>>, ids: &str) -> bool {
     let mut ids = ids.split(' ');
     for (name, _) in entries {

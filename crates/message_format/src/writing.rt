@@ -72,7 +72,7 @@ fn from_name<'a, N: Lent>(
     (left, None)
 }
 
-/// Returns whether an entry is missing where this stamp is known: there is none, or a smaller one.
+/// Returns whether an entry is missing, given the known stamp of its name: no stamp is known, or a smaller one.
 fn is_unseen<P>(known: Option<Stamp>, entry: &Entry<P>) -> bool
     ensures { result ≡ is_news_where known (Some (plain_entry entry.now)) }
 {

@@ -30,8 +30,8 @@ use Rattle.sync_messages.specs.entities.entity_data.declared.entity.Entity.{Enti
 use Rattle.sync_messages.specs.Laws.{PoliciesHaveOneReading, EntitiesHaveOneReading}
 use Rattle.sync_messages.specs.Texts.{ReadsPolicy, RefusesPolicy, ReadsEntity, RefusesEntity}
 use Rattle.sync_messages.specs.Messages.{IsMessageOf, IsMessageFaultOf}
-use Rattle.entity_theorems.specs.Laws.{EntitiesAreRead}
-use Rattle.entity_theorems.specs.Outcomes.{HasOneOutcome}
+use Rattle.sync_messages.specs.entities.AsStated.{EntitiesAreRead}
+use Rattle.sync_messages.specs.schema.Agreement.{HasOneOutcome}
 use Rattle.message_theorems.specs.Forms.{StatesName, StatesSite}
 use Rattle.message_theorems.specs.Forms as form
 use Rattle.message_theorems.specs.Updates.{StatesEntry, StatesUpdates}

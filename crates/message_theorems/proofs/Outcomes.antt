@@ -1,7 +1,7 @@
 -- One outcome, and the function that gives it.
 use Rattle.std.proofs.Common.{◌≡◌, ◌∙◌, Result, sym, subst, inl, inr}
 use Rattle.std.specs.Prelude.{◌⊎◌}
-use Rattle.entity_theorems.specs.Outcomes.{Gives, HasOneOutcome}
+use Rattle.sync_messages.specs.schema.Agreement.{Gives, HasOneOutcome}
 use Rattle.message_theorems.proofs.Steps.{done, failed, ok_is, err_is, never}
 
 module _ {A F : Type 0} (r : Result A F) (States : A → Type 0) (Refuses : F → Type 0)

@@ -25,7 +25,7 @@ use Rattle.message_format.specs.declared.version.MessageVersion.TheVariants.{Two
 use Rattle.message_format.specs.declared.fault.MessageFault.{MessageFault}
 use Rattle.message_format.specs.declared.fault.MessageFault.TheVariants.{NotJson, BadShape, OtherSchema}
 use Rattle.message_format.specs.Summaries.{ascend, stamp_json, summary_json, stamped_in, stamp_in, stamps_of, stamps_in, judged, version_in, summary_in, summary_stated}
-use Rattle.entity_theorems.specs.Outcomes.{Gives, HasOneOutcome}
+use Rattle.sync_messages.specs.schema.Agreement.{Gives, HasOneOutcome}
 use Rattle.message_theorems.specs.Forms.{StatesName, StatesSite, HasVersion, number_of, StatesForm, RefusesForm}
 use Rattle.message_theorems.specs.Summaries.{StatesStamp, names_of, IsSummary, RefusesStamps, StatesSummary, RefusesSummary}
 use Rattle.message_theorems.specs.Summaries as says

@@ -17,9 +17,9 @@ use Rattle.sync_messages.specs.entities.Faults.{code_of}
 use Rattle.sync_messages.specs.entities.Entities.{entity_stated_in}
 use Rattle.sync_messages.specs.entities.Canonical.{canonical_text}
 use Rattle.sync_messages.specs.Texts.{refused_by, entity_of_text}
-use Rattle.entity_theorems.specs.Entities.{StatesEntity}
-use Rattle.entity_theorems.specs.Outcomes.{Gives}
-use Rattle.entity_theorems.specs.Laws.{EntitiesAreRead}
+use Rattle.sync_messages.specs.entities.StatedEntities.{StatesEntity}
+use Rattle.sync_messages.specs.schema.Agreement.{Gives}
+use Rattle.sync_messages.specs.entities.AsStated.{EntitiesAreRead}
 use Rattle.message_theorems.specs.Texts.{StatesText, RefusesText}
 use Rattle.message_theorems.specs.Texts as says
 use Rattle.message_theorems.proofs.Steps.{done, failed, same_bytes, bytes_same, true_false, untrue}

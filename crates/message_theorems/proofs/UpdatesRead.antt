@@ -25,7 +25,7 @@ use Rattle.message_format.specs.declared.fault.MessageFault.TheVariants.{NotJson
 use Rattle.message_format.specs.Summaries.{name_json, stamped_in, version_in}
 use Rattle.message_format.specs.Messages.{body_json, entry_json, message_json, text_in, body_in, entry_by, entry_in, entries_of, entries_by, entries_in, is_kind}
 use Rattle.message_format.specs.Messages.{updates_by, updates_in, updates_stated}
-use Rattle.entity_theorems.specs.Outcomes.{Gives, HasOneOutcome}
+use Rattle.sync_messages.specs.schema.Agreement.{Gives, HasOneOutcome}
 use Rattle.message_theorems.specs.Forms.{StatesName, StatesSite, HasVersion, number_of}
 use Rattle.message_theorems.specs.Forms as says
 use Rattle.message_theorems.specs.Updates.{StatesEntry, IsUpdates, StatesUpdates, RefusesUpdates}

@@ -50,8 +50,8 @@ pub record StatesForm {A : Type 0} (Form : Data → List ℕ → A → Type 0) (
     pub json : json_of bytes ≡ Some value
     pub form : Form value label content
 
--- `RefusesForm Form label bytes fault` holds if they are none, and `fault` is the first error: not JSON, no version,
--- another version than 1 and 2, another form whatever the schema and the content, or another schema.
+-- `RefusesForm Form label bytes fault` holds if `bytes` is no such message, and `fault` is the first error: not JSON,
+-- no version, another version than 1 and 2, another form whatever the schema and the content, or another schema.
 pub data RefusesForm {A : Type 0} (Form : Data → List ℕ → A → Type 0) (label bytes : List ℕ) : MessageFault → Type 0
   where
     not_json : json_of bytes ≡ None → RefusesForm Form label bytes NotJson

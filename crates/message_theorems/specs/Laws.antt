@@ -14,7 +14,7 @@ use Rattle.sync_messages.specs.schema.Schemas.{StatedSchema}
 use Rattle.sync_messages.specs.entities.entity_data.declared.entity.Entity.{Entity}
 use Rattle.sync_messages.specs.Texts.{entity_of_text}
 use Rattle.sync_messages.specs.Messages.{IsMessageOf, IsMessageFaultOf}
-use Rattle.entity_theorems.specs.Outcomes.{Gives, HasOneOutcome}
+use Rattle.sync_messages.specs.schema.Agreement.{Gives, HasOneOutcome}
 use Rattle.message_theorems.specs.Forms.{HasVersion}
 use Rattle.message_theorems.specs.Updates.{StatesUpdates, RefusesUpdates}
 use Rattle.message_theorems.specs.Summaries.{StatesSummary, RefusesSummary}

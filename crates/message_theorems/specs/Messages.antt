@@ -17,7 +17,7 @@ use Rattle.message_theorems.specs.Updates.{StatesUpdates, RefusesUpdates}
 use Rattle.message_theorems.specs.Summaries.{Fits, RefusesRanges}
 use Rattle.message_theorems.specs.Texts.{StatesText, RefusesText}
 
--- `HasTextsOf s us` holds if each text of `us` is that of the policy or entity beside it, under the schema `s`: a
+-- `HasTextsOf s us` holds if each text of `us` is that of the policy or entity in its update, under the schema `s`: a
 -- policy that passes validation, or the canonical text of an entity with the uid in the name.
 abbrev pub HasTextsOf : StatedSchema → List (Update Policy Entity) → Type 0
 HasTextsOf s us = AllByRecursion (IsUpdateRead (λ id. ReadsPolicy s) (StatesText s)) us
@@ -47,8 +47,8 @@ pub record StatesMessage (s : StatedSchema) (bytes : List ℕ) (us : List (Updat
   pub fit : AllByRecursion (λ u. Fits (stamped u)) (plain_updates us)
   pub have_texts : HasTextsOf s us
 
--- `RefusesMessage s bytes fault` holds if they are none, and `fault` is the first error: of the form, of the schema,
--- and then of an entry.
+-- `RefusesMessage s bytes fault` holds if `bytes` is not a message, and `fault` is the first error: of the form, of
+-- the schema, and then of an entry.
 pub data RefusesMessage (s : StatedSchema) (bytes : List ℕ) : MessageFault → Type 0 where
   no_updates : (fault : MessageFault) → RefusesUpdates s.label bytes fault → RefusesMessage s bytes fault
   bad_entries : (us : List PlainUpdate) (fault : MessageFault) → StatesUpdates s.label bytes us

@@ -1,4 +1,4 @@
--- Defines which bytes state which summary, and the error of bytes that state none.
+-- Defines which bytes state which summary, and the error of all other bytes.
 -- Source: docs/formats.md, "Messages between sites".
 -- Rules of this product: a summary and each of its stamps have exactly the keys below, in ascending order as all keys
 -- that were read (`json_keys_ascend`); names ascend strictly; then the first stamp that is out of range is the error,
@@ -84,8 +84,8 @@ pub record StatesSummary (label bytes : List ℕ) (m : Summary) : Type 0 where
   pub states : StatesForm IsSummary label bytes m
   pub fit : AllByRecursion Fits m
 
--- `RefusesSummary label bytes fault` holds if they are none, and `fault` is the first error: of the form, of the
--- schema, and then of a stamp.
+-- `RefusesSummary label bytes fault` holds if `bytes` is not a summary, and `fault` is the first error: of the form,
+-- of the schema, and then of a stamp.
 pub data RefusesSummary (label bytes : List ℕ) : MessageFault → Type 0 where
   no_summary : (fault : MessageFault) → RefusesForm IsSummary label bytes fault → RefusesSummary label bytes fault
   bad_stamps : (m : Summary) (fault : MessageFault) → StatesForm IsSummary label bytes m → RefusesStamps 0 m fault

@@ -13,7 +13,7 @@ use Rattle.sync_messages.specs.entities.entity_data.declared.entity.Entity.{Enti
 use Rattle.sync_messages.specs.entities.declared.fault.EntityFault.{EntityFault}
 use Rattle.sync_messages.specs.entities.Faults.{code_of}
 use Rattle.sync_messages.specs.entities.Canonical.{canonical_text}
-use Rattle.entity_theorems.specs.Entities.{StatesEntity, RefusesEntity}
+use Rattle.sync_messages.specs.entities.StatedEntities.{StatesEntity, RefusesEntity}
 
 -- `StatesText s uid text e` holds if `text` is the JSON of the entity `e` under the schema `s`, in its canonical
 -- spelling, and the uid of `e` is `uid`.

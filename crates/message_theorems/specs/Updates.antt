@@ -1,4 +1,4 @@
--- Defines which bytes state which updates, as a state or a delta, and the error of bytes that state none.
+-- Defines which bytes state which updates, as a state or a delta, and the error of all other bytes.
 -- Source: docs/formats.md, "Messages between sites".
 -- Rules of this product: a message and each of its entries have exactly the keys below; a body is null or a text. (In
 -- JSON that was read the keys of each object ascend, whatever their order in the bytes: `json_keys_ascend`.)
@@ -41,6 +41,6 @@ pub record IsUpdates (d : Data) (schema : List ℕ) (us : List Update) : Type 0 
 abbrev pub StatesUpdates : List ℕ → List ℕ → List Update → Type 0
 StatesUpdates label bytes us = StatesForm IsUpdates label bytes us
 
--- `RefusesUpdates label bytes fault` holds if they are none, and `fault` is the first error.
+-- `RefusesUpdates label bytes fault` holds if `bytes` does not state updates, and `fault` is the first error.
 abbrev pub RefusesUpdates : List ℕ → List ℕ → MessageFault → Type 0
 RefusesUpdates label bytes fault = RefusesForm IsUpdates label bytes fault

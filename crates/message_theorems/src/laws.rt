@@ -3,17 +3,16 @@ ghost use Rattle.message_theorems.specs.Laws.{UpdatesAreRead, UpdatesHaveOneOutc
 ghost use Rattle.message_theorems.specs.Laws.{SummariesAreRead, SummariesHaveOneOutcome, SummariesAreWritten};
 ghost use Rattle.message_theorems.specs.Laws.{TextsAreRead, MessagesAreRead, MessagesHaveOneOutcome};
 
-use entity_theorems::entities_are_read_as_stated;
 use json_words::json_keys_ascend;
 use message_format::{names_read_back, stamps_read_back};
 use stamped_store::laws::site_names_are_told;
-use sync_messages::stored_texts_have_one_reading;
+use sync_messages::{entities_are_read_as_stated, stored_texts_have_one_reading};
 
 /// Proves that parsing a state or delta gives the updates that bytes state, or the first error, before the checks of
 /// entries. No-op.
 ///
 /// Bytes state exactly one list of updates or are rejected with exactly one error, never both. Bytes of version 2 that
-/// are read as updates are JSON with exactly what is written for these updates, and nothing else.
+/// are parsed as updates are JSON with exactly what is written for these updates.
 pub fn updates_are_read_as_stated()
     ensures read { UpdatesAreRead }
     ensures one { UpdatesHaveOneOutcome }
@@ -28,7 +27,7 @@ pub fn updates_are_read_as_stated()
 /// Proves that parsing a summary gives the summary that bytes state, or the first error. No-op.
 ///
 /// Bytes state exactly one summary or are rejected with exactly one error, never both. Bytes of version 2 that are read
-/// as a summary are JSON with exactly what is written for it, and nothing else.
+/// as a summary are JSON with exactly what is written for it.
 pub fn summaries_are_read_as_stated()
     ensures read { SummariesAreRead }
     ensures one { SummariesHaveOneOutcome }

@@ -1,5 +1,5 @@
 -- Defines the keys of a policy's annotations, which must be distinct.
--- Source: Cedar reference guide 4.0, "Annotations": a key stands once in a policy.
+-- Source: Cedar reference guide 4.0, "Annotations": a key occurs once in a policy.
 use Rattle.std.specs.Prelude.{ℕ, List, map}
 use Rattle.grammar_desugaring.specs.grammar_tokens.Lexing.{spelling_of}
 use Rattle.grammar_policies.specs.declared.tree.Annotation.{Annotation}

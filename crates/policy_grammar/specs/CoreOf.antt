@@ -1,4 +1,4 @@
--- Defines the policy of a syntax tree, with the text in which its tokens stand.
+-- Defines the policy of a syntax tree, with the text that has its tokens.
 -- Source: Cedar reference guide 4.0, "Basic policy construction": effect, scope, conditions and annotations; "Grammar
 -- specification for Cedar policy syntax". That a policy is named by its `@id` follows the Cedar command line; the
 -- names of the others are a rule of this product.

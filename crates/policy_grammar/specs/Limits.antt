@@ -17,7 +17,7 @@ use Rattle.policy_grammar.specs.Conditions.{conditions_of}
 use Rattle.policy_grammar.specs.CoreOf.{IsCoreOf}
 
 -- A `Shape` is a core expression reduced to its size: a leaf (a literal or a variable), a node over one or over two
--- operands, a set of so many literals, or any expression by its height and its nodes.
+-- operands, a set of a number of literals, or any expression by its height and its nodes.
 pub data Shape : Type 0 where
   leaf : Shape
   over : Shape → Shape

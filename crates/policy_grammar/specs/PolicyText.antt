@@ -65,7 +65,7 @@ pub record IsPolicyFile (text : List ℕ) (names : List (List ℕ)) (policies : 
   pub derives : Derives (grammar.policies nesting_limit) most_file_bytes text trees
   pub are : ArePoliciesOf text trees names policies
 
--- The errors, in their order: each excludes the earlier ones. None is `NoMemory`, which says nothing of a text.
+-- The errors, in their order: each excludes the earlier ones. `NoMemory` is not among them, as it depends on no text.
 
 -- `IsReportedOf faults why` holds if `why` is the reported one of `faults`: at the least offset, and of those the
 -- first in the list.

@@ -1,6 +1,6 @@
 -- Defines the names of the policies in a file, which must be distinct.
--- Source: Cedar reference guide 4.0, "Annotations": a key stands once in a policy.
--- Rules of this product: a name stands once in a file.
+-- Source: Cedar reference guide 4.0, "Annotations": a key occurs once in a policy.
+-- Rules of this product: a name occurs once in a file.
 use Rattle.std.specs.Prelude.{ℕ, List, [], ◌∷◌, map}
 use Rattle.std.specs.List.{zip}
 use Rattle.grammar_desugaring.specs.grammar_tokens.declared.token.Token.{Token}

@@ -1,4 +1,4 @@
--- Defines the tree that a text is parsed into, and the error if there is none: of length, of a token, or of the
+-- Defines the tree that a text is parsed into, or the error of a text without a tree: of length, of a token, or of the
 -- grammar.
 -- Source: Cedar reference guide 4.0, "Grammar specification for Cedar policy syntax". The limits, the errors and
 -- their order are rules of this product.
@@ -27,9 +27,9 @@ pub record Derives {A : Type 0} (L : Lang A) (most : ℕ) (text : List ℕ) (tre
   pub lexed : IsLexed text tokens
   pub derived : L tokens tree
 
--- The errors, in their order: each excludes the earlier ones. None is `NoMemory`, which says nothing of a text.
+-- The errors, in their order: each excludes the earlier ones. `NoMemory` is not among them, as it depends on no text.
 
--- `byte_of text token` is the byte at which `token` starts, or the text's length if there is none.
+-- `byte_of text token` is the byte at which `token` starts, or the text's length if `token` is `None`.
 abbrev pub byte_of : List ℕ → Option Token → ℕ
 byte_of text None = length text
 byte_of text (Some token) = token.start

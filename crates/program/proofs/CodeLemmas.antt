@@ -1,7 +1,7 @@
 -- The words on the code that a word is.
 use Rattle.std.proofs.Common.{◌≡◌, ◌∙◌, ℕ, false, List, Option, None, Some, is_some, IfSome, MatchOption, Bor, sym, subst}
-use Rattle.explanations.specs.explanation_texts.fault_words.declared.table.CodeWords.{CodeWords}
-use Rattle.explanations.specs.explanation_texts.fault_words.Codes.{is_code}
+use Rattle.explanations.specs.explanation_texts.declared.table.CodeWords.{CodeWords}
+use Rattle.explanations.specs.explanation_texts.Codes.{is_code}
 use Rattle.program.specs.Explaining.{IsSmallNumeral, IsSmallNumber, IsNoCode}
 
 pub no_numeral : (word : List ℕ) → (IsSmallNumeral word → ⊥) → IsNoCode word

@@ -1,7 +1,7 @@
 -- Defines the initial site of a run.
 -- Source: docs/operating.md.
--- Rules of this product: the schema is checked first; then a message, a state or a delta, is rejected whole, or the
--- site applies its updates.
+-- Rules of this product: the schema is checked first; then a message (a state or a delta) is rejected as a whole, or
+-- the site applies all of its updates.
 use Rattle.std.specs.Prelude.{◌≡◌, ◌⊎◌, ℕ, List, [], Option, None, Some}
 use Rattle.program_drills.specs.http_service.policy_grammar.declared.policy.Policy.{Policy}
 use Rattle.site_loading.specs.schema.Schemas.{StatedSchema, IsSchemaOf}

@@ -31,7 +31,7 @@ pub data Event (L : Type 0) : Type 0 where
   closed : L → Event L
   -- how serving the connection that was closed last had ended
   served : Result (Unit {0}) StreamFault → Event L
-  -- a pause of so many milliseconds
+  -- a pause of this number of milliseconds
   paused : ℕ → Event L
 
 module _ {L H : Type 0} (does : H → Event L → H → Type 0) where

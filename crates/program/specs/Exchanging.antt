@@ -1,9 +1,9 @@
--- Defines what a run does that exchanges between two running sites: six calls, three for each site that is brought up
--- to date, and two lines.
+-- Defines a run of `exchange`, which brings two running sites up to date: six calls, three for each site, and two
+-- lines.
 -- Source: docs/operating.md, "Exchange".
--- Rules of this product: the schema is judged before anything is sent; each call has a connection of its own, and sends
--- the bytes that the call before brought; the count that a merge answers is written as it came; the first call that
--- brings nothing to go on with ends the run, and the line that tells of it has its number, its request and the cause.
+-- Rules of this product: the schema is checked before anything is sent; each call opens its own connection and sends
+-- the body of the previous reply; the count in the reply to a merge is printed as received; the first call that fails
+-- ends the run, and its line reports the address, the number and the request of the call, and the cause.
 use Rattle.std.specs.Prelude.{◌≡◌, ◌≢◌, ◌≤◌, ◌⊎◌, ℕ, ◌+◌, ◌++◌, List, [], ◌∷◌, Option, None, Some, codes}
 use Rattle.std.specs.Prelude.{decimal, if◌then◌else◌, nat_eq}
 use Rattle.std.specs.Borrow.{Bor}
@@ -33,18 +33,18 @@ use Rattle.program.specs.Pulling.{IsAsked, NoReadFailed, NoWriteFailed}
 
 -- ---- lines
 
--- `call_text call` is method and path of `call`
+-- `call_text call` is the method and the path of `call`.
 abbrev pub call_text : Call → List ℕ
 call_text call.Summary = codes "GET /v1/summary"
 call_text call.Delta = codes "POST /v1/delta"
 call_text call.Merge = codes "POST /v1/merge"
 
--- `status_text status` tells of a reply with `status`; for a request that is too large it says what to do instead
+-- `status_text status` reports a reply with `status`; for a request that is too large it says what to do instead.
 unfoldable pub status_text : ℕ → List ℕ
 status_text status = if nat_eq status 413 then codes "status 413, larger than a site takes: merge the two as files"
     else codes "status " ++ decimal status
 
--- `fault_text fault` tells why a call brought nothing to go on with
+-- `fault_text fault` says why a call failed.
 abbrev pub fault_text : CallFault → List ℕ
 fault_text cause.NotReached = codes "no connection"
 fault_text cause.NoCount = codes "no count of updates"
@@ -56,45 +56,46 @@ fault_text (cause.Network network.NoHost) = codes "no host"
 fault_text (cause.Network network.TooLarge) = codes "larger than a site takes: merge the two as files"
 fault_text (cause.Network (network.OtherStatus status)) = status_text status
 
--- `call_report at why` is the address of the call `at`, its number and its request, and `why`
+-- `call_report at why` is the address of the call `at`, its number and its request, and `why`.
 unfoldable pub call_report : RoundCall → List ℕ → List ℕ
 call_report at why = at.address.now ++ codes ": call " ++ decimal at.number ++ codes " of 6, " ++ call_text at.call
     ++ codes ": " ++ why
 
 module _ {L : Type 0} where
-  -- `IsCallReported at fault` holds of a run that ends with the line of this fault of the call `at`, with status 3
+  -- `IsCallReported at fault`: the error `fault` of the call `at` is reported, and the run ends with status 3.
   abbrev pub IsCallReported : RoundCall → CallFault → Course L
   IsCallReported at fault events end = IsFailureReported (call_report at (fault_text fault)) events end
       ⊎ IsMemoryReported events end
 
-  -- the same, of what came in place of a reply
+  -- `IsCallFaultTold at fault`: the same of what was received in place of a reply.
   abbrev pub IsCallFaultTold : RoundCall → PullFault → Course L
   IsCallFaultTold at (Network fault) = IsCallReported at (cause.Network fault)
   IsCallFaultTold at (Refused refusal) = IsMemoryReported
 
-  -- `TellsTaken at line goes_on` holds of a run that writes the count `line` on standard output and goes on; or that
-  -- tells that the reply to the call `at` is no count
+  -- `TellsTaken at line goes_on`: the count `line` is written to standard output, and the run goes on; or it is
+  -- reported that the reply to the call `at` is not a count.
   abbrev pub TellsTaken : RoundCall → List ℕ → Course L → Course L
   TellsTaken at line goes_on events end = (IsTakenLine line × Announces line goes_on events end)
       ⊎ ((IsTakenLine line → ⊥) × IsCallReported at cause.NoCount events end)
 
-  -- the run is at its end, with status 0
+  -- `IsOver`: the run ends with status 0.
   abbrev pub IsOver : Course L
   IsOver events end = (events ≡ []) × (end ≡ 0)
 
 -- ---- calls
 
 module _ {R W : Type 0} (reader : Source R) (writer : Sink W) where
-  -- `IsCalled at body link reply left` holds if the request of the call `at` with `body`, which a site takes, was
-  -- written over `link`, and what was read begins with a reply of status 200 and the body `reply`; no device failed
+  -- `IsCalled at body link reply left` holds if the request of the call `at` with `body`, of a size that a site
+  -- accepts, was written over `link`, and what was read begins with a reply of status 200 and the body `reply`; no
+  -- device failed.
   abbrev pub IsCalled : RoundCall → List ℕ → Link R W → List ℕ → Link R W → Type 0
   IsCalled at body link reply left =
       IsAsked reader writer (call_request at.call at.address.now body) link reply left
       × NoReadFailed reader writer link left × NoWriteFailed reader writer link left
       × (call_size at.call body ≤ MAX_BODY)
 
-  -- `IsNotCalled at body link fault left` holds if `fault` is why there is no such reply; of the request a first part
-  -- was written, or all of it
+  -- `IsNotCalled at body link fault left` holds if `fault` is why there is no such reply; a first part of the request
+  -- was written, or all of it.
   abbrev pub IsNotCalled : RoundCall → List ℕ → Link R W → PullFault → Link R W → Type 0
   IsNotCalled at body link (Network fault) left =
       IsUnanswered reader.left reader.reads reader.failed reader.fails writer.holds writer.failed writer.fails
@@ -107,8 +108,8 @@ module _ {R W : Type 0} (reader : Source R) (writer : Sink W) where
       link.writer left.writer
       × NoReadFailed reader writer link left × NoWriteFailed reader writer link left
 
-  -- `CallsOver at body goes_on link` holds of a run that makes the call `at` with `body` over `link`, lets `link` go,
-  -- and goes on with the reply; or tells why there is none
+  -- `CallsOver at body goes_on link`: the call `at` with `body` is made over `link`, `link` is closed, and the run goes
+  -- on with the reply; or it is reported why there is no reply.
   abbrev pub CallsOver : RoundCall → List ℕ → (List ℕ → Course (Link R W)) → Link R W → Course (Link R W)
   CallsOver at body goes_on link events end =
       ((reply : List ℕ) × (left : Link R W) × (rest : List (Event (Link R W)))
@@ -116,7 +117,7 @@ module _ {R W : Type 0} (reader : Source R) (writer : Sink W) where
       ⊎ ((fault : PullFault) × (left : Link R W) × (rest : List (Event (Link R W)))
       × IsNotCalled at body link fault left × (events ≡ closed left ∷ rest) × IsCallFaultTold at fault rest end)
 
-  -- `Calls at body goes_on` holds of a run that does so over a connection that it opens; or tells that none could be
+  -- `Calls at body goes_on`: the same over a connection that the run opens; or it is reported that it cannot be opened.
   abbrev pub CallsIfReached : RoundCall → List ℕ → (List ℕ → Course (Link R W)) → Option (Link R W)
       → Course (Link R W)
   CallsIfReached at body goes_on (Some link) = CallsOver at body goes_on link
@@ -128,9 +129,9 @@ module _ {R W : Type 0} (reader : Source R) (writer : Sink W) where
 
   -- ---- rounds
 
-  -- `Direction first to from goes_on` holds of a run that brings the site at `to` up to date from the one at `from`, by
-  -- the calls `first`, `first` + 1 and `first` + 2, and goes on: it asks `to` for its summary, posts that to `from`,
-  -- posts the delta that comes to `to`, and writes the count that comes
+  -- `Direction first to from goes_on`: the run brings the site at `to` up to date from the one at `from`, by the calls
+  -- `first`, `first` + 1 and `first` + 2, and goes on: it gets the summary of `to`, posts it to `from`, posts the delta
+  -- in the reply to `to`, and writes the count in the last reply.
   abbrev pub Direction : ℕ → Bor (List ℕ) → Bor (List ℕ) → Course (Link R W) → Course (Link R W)
   Direction first to from goes_on =
       Calls (record { number = first; call = call.Summary; address = to }) [] (λ summary.
@@ -138,16 +139,17 @@ module _ {R W : Type 0} (reader : Source R) (writer : Sink W) where
       Calls (record { number = first + 2; call = call.Merge; address = to }) delta (λ line.
       TellsTaken (record { number = first + 2; call = call.Merge; address = to }) line goes_on)))
 
-  -- first the one site is brought up to date, then the other
+  -- `IsRound between and`: first the site at `between` is brought up to date, then the one at `and`.
   abbrev pub IsRound : Bor (List ℕ) → Bor (List ℕ) → Course (Link R W)
   IsRound between and = Direction 1 between and (Direction 4 and between IsOver)
 
-  -- the schema is one, and then a round is made; or it is refused, and nothing is sent
+  -- `IsExchanged options schema`: a round is made, if `schema` is a schema; else its error is reported, and nothing is
+  -- sent.
   abbrev pub IsExchanged : ExchangeOptions → List ℕ → Course (Link R W)
   IsExchanged options schema events end =
       ((s : StatedSchema) × IsSchemaOf schema s × IsRound options.between options.and events end)
       ⊎ IsRefusedFor (IsSchemaRefused schema) events end
 
-  -- first the schema's file is read
+  -- `IsExchangeRun options`: first the schema's file is read.
   abbrev pub IsExchangeRun : ExchangeOptions → Course (Link R W)
   IsExchangeRun options = Reads options.schema.now (IsExchanged options)

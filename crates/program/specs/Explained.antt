@@ -1,15 +1,14 @@
 -- Defines what a command with the option `--explain` does: it runs as without it and, where texts are rejected, then
 -- explains them on standard error.
 -- Source: docs/operating.md, "Find out why a text is rejected".
--- Rules of this product: what the command reports comes first, and its status stays as it is; behind it stand the lines
--- that `explain` prints on the same files or, if nothing is rejected of these by themselves, the text on the code that
--- is reported. Where nothing is rejected, the option changes nothing. If memory for an explanation is refused, a line
--- says so in its place.
+-- Rules of this product: the command's own report comes first, and its status is unchanged; then come the lines that
+-- `explain` prints for the same files or, if `explain` rejects nothing in them, the text on the reported code. If
+-- nothing is rejected, the option changes nothing. If an explanation cannot be allocated, a line says so in its place.
 use Rattle.std.specs.Prelude.{◌≡◌, ◌⊎◌, ℕ, Bool, true, false, List, [], ◌∷◌, ◌++◌, codes}
 use Rattle.std.specs.Prelude.{Option, None, Some, unwrap_or}
-use Rattle.explanations.specs.explanation_texts.fault_words.declared.table.CodeWords.{CodeWords}
-use Rattle.explanations.specs.explanation_texts.fault_words.CodeText.{code_text}
-use Rattle.explanations.specs.explanation_texts.fault_words.Codes.{is_code}
+use Rattle.explanations.specs.explanation_texts.declared.table.CodeWords.{CodeWords}
+use Rattle.explanations.specs.explanation_texts.CodeText.{code_text}
+use Rattle.explanations.specs.explanation_texts.Codes.{is_code}
 use Rattle.explanations.specs.Files.{File, Files}
 use Rattle.explanations.specs.Explained.{IsExplained}
 use Rattle.program_drills.specs.http_service.answer_lines.declared.refusal.Refusal.{Refusal}
@@ -24,12 +23,12 @@ use Rattle.program.specs.Explaining.{IsWithoutEnd}
 abbrev pub file_held : List ℕ → List ℕ → File
 file_held name text = record { name = name; text = text }
 
--- `policies_of file` is the file of policies that is given; if none is, one without a name and without a byte.
+-- `policies_of file` is the given file of policies; if it is absent, an empty file with an empty name.
 abbrev pub policies_of : Option File → File
 policies_of file = unwrap_or file (file_held [] [])
 
--- `schema_files name schema` are the files of a command that takes messages: its schema. What is rejected of a message
--- is explained by the code that is reported.
+-- `schema_files name schema` are the files that a command over messages explains: its schema. An error of a message
+-- is explained by the reported code.
 abbrev pub schema_files : List ℕ → List ℕ → Files
 schema_files name schema = record {
   schema = Some (file_held name schema);
@@ -45,12 +44,13 @@ abbrev pub IsCodeText : ℕ → List ℕ → Type 0
 IsCodeText code text = ((words : CodeWords) × (words.code ≡ code) × (text ≡ code_text words))
     ⊎ ((is_code code ≡ false) × (text ≡ []))
 
--- `IsThatOr Other first text` holds if `text` is `first`; if that is empty, if `Other text` holds.
+-- `IsThatOr Other first text` holds if `text` is `first`, which is not empty; or `first` is empty, and `Other text`
+-- holds.
 abbrev pub IsThatOr : (List ℕ → Type 0) → List ℕ → List ℕ → Type 0
 IsThatOr Other [] text = Other text
 IsThatOr Other (byte ∷ bytes) text = text ≡ byte ∷ bytes
 
--- `IsRefusalText files code text` holds if `text` explains what is rejected of the files; if nothing is, this code.
+-- `IsRefusalText files code text` holds if `text` explains what is rejected in `files`; if nothing is, `code`.
 abbrev pub IsRefusalText : Files → ℕ → List ℕ → Type 0
 IsRefusalText files code text = (first : List ℕ) × IsExplained files first × IsThatOr (IsCodeText code) first text
 
@@ -70,7 +70,7 @@ module _ {L : Type 0} where
   abbrev pub IsTextTold : List ℕ → List (Event L) → Type 0
   IsTextTold text events = (lines : List ℕ) × IsWithoutEnd text lines × AreLinesTold lines events
 
-  -- `IsExplanationTold Is events` writes a text for which `Is` holds, or that there is no memory for it.
+  -- `IsExplanationTold Is events` writes a text for which `Is` holds, or that it cannot be allocated.
   abbrev pub IsExplanationTold : (List ℕ → Type 0) → List (Event L) → Type 0
   IsExplanationTold Is events =
       ((text : List ℕ) × Is text × IsTextTold text events) ⊎ IsTold (codes "explanation: out of memory") events
@@ -82,12 +82,12 @@ module _ {L : Type 0} where
   Explains true Is course events end = (first behind : List (Event L)) × course first end
       × IsExplanationTold Is behind × (events ≡ first ++ behind)
 
-  -- `IsRefusalTold refusal` reports a refusal, or that memory was refused.
+  -- `IsRefusalTold refusal` reports an error, or lack of memory.
   abbrev pub IsRefusalTold : Refusal → Course L
   IsRefusalTold refusal events end = IsRefusalReported refusal events end ⊎ IsMemoryReported events end
 
-  -- `IsRefusedWith wanted files Refused` reports the refusal for which `Refused` holds and, if `wanted`, then explains
-  -- what is rejected of the files, or its code.
+  -- `IsRefusedWith wanted files Refused` reports the error for which `Refused` holds and, if `wanted`, then explains
+  -- what is rejected in `files`, or the code of the error.
   abbrev pub IsRefusedWith : Bool → Files → (Refusal → Type 0) → Course L
   IsRefusedWith false files Refused events end = IsRefusedFor Refused events end
   IsRefusedWith true files Refused events end = (refusal : Refusal) × ((refusal ≡ no_memory) ⊎ Refused refusal)

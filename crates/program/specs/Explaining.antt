@@ -1,14 +1,14 @@
--- Defines what a run does that explains a code, or what is rejected of files.
+-- Defines a run of `explain`, which explains a code, or what is rejected in files.
 -- Source: docs/operating.md, "Find out why a text is rejected".
--- Rules of this product: a word of digits alone is a code; the text goes to standard output, and the run ends with 1 if
--- and only if something is rejected. A number that is not a code is an error of the command line.
+-- Rules of this product: an argument of digits alone is a code; the text goes to standard output, and the run ends with
+-- 1 if and only if something is rejected. A number that is not a code is an error of the command line.
 use Rattle.std.specs.Prelude.{◌≡◌, ◌⊎◌, ◌<◌, ◌^◌, ◌==◌, ◌&&◌, not, nat_le, ℕ, Bool, true, false, List, ◌++◌}
 use Rattle.std.specs.Prelude.{length, Option, None, Some, option_map, codes}
 use Rattle.std.specs.List.{list_all}
 use Rattle.std.specs.Str.Parse.{IsNumeral, digits_value, without_leading_plus}
-use Rattle.explanations.specs.explanation_texts.fault_words.declared.table.CodeWords.{CodeWords}
-use Rattle.explanations.specs.explanation_texts.fault_words.CodeText.{code_text}
-use Rattle.explanations.specs.explanation_texts.fault_words.Codes.{is_code}
+use Rattle.explanations.specs.explanation_texts.declared.table.CodeWords.{CodeWords}
+use Rattle.explanations.specs.explanation_texts.CodeText.{code_text}
+use Rattle.explanations.specs.explanation_texts.Codes.{is_code}
 use Rattle.explanations.specs.Files.{File, Files}
 use Rattle.explanations.specs.Explained.{IsExplained}
 use Rattle.program_lines.specs.declared.line.ExplainOptions.{ExplainOptions}
@@ -38,7 +38,7 @@ IsSmallNumber word n = IsSmallNumeral word × (n ≡ digits_value 10 (without_le
 abbrev pub IsNoCode : List ℕ → Type 0
 IsNoCode word = (n : ℕ) → IsSmallNumber word n → is_code n ≡ false
 
--- `file_named name text` is a file that is named, with its content.
+-- `file_named name text` is the file with this name and content, if both are present.
 abbrev pub file_named : Option (List ℕ) → Option (List ℕ) → Option File
 file_named (Some name) (Some text) = Some (record { name = name; text = text })
 file_named (Some name) None = None
@@ -53,9 +53,9 @@ files_named options schema policies entities request = record {
   request = file_named (option_map (λ s. s.now) options.request) request;
 }
 
--- `IsWithoutEnd text line` holds if `text` is `line` with its line feed, or `line` itself, if it has none.
+-- `IsWithoutEnd text line` holds if `text` is `line` and a line feed or, if no line feed ends it, `line` itself.
 abbrev pub IsWithoutEnd : List ℕ → List ℕ → Type 0
-IsWithoutEnd text line = (text ≡ ended line) ⊎ (text ≡ line)
+IsWithoutEnd text line = (text ≡ ended line) ⊎ ((text ≡ line) × ((front : List ℕ) → text ≡ ended front → ⊥))
 
 module _ {L : Type 0} where
   -- `IsCodeExplained word` reports the text on the code, or that there is no such code.
@@ -65,15 +65,15 @@ module _ {L : Type 0} where
       ⊎ (IsNoCode word × IsReported Faults (codes "error: no code is " ++ word) 2 events end)
       ⊎ IsMemoryReported events end
 
-  -- `AreTextsExplained files` reports what is rejected of the files; the run ends with 1 if anything is.
+  -- `AreTextsExplained files` reports what is rejected in `files`; the run ends with 1 if anything is.
   abbrev pub AreTextsExplained : Files → Course L
   AreTextsExplained files events end =
       ((text : List ℕ) × (line : List ℕ) × IsExplained files text × IsWithoutEnd text line
       × AreLinesReported line (is_some_text text) events end)
       ⊎ IsMemoryReported events end
 
-  -- `AreFilesExplained options` reads the files that are named, in the order schema, policies, entities, request, and
-  -- reports what is rejected of them.
+  -- `AreFilesExplained options` reads the named files in the order schema, policies, entities, request, and reports
+  -- what is rejected in them.
   abbrev pub AreFilesExplained : ExplainOptions → Course L
   AreFilesExplained options =
       ReadsIfNamed (option_map (λ s. s.now) options.schema) (λ schema.
@@ -82,11 +82,11 @@ module _ {L : Type 0} where
       ReadsIfNamed (option_map (λ s. s.now) options.request) (λ request.
       AreTextsExplained (files_named options schema policies entities request)))))
 
-  -- `IsExplainedAs is_number options` is the one or the other.
+  -- `IsExplainedAs is_number options` explains a code if `is_number`, else files.
   abbrev pub IsExplainedAs : Bool → ExplainOptions → Course L
   IsExplainedAs true options = IsCodeExplained options.what.now
   IsExplainedAs false options = AreFilesExplained options
 
-  -- `IsExplainRun options` explains a code, if a number is given, and otherwise files.
+  -- `IsExplainRun options` explains a code if its argument is a number, else files.
   abbrev pub IsExplainRun : ExplainOptions → Course L
   IsExplainRun options = IsExplainedAs (is_number options.what.now) options

@@ -24,8 +24,8 @@ use Rattle.program.specs.Reports.{IsAnswerReported, IsFailureReported, IsMemoryR
 use Rattle.program.specs.Reports.{taken_report_line}
 use Rattle.program.specs.Courses.{Course, Reads, ReadsIfThere, Connects, Stores}
 
--- `IsPullTold options r`: the new state is written, then the number of updates printed, if there is memory for that
--- line; or the address is reported at which the network failed; or why a text or the message is rejected.
+-- `IsPullTold options r`: the new state is written, then the number of updates printed, if that line can be allocated;
+-- or the address at which the network failed is reported; or the error of a text or the message.
 abbrev pub IsPullTold : {L : Type 0} → PullOptions → Result Pulled PullFault → Course L
 IsPullTold options (Ok pulled) events end =
     Stores options.state.now pulled.state.items (IsAnswerReported (taken_report_line pulled.taken)) events end

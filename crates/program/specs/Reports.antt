@@ -21,11 +21,11 @@ ended line = line ++ code "\n" ∷ []
 abbrev pub status_after : Bool → ℕ → ℕ
 status_after done status = if done then status else 3
 
--- `taken_report_line count` is the number of applied updates: {"taken":3}
+-- `taken_report_line count` is the line with the number of applied updates: {"taken":3}
 unfoldable pub taken_report_line : ℕ → List ℕ
 taken_report_line count = codes "{\"taken\":" ++ decimal count ++ codes "}"
 
--- `no_memory_line` is the error line of lack of memory, which takes no memory to make.
+-- `no_memory_line` is the error line of lack of memory, a constant.
 abbrev pub no_memory_line : List ℕ
 no_memory_line = codes "{\"error\":{\"code\":1,\"place\":null,\"within\":null}}"
 
@@ -51,7 +51,7 @@ module _ {L : Type 0} where
   abbrev pub IsRefusalReported : Refusal → List (Event L) → ℕ → Type 0
   IsRefusalReported refusal = IsReported Faults (error_line refusal) 1
 
-  -- `IsMemoryReported`: lack of memory is reported as an error, by a line that is made, or that needs no memory.
+  -- `IsMemoryReported`: lack of memory is reported by its error line or, if that cannot be allocated, the constant one.
   abbrev pub IsMemoryReported : List (Event L) → ℕ → Type 0
   IsMemoryReported events end = IsRefusalReported no_memory events end ⊎ IsReported Faults no_memory_line 1 events end
 

@@ -1,5 +1,5 @@
--- Defines a run: which files it reads in which order, what it writes where, and its status. What it prints of its
--- texts is defined where they are checked, decided, merged, drilled and explained.
+-- Defines a run: which files it reads in which order, what it writes to which stream, and its status. The lines that it
+-- prints are defined with the checks, decisions, merges, drills and explanations.
 -- Source: docs/operating.md.
 use Rattle.std.specs.Prelude.{◌≡◌, ◌⊎◌, ◌&&◌, ℕ, Bool, List, [], Option, None, Some, option_map}
 use Rattle.clap.specs.Words.{Text, fault_of}
@@ -35,13 +35,13 @@ use Rattle.program.specs.Loading.{IsLoadRun}
 use Rattle.program.specs.Pulling.{IsPullRun}
 use Rattle.program.specs.Serving.{IsServeRun}
 
--- `IsDecided schema policies entities request line` holds if `line` is the answer line of three texts, or of four with
+-- `IsDecided schema policies entities request line` holds if `line` is the answer line of these texts, with or without
 -- a schema.
 abbrev pub IsDecided : Option (List ℕ) → List ℕ → List ℕ → List ℕ → List ℕ → Type 0
 IsDecided None = bare.IsDecided bare_reading
 IsDecided (Some schema) = typed.IsDecided schema
 
--- `IsNotDecided` holds of the error if there is no answer.
+-- `IsNotDecided schema policies entities request refusal` holds if `refusal` is their error.
 abbrev pub IsNotDecided : Option (List ℕ) → List ℕ → List ℕ → List ℕ → Refusal → Type 0
 IsNotDecided None = bare.IsDecisionRefused bare_reading
 IsNotDecided (Some schema) = typed.IsSchemaDecisionRefused schema
@@ -134,7 +134,7 @@ module _ {R W G : Type 0} (reader : Source R) (writer : Sink W) (log : Sink G) w
   IsLineRun (Drill options) = IsDrillRun options
   IsLineRun (Explain options) = IsExplainRun options
 
-  -- `IsRun words`: the arguments are a command, which is run; or they are not, and that is reported.
+  -- `IsRun words`: if the arguments are a command, it is run; else their error is reported.
   abbrev pub IsRun : List Text → Course (Link R W)
   IsRun words events end =
       ((line : Line) × Says words line × (fault_of site_app words ≡ []) × IsLineRun line events end)

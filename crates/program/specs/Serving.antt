@@ -42,8 +42,8 @@ pause_after zero = 1
 pause_after (suc before) = min (2 * pause_after before) 1000
 
 module _ {L : Type 0} where
-  -- `IsFailure address n events` holds if `events` are a failure to accept a connection, after `n` others: the first is
-  -- warned of; then the run pauses.
+  -- `IsFailure address n events` holds if `events` are a failure to accept a connection, after `n` others: the run
+  -- warns of the first, and then pauses.
   abbrev pub IsFailure : List ℕ → ℕ → List (Event L) → Type 0
   IsFailure address zero events = (done : Bool)
       × (events ≡ accepted None ∷ wrote Faults (ended (failing_line address)) done ∷ paused (pause_after zero) ∷ [])
@@ -89,14 +89,15 @@ module _ {R W G : Type 0} (reader : Source R) (writer : Sink W) (log : Sink G) w
       × (events ≡ failures ++ accepted (Some link) ∷ closed left ∷ served end ∷ [])
       × IsServedOver old link end left new
 
-  -- `AreServed address n old events new` holds if `n` connections were, each from the site that the previous one left.
+  -- `AreServed address n old events new` holds if `n` connections were served, each from the site that the previous one
+  -- left.
   abbrev pub AreServed : List ℕ → ℕ → Serving G → List (Event (Link R W)) → Serving G → Type 0
   AreServed address zero old events new = (events ≡ []) × (new ≡ old)
   AreServed address (suc n) old events new = (first rest : List (Event (Link R W))) × (mid : Serving G)
       × IsNextServed address old first mid × AreServed address n mid rest new × (events ≡ first ++ rest)
 
   -- `AreCutShort address most old events new` holds if fewer than `most` were served, and then accepting one failed as
-  -- often as it is tried.
+  -- often as the run tries (`IsGivenUp`).
   abbrev pub AreCutShort : List ℕ → ℕ → Serving G → List (Event (Link R W)) → Serving G → Type 0
   AreCutShort address most old events new = (n : ℕ) × (first rest : List (Event (Link R W))) × (n < most)
       × AreServed address n old first new × IsGivenUp address rest × (events ≡ first ++ rest)

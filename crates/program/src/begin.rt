@@ -1,4 +1,4 @@
-//! A site that begins with a state, or empty.
+//! The initial site of a run: empty, or with the updates of a state.
 ghost use Rattle.std.specs.Prelude.{◌≡◌, IfOk, IfErr, Some, option_map};
 ghost use Rattle.program_drills.specs.http_service.answer_lines.Refusals.{no_memory};
 ghost use Rattle.site_loading.specs.site_steps.SiteViews.{schema_of};
@@ -11,7 +11,7 @@ use program_lines::SiteName;
 use site_loading::schema_in;
 use std::alloc::Global;
 
-/// Returns a fault of a site, as it is told.
+/// Returns an error of a site as the program reports it.
 fn site_refusal(fault: SiteFault) -> Refusal
     ensures { result ≡ site_refusal fault }
 {
@@ -22,7 +22,7 @@ fn site_refusal(fault: SiteFault) -> Refusal
     }
 }
 
-/// Returns the site with the updates of a message.
+/// Returns the site after it applied the updates of a message.
 fn with_state(alloc: Global, mut site: Site, bytes: &[u8]) -> Result<Site, Refusal>
     ensures taken { IfOk result (TakesState site bytes.now) }
     ensures refused { IfErr result
@@ -35,7 +35,7 @@ fn with_state(alloc: Global, mut site: Site, bytes: &[u8]) -> Result<Site, Refus
     }
 }
 
-/// Returns the site of this name, empty or with the updates of a message, a state or a delta. The schema is judged
+/// Returns the site of this name, empty or with the updates of a message (a state or a delta). The schema is checked
 /// first.
 pub(crate) fn begin(
     alloc: Global,

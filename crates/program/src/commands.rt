@@ -1,4 +1,4 @@
-//! Policies of files that are checked, and requests that are decided by them.
+//! The commands `check` and `decide`.
 ghost use Rattle.std.specs.Prelude.{◌≡◌, IfOk, IfErr, option_map};
 ghost use Rattle.std.specs.Process.{exit_status};
 ghost use Rattle.plain.specs.Refused.{OrNoMemory};
@@ -20,7 +20,7 @@ use site_loading::{check_texts, decide_texts, decide_under};
 use std::alloc::Global;
 use std::process::ExitCode;
 
-/// Decides what files hold, under a schema where there is one.
+/// Decides a request over the contents of files, under a schema if there is one.
 fn decide(
     alloc: Global,
     schema: Option<&[u8]>,
@@ -39,7 +39,7 @@ fn decide(
     }
 }
 
-/// Returns the files of a decision, as they are explained.
+/// Returns the files of a decision, for an explanation.
 fn decide_given<'n, 't>(
     options: &DecideOptions<'n>,
     schema: Option<&'t [u8]>,
@@ -67,7 +67,7 @@ fn decide_given<'n, 't>(
     }
 }
 
-/// Decides what files hold, and reports the answer, or why there is none.
+/// Decides a request over the contents of files, and reports the answer or the error.
 fn decide_held<H: Host>(
     alloc: Global,
     host: &mut H,
@@ -89,8 +89,8 @@ fn decide_held<H: Host>(
     }
 }
 
-/// Reads the files, the schema first if one is named, then the policies, the entities and the request; and then decides
-/// what they hold.
+/// Reads the schema, if one is named, the policies, the entities and the request, in this order, and then decides the
+/// request.
 pub(crate) fn run_decide<H: Host>(
     alloc: Global,
     host: &mut H,
@@ -125,7 +125,7 @@ pub(crate) fn run_decide<H: Host>(
     )
 }
 
-/// Returns the files of a check, as they are explained.
+/// Returns the files of a check, for an explanation.
 fn check_given<'n, 't>(
     options: &CheckOptions<'n>,
     schema: &'t [u8],
@@ -147,7 +147,7 @@ fn check_given<'n, 't>(
     }
 }
 
-/// Checks what files hold, and reports the lines of the policies, or why there are none.
+/// Checks the contents of files, and reports the lines of the policies or the error.
 fn check_held<H: Host>(
     alloc: Global,
     host: &mut H,
@@ -167,7 +167,7 @@ fn check_held<H: Host>(
     }
 }
 
-/// Reads the schema and the policies, in this order, and then checks what they hold.
+/// Reads the schema and the policies, in this order, and then checks the policies.
 pub(crate) fn run_check<H: Host>(
     alloc: Global,
     host: &mut H,

@@ -7,11 +7,11 @@ use thiserror::Error;
 pub enum Stream {
     /// Standard output, for answers and for help.
     Answers,
-    /// Standard error, for refusals and faults.
+    /// Standard error, for errors.
     Faults,
 }
 
-/// A stream did not take all that was written.
+/// A stream did not accept all bytes.
 #[derive(Clone, Copy, Debug, Error)]
 #[error("stream did not take all that was written")]
 pub struct StreamFailed;
@@ -19,22 +19,22 @@ pub struct StreamFailed;
 /// Why a file was not read or written.
 #[derive(Clone, Copy, Debug, Error)]
 pub enum FileFault {
-    /// There is no file of this name.
+    /// The file does not exist.
     #[error("file does not exist")]
     Missing,
     /// It can't be read or written.
     #[error("file cannot be read or written")]
     Failed,
-    /// Memory was refused.
+    /// An allocation failed.
     #[error("out of memory")]
     NoMemory,
 }
 
-/// An address can't be listened at, or reached, or a connection failed before it stood.
+/// An address can't be listened at or reached, or accepting a connection failed.
 #[derive(Clone, Copy)]
 pub struct NetworkFailed;
 
-/// A connection: what comes, and what goes out.
+/// A connection: its reader and its writer.
 #[derive(Drop)]
 pub struct Link<R, W> {
     pub reader: R,

@@ -1,4 +1,4 @@
-//! Scripts that are played.
+//! The command `drill`.
 ghost use Rattle.std.specs.Prelude.{◌≤◌};
 ghost use Rattle.std.specs.Process.{exit_status};
 ghost use Rattle.program.specs.Events.{Runs};
@@ -12,7 +12,7 @@ use program_lines::DrillOptions;
 use std::alloc::Global;
 use std::process::ExitCode;
 
-/// Reads the schema and the script, in this order, and then plays the script at so many sites.
+/// Reads the schema and the script, in this order, and then executes the script at the given number of sites.
 pub(crate) fn run_drill<H: Host>(
     alloc: Global,
     host: &mut H,

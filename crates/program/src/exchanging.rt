@@ -1,4 +1,4 @@
-//! One round of exchange between two running sites, both ways.
+//! The command `exchange`: one round between two running sites, in both directions.
 ghost use Rattle.std.specs.Prelude.{◌≡◌, ◌<◌, Err, IfErr, IfOk, MatchResult, Ok, OnOk, string_bytes, true};
 ghost use Rattle.std.specs.Process.{exit_status};
 ghost use Rattle.state_exchanges.specs.Counts.{IsTakenLine};
@@ -25,29 +25,29 @@ use std::process::ExitCode;
 /// One of the six calls of a round.
 #[derive(Clone, Copy)]
 pub(crate) struct RoundCall<'a> {
-    /// Which it is, 1 to 6.
+    /// Its number, 1 to 6.
     pub(crate) number: u8,
-    /// What it asks for.
+    /// Its method and path.
     pub(crate) call: Call,
-    /// Where the site listens that it asks.
+    /// The address of the called site.
     pub(crate) address: &'a str,
 }
 
-/// Why a call of a round brought nothing to go on with.
+/// Why a call of a round failed.
 #[derive(Clone, Copy)]
 pub(crate) enum CallFault {
     /// No connection could be opened.
     NotReached,
-    /// No reply of status 200 came.
+    /// No reply of status 200 was received.
     Network(NetworkFault),
-    /// The reply to a merge is no count of updates.
+    /// The reply to a merge is not a count of updates.
     NoCount,
 }
 
-/// The status of a request that is larger than a site takes.
+/// The status of a request that is larger than a site accepts.
 const TOO_LARGE: u16 = 413;
 
-/// Returns method and path of a call.
+/// Returns the method and the path of a call.
 fn call_text(call: Call) -> &'static str
     ensures { result.now ≡ call_text call }
 {
@@ -58,14 +58,14 @@ fn call_text(call: Call) -> &'static str
     }
 }
 
-/// Returns a text as a string of its own.
+/// Returns a copy of a text.
 fn owned(alloc: Global, text: &str) -> Result<String, NoMemory>
     ensures { IfOk result (λ line. string_bytes line ≡ text.now) }
 {
     format!(in alloc; "{text}")
 }
 
-/// Returns what is told of another status than 200.
+/// Returns the report on a status other than 200.
 #[tactic(auto, unfolding(crate::specs::Exchanging::status_text))]
 fn status_text(alloc: Global, status: u16) -> Result<String, NoMemory>
     ensures { IfOk result (λ line. string_bytes line ≡ status_text status) }
@@ -79,7 +79,7 @@ fn status_text(alloc: Global, status: u16) -> Result<String, NoMemory>
     format!(in alloc; "status {status}")
 }
 
-/// Returns what is told of a fault of a call.
+/// Returns the report on the error of a call.
 fn fault_text(alloc: Global, fault: CallFault) -> Result<String, NoMemory>
     ensures { IfOk result (λ line. string_bytes line ≡ fault_text fault) }
 {
@@ -98,7 +98,7 @@ fn fault_text(alloc: Global, fault: CallFault) -> Result<String, NoMemory>
     }
 }
 
-/// Returns which call failed, where and why.
+/// Returns the address, number and request of a failed call, and the cause.
 #[tactic(auto, unfolding(crate::specs::Exchanging::call_report))]
 fn call_report(alloc: Global, at: &RoundCall<'_>, why: &str) -> Result<String, NoMemory>
     ensures { IfOk result (λ line. string_bytes line ≡ call_report at.now why.now) }
@@ -109,7 +109,7 @@ fn call_report(alloc: Global, at: &RoundCall<'_>, why: &str) -> Result<String, N
     format!(in alloc; "{address}: call {number} of 6, {asked}: {why}")
 }
 
-/// Writes which call failed, where and why.
+/// Writes the address, number and request of a failed call, and the cause.
 fn report_call<H: Host>(
     alloc: Global,
     host: &mut H,
@@ -127,7 +127,7 @@ fn report_call<H: Host>(
     }
 }
 
-/// Returns the body that a call brought, or ends the run.
+/// Returns the body of the reply to a call; without a reply reports the error, and returns the status of the run.
 fn reply_or_end<H: Host>(
     alloc: Global,
     host: &mut H,
@@ -148,7 +148,7 @@ fn reply_or_end<H: Host>(
     }
 }
 
-/// Makes a call over a connection that stands, and lets it go.
+/// Makes a call over an open connection, and closes it.
 fn call_over<H: Host>(
     alloc: Global,
     host: &mut H,
@@ -175,7 +175,8 @@ fn call_over<H: Host>(
     reply_or_end(alloc, host, at, came)
 }
 
-/// Makes a call over a connection of its own, and returns the body of the reply; if there is none, ends the run.
+/// Makes a call over a new connection, and returns the body of the reply; on failure reports the error, and returns the
+/// status of the run.
 fn call_at<H: Host>(
     alloc: Global,
     host: &mut H,
@@ -194,7 +195,7 @@ fn call_at<H: Host>(
     }
 }
 
-/// Writes the count that came, or ends the run where it is none.
+/// Writes the received count; if it is not a count, reports that, and returns the status of the run.
 fn tell_taken<H: Host>(
     alloc: Global,
     host: &mut H,
@@ -215,7 +216,7 @@ fn tell_taken<H: Host>(
     }
 }
 
-/// Brings the site at `to` up to date from the one at `from`, by three calls, the first of which has this number.
+/// Brings the site at `to` up to date from the one at `from` by three calls, numbered from `first`.
 fn exchange<H: Host>(
     alloc: Global,
     host: &mut H,
@@ -274,7 +275,7 @@ fn exchange_both<H: Host>(alloc: Global, host: &mut H, between: &str, and: &str)
     }
 }
 
-/// Judges the schema, and then exchanges.
+/// Checks the schema, and then exchanges.
 fn exchange_under<H: Host>(
     alloc: Global,
     host: &mut H,

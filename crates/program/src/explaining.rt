@@ -1,4 +1,4 @@
-//! Explanations of codes, and of what is rejected of files.
+//! The command `explain`.
 ghost use Rattle.std.specs.Prelude.{◌≡◌, MatchOption, option_map};
 ghost use Rattle.std.specs.List.{list_all};
 ghost use Rattle.std.specs.Process.{exit_status};
@@ -17,7 +17,7 @@ use program_lines::ExplainOptions;
 use std::alloc::Global;
 use std::process::ExitCode;
 
-/// Returns whether a text has a byte.
+/// Returns whether a text is not empty.
 pub(crate) fn is_some_text(text: &str) -> bool
     ensures { result ≡ is_some_text text.now }
 {
@@ -31,21 +31,21 @@ fn is_decimal(byte: u8) -> bool
     matches!(byte, b'0'..=b'9')
 }
 
-/// Returns whether each byte of a word is one.
+/// Returns whether each byte of an argument is an ASCII digit.
 fn are_decimals(word: &str) -> bool
     ensures { result ≡ list_all is_decimal word.now }
 {
     word.bytes().all(|byte| is_decimal(byte))
 }
 
-/// Returns whether a word is decimal digits.
+/// Returns whether an argument is one or more decimal digits.
 fn is_number(word: &str) -> bool
     ensures { result ≡ is_number word.now }
 {
     is_some_text(word) && are_decimals(word)
 }
 
-/// Returns the texts on the code that a word is.
+/// Returns the texts on a code, given as an argument.
 fn words_for(word: &str) -> Option<&'static CodeWords>
     ensures { MatchOption result (IsNoCode word.now) (λ words. IsSmallNumber word.now words.now.code) }
 {
@@ -68,7 +68,7 @@ fn explain_code<H: Host>(alloc: Global, host: &mut H, word: &str) -> ExitCode
     }
 }
 
-/// Returns a text with the name of its file, if both are there.
+/// Returns a text with the name of its file, if both are present.
 pub(crate) fn source_of<'n, 't>(
     name: Option<&'n str>,
     text: Option<&'t [u8]>,
@@ -110,7 +110,7 @@ fn given_of<'n, 't>(options: &ExplainOptions<'n>, held: Held<'t>) -> Given<'n, '
     }
 }
 
-/// Reports what is rejected of texts.
+/// Reports what is rejected in texts.
 fn tell_explained<H: Host>(alloc: Global, host: &mut H, given: &Given<'_, '_>) -> ExitCode
     ensures { Runs H.does host.old host.new
         (λ events. AreTextsExplained (files_of given.now) events (exit_status result)) }
@@ -121,8 +121,7 @@ fn tell_explained<H: Host>(alloc: Global, host: &mut H, given: &Given<'_, '_>) -
     }
 }
 
-/// Reads the files that are named, in the order schema, policies, entities, request, and reports what is rejected of
-/// them.
+/// Reads the named files in the order schema, policies, entities, request, and reports what is rejected in them.
 fn explain_files<H: Host>(alloc: Global, host: &mut H, options: &ExplainOptions<'_>) -> ExitCode
     ensures { Runs H.does host.old host.new (λ events. AreFilesExplained options.now events (exit_status result)) }
 {
@@ -151,7 +150,7 @@ fn explain_files<H: Host>(alloc: Global, host: &mut H, options: &ExplainOptions<
     tell_explained(alloc, host, &given_of(options, held))
 }
 
-/// Explains a code, if a number is given, and otherwise what is rejected of files.
+/// Explains a code, if the argument is a number, and otherwise what is rejected in files.
 pub(crate) fn run_explain<H: Host>(
     alloc: Global,
     host: &mut H,

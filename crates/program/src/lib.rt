@@ -1,4 +1,4 @@
-//! The commands of the program: its files, its streams and its connections, over any machine.
+//! The commands of the program, with its files, streams and connections, over any machine.
 #![tactic(auto)]
 
 mod begin;

@@ -1,46 +1,24 @@
-//! Files of policies and entities that are put into a site, whose state is told.
-ghost use Rattle.std.specs.Prelude.{◌≡◌, option_map, IfOk, IfErr};
+//! The command `load`.
+ghost use Rattle.std.specs.Prelude.{◌≡◌, option_map};
 ghost use Rattle.std.specs.Process.{exit_status};
-ghost use Rattle.program_drills.specs.http_service.answer_lines.Refusals.{no_memory};
 ghost use Rattle.program.specs.Events.{Runs};
 ghost use Rattle.explanations.specs.Files.{files_of};
-ghost use Rattle.program.specs.Loading.{IsLoaded, IsLoadRefused, IsLoadRun, IsLoadedOrRefused, load_files};
+ghost use Rattle.program.specs.Loading.{IsPutOrRefused, IsLoadRun, IsLoadedOrRefused, load_files};
 
 use crate::begin::begin;
 use crate::explaining::source_of;
 use crate::host::Host;
 use crate::reading::{lent, read_file, read_if_named};
-use crate::rejecting::{policies_of, report_rejected};
+use crate::rejecting::{policies_of, report_rejected, schema_given};
 use crate::report::report_answer;
 use explanations::{Given, Source};
-use program_drills::Refusal;
-use program_lines::{LoadOptions, SiteName};
+use program_drills::Site;
+use program_lines::LoadOptions;
 use site_loading::loaded_state;
 use std::alloc::Global;
 use std::process::ExitCode;
 
-/// Returns the state of the site of this name that begins so and takes these files.
-fn state_after(
-    alloc: Global,
-    schema: &[u8],
-    site: SiteName,
-    state: Option<&[u8]>,
-    policies: Option<&[u8]>,
-    entities: Option<&[u8]>,
-) -> Result<Vec<u8>, Refusal>
-    ensures loaded { IfOk result (λ b. IsLoaded schema.now site (option_map (λ s. s.now) state.entry)
-        (option_map (λ p. p.now) policies.entry) (option_map (λ e. e.now) entities.entry) b.items) }
-    ensures refused { IfErr result (λ r. (r ≡ no_memory → ⊥)
-        → IsLoadRefused schema.now site (option_map (λ s. s.now) state.entry)
-        (option_map (λ p. p.now) policies.entry) (option_map (λ e. e.now) entities.entry) r) }
-{
-    match begin(alloc, schema, site, state) {
-        Ok(site) => loaded_state(alloc, site, policies, entities),
-        Err(refusal) => Err(refusal),
-    }
-}
-
-/// Returns the files of a load, as they are explained.
+/// Returns the files of a load, for an explanation.
 fn load_given<'n, 't>(
     options: &LoadOptions<'n>,
     schema: &'t [u8],
@@ -61,7 +39,30 @@ fn load_given<'n, 't>(
     }
 }
 
-/// Puts what files hold into a site, and reports its state, or why there is none.
+/// Puts what files hold into a site that began, and reports its state, or why there is none.
+fn put_held<H: Host>(
+    alloc: Global,
+    host: &mut H,
+    options: &LoadOptions<'_>,
+    site: Site,
+    schema: &[u8],
+    policies: Option<&[u8]>,
+    entities: Option<&[u8]>,
+) -> ExitCode
+    ensures { Runs H.does host.old host.new (λ events. IsPutOrRefused options.now site schema.now
+        (option_map (λ p. p.now) policies.entry) (option_map (λ e. e.now) entities.entry) events
+        (exit_status result)) }
+{
+    match loaded_state(alloc, site, policies, entities) {
+        Ok(line) => report_answer(host, &line),
+        Err(refusal) => {
+            let given = load_given(options, schema, policies, entities);
+            report_rejected(alloc, host, refusal, options.explain, &given)
+        }
+    }
+}
+
+/// Begins a site and puts what files hold into it, and reports its state, or why there is none.
 fn load_held<H: Host>(
     alloc: Global,
     host: &mut H,
@@ -75,17 +76,17 @@ fn load_held<H: Host>(
         (option_map (λ s. s.now) state.entry) (option_map (λ p. p.now) policies.entry)
         (option_map (λ e. e.now) entities.entry) events (exit_status result)) }
 {
-    match state_after(alloc, schema, options.site, state, policies, entities) {
-        Ok(line) => report_answer(host, &line),
+    match begin(alloc, schema, options.site, state) {
+        Ok(site) => put_held(alloc, host, options, site, schema, policies, entities),
         Err(refusal) => {
-            let given = load_given(options, schema, policies, entities);
+            let given = schema_given(options.schema, schema);
             report_rejected(alloc, host, refusal, options.explain, &given)
         }
     }
 }
 
-/// Reads the files, the schema first, then the state to begin with, the policies and the entities, those that are
-/// named; then puts the policies and the entities into the site of this name, and tells its state.
+/// Reads the schema, then the initial state, the policies and the entities, each if it is named; then puts the policies
+/// and the entities into the site of this name, and prints its state.
 pub(crate) fn run_load<H: Host>(alloc: Global, host: &mut H, options: &LoadOptions<'_>) -> ExitCode
     ensures { Runs H.does host.old host.new (λ events. IsLoadRun options.now events (exit_status result)) }
 {

@@ -1,4 +1,4 @@
-//! Files that a run reads.
+//! Reading the files of a run.
 ghost use Rattle.std.specs.Prelude.{◌≡◌, Ok, MatchResult, option_map};
 ghost use Rattle.std.specs.Process.{exit_status};
 ghost use Rattle.program.specs.Events.{read, Runs};
@@ -9,7 +9,7 @@ use crate::host::Host;
 use crate::report::report_file;
 use std::process::ExitCode;
 
-/// Returns what a file holds; where it is not read, that is told, and this is the status of the run.
+/// Returns the content of a file; if it cannot be read, reports that, and returns the status of the run.
 pub(crate) fn read_file<H: Host>(host: &mut H, name: &str) -> Result<Vec<u8>, ExitCode>
     ensures { MatchResult result (λ bytes. H.does host.old (read name.now (Ok bytes.items)) host.new)
         (λ end. Runs H.does host.old host.new (λ events. IsUnread name.now events (exit_status end))) }
@@ -20,7 +20,7 @@ pub(crate) fn read_file<H: Host>(host: &mut H, name: &str) -> Result<Vec<u8>, Ex
     }
 }
 
-/// Returns the same, of a file that need not be named.
+/// Like [`read_file`], for a file whose name may be absent.
 pub(crate) fn read_if_named<H: Host>(
     host: &mut H,
     name: Option<&str>,
@@ -40,7 +40,7 @@ pub(crate) fn read_if_named<H: Host>(
     }
 }
 
-/// Returns the same, of a file that need not be there.
+/// Like [`read_file`], for a file that may be missing.
 pub(crate) fn read_if_there<H: Host>(host: &mut H, name: &str) -> Result<Option<Vec<u8>>, ExitCode>
     ensures { MatchResult result
         (λ found. H.does host.old (read name.now (found_as (option_map (λ bytes. bytes.items) found))) host.new)
@@ -54,7 +54,7 @@ pub(crate) fn read_if_there<H: Host>(host: &mut H, name: &str) -> Result<Option<
     }
 }
 
-/// Returns the bytes of a file that need not be there.
+/// Returns the bytes of a file, if it exists.
 pub(crate) fn lent(file: &Option<Vec<u8>>) -> Option<&[u8]>
     ensures { option_map (λ s. s.now) result ≡ option_map (λ s. s.items) file.now }
 {

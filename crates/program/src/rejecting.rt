@@ -1,4 +1,4 @@
-//! What is rejected: the report on it and, if that is asked for, an explanation behind it.
+//! Reports on errors, each followed by an explanation if that is requested.
 ghost use Rattle.std.specs.Prelude.{◌≡◌, ◌&&◌, IfOk, option_map, string_bytes};
 ghost use Rattle.std.specs.Process.{exit_status};
 ghost use Rattle.explanations.specs.Explained.{IsExplained};
@@ -19,10 +19,10 @@ use program_drills::Refusal;
 use std::alloc::Global;
 use std::process::ExitCode;
 
-/// The line in place of an explanation for which memory was refused.
+/// The line in place of an explanation that could not be allocated.
 const NO_EXPLANATION: &str = "explanation: out of memory";
 
-/// Returns the policies that are given; if none are, those of an empty file.
+/// Returns the given policies; if they are absent, an empty file.
 pub(crate) fn policies_of<'n, 't>(source: Option<Source<'n, 't>>) -> Source<'n, 't>
     ensures { file_of result ≡ policies_of (option_map file_of source.entry) }
 {
@@ -35,7 +35,7 @@ pub(crate) fn policies_of<'n, 't>(source: Option<Source<'n, 't>>) -> Source<'n, 
     }
 }
 
-/// Returns the files of a command that takes messages, as they are explained: its schema.
+/// Returns the files of a command over messages, for an explanation: its schema.
 pub(crate) fn schema_given<'n, 't>(name: &'n str, schema: &'t [u8]) -> Given<'n, 't>
     ensures { files_of result ≡ schema_files name.entry.now schema.entry.now }
 {
@@ -47,7 +47,7 @@ pub(crate) fn schema_given<'n, 't>(name: &'n str, schema: &'t [u8]) -> Given<'n,
     }
 }
 
-/// Writes the lines of a text on standard error.
+/// Writes the lines of a text to standard error.
 fn tell_text<H: Host>(host: &mut H, text: &str)
     ensures { Runs H.does host.old host.new (λ events. IsTextTold text.now events) }
 {
@@ -58,7 +58,7 @@ fn tell_text<H: Host>(host: &mut H, text: &str)
     let _ = host.write_line(Stream::Faults, "", lines.as_bytes());
 }
 
-/// Writes a text on standard error, or that there is no memory for it.
+/// Writes a text to standard error, or that it could not be allocated.
 fn tell_made<H: Host>(host: &mut H, made: Result<String, NoMemory>)
     ensures { Runs H.does host.old host.new (λ events. IsMadeTold made events) }
 {
@@ -70,7 +70,7 @@ fn tell_made<H: Host>(host: &mut H, made: Result<String, NoMemory>)
     }
 }
 
-/// Returns the text on a code; the empty one if there is no such code.
+/// Returns the text on a code; an empty one if there is no such code.
 fn text_on(alloc: Global, code: u8) -> Result<String, NoMemory>
     ensures { IfOk result (λ text. IsCodeText code (string_bytes text)) }
 {
@@ -80,7 +80,7 @@ fn text_on(alloc: Global, code: u8) -> Result<String, NoMemory>
     }
 }
 
-/// Returns the text that explains what is rejected of texts; if nothing is, that on the code of a refusal.
+/// Returns the text that explains what is rejected in texts; if nothing is, the text on the code of the error.
 fn refusal_text(alloc: Global, given: &Given<'_, '_>, code: u8) -> Result<String, NoMemory>
     ensures { IfOk result (λ text. IsRefusalText (files_of given.now) code (string_bytes text)) }
 {
@@ -91,7 +91,7 @@ fn refusal_text(alloc: Global, given: &Given<'_, '_>, code: u8) -> Result<String
     text_on(alloc, code)
 }
 
-/// Explains a refusal on standard error.
+/// Explains an error on standard error.
 fn explain_refusal<H: Host>(alloc: Global, host: &mut H, given: &Given<'_, '_>, code: u8)
     ensures { Runs H.does host.old host.new
         (λ events. IsExplanationTold (IsRefusalText (files_of given.now) code) events) }
@@ -99,7 +99,7 @@ fn explain_refusal<H: Host>(alloc: Global, host: &mut H, given: &Given<'_, '_>, 
     tell_made(host, refusal_text(alloc, given, code))
 }
 
-/// Explains on standard error what is rejected of texts.
+/// Explains on standard error what is rejected in texts.
 fn explain_given<H: Host>(alloc: Global, host: &mut H, given: &Given<'_, '_>)
     ensures { Runs H.does host.old host.new
         (λ events. IsExplanationTold (IsExplained (files_of given.now)) events) }
@@ -107,8 +107,8 @@ fn explain_given<H: Host>(alloc: Global, host: &mut H, given: &Given<'_, '_>)
     tell_made(host, explain_texts(alloc, given))
 }
 
-/// Reports a refusal and, if that is asked for, explains it behind that: what is rejected of the texts or, if nothing
-/// is by itself, its code.
+/// Reports an error and then, if that is requested, explains it: what is rejected in the texts or, if nothing is by
+/// itself, the code.
 pub(crate) fn report_rejected<H: Host>(
     alloc: Global,
     host: &mut H,
@@ -128,15 +128,15 @@ pub(crate) fn report_rejected<H: Host>(
     end
 }
 
-/// Returns whether the policies of a check are explained: if that is asked for and one is rejected.
+/// Returns whether the policies of a check are explained: if that is requested and one is rejected.
 fn is_explained(explain: bool, some_refused: bool) -> bool
     ensures { result ≡ explain && some_refused }
 {
     explain && some_refused
 }
 
-/// Reports the lines of policies and, if one is rejected and that is asked for, explains behind them what is rejected
-/// of the texts.
+/// Reports the lines of policies and then, if one is rejected and that is requested, explains what is rejected in the
+/// texts.
 pub(crate) fn report_checked<H: Host>(
     alloc: Global,
     host: &mut H,

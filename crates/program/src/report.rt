@@ -1,4 +1,4 @@
-//! What a run writes at its end, and the status that it ends with.
+//! The last output of a run, and its status.
 ghost use Rattle.std.specs.Prelude.{◌≡◌, ◌⊎◌, ◌++◌, List, ℕ, codes, is_ok};
 ghost use Rattle.std.specs.Process.{exit_status};
 ghost use Rattle.program_drills.specs.http_service.answer_lines.Refusals.{error_line};
@@ -18,22 +18,22 @@ use program_lines::LineFault;
 use std::alloc::Global;
 use std::process::ExitCode;
 
-/// An answer was given, or help.
+/// The status of an answer or help.
 pub(crate) const ANSWERED: u8 = 0;
 
-/// The texts are refused, or a policy of them is.
+/// The status of an error, or of a rejected policy.
 const REFUSED: u8 = 1;
 
-/// The words are no command line.
+/// The status of arguments that are not a command.
 const LINE_FAULT: u8 = 2;
 
-/// A file could not be read or written, the network failed, or a stream did.
+/// The status of a failed file, network or stream.
 pub(crate) const FAILED: u8 = 3;
 
-/// The line that tells of want of memory; it takes none.
+/// The error line of lack of memory, which does not allocate.
 const NO_MEMORY_LINE: &[u8; 47] = b"{\"error\":{\"code\":1,\"place\":null,\"within\":null}}";
 
-/// Returns the status of a run whose last writing came to this.
+/// Returns the status of a run: `status`, or 3 if the last write failed.
 fn status_of(written: Result<(), StreamFailed>, status: u8) -> ExitCode
     ensures { exit_status result ≡ status_after (is_ok written) status }
 {
@@ -81,7 +81,7 @@ pub(crate) fn without_end(text: &str) -> &str
     }
 }
 
-/// Writes what is rejected of texts, if anything is.
+/// Writes what is rejected in texts, if anything is.
 pub(crate) fn report_explained<H: Host>(host: &mut H, text: &str) -> ExitCode
     ensures { Runs H.does host.old host.new (λ events. (line : List ℕ) × IsWithoutEnd text.now line
         × AreLinesReported line (is_some_text text.now) events (exit_status result)) }
@@ -104,14 +104,14 @@ pub(crate) fn report_no_code<H: Host>(host: &mut H, word: &str) -> ExitCode
     )
 }
 
-/// Writes that memory was refused.
+/// Writes the error line of lack of memory.
 pub(crate) fn report_memory<H: Host>(host: &mut H) -> ExitCode
     ensures { Runs H.does host.old host.new (λ events. IsMemoryReported events (exit_status result)) }
 {
     tell(host, Stream::Faults, "", NO_MEMORY_LINE, REFUSED)
 }
 
-/// Writes the line of a refusal, or where memory for it is refused, the line that tells of that.
+/// Writes the line of an error or, if that cannot be allocated, the line of lack of memory.
 pub(crate) fn report_refusal<H: Host>(alloc: Global, host: &mut H, refusal: Refusal) -> ExitCode
     ensures { Runs H.does host.old host.new
         (λ events. IsRefusalReported refusal events (exit_status result)
@@ -123,7 +123,7 @@ pub(crate) fn report_refusal<H: Host>(alloc: Global, host: &mut H, refusal: Refu
     }
 }
 
-/// Writes the name of what failed, a file or an address.
+/// Writes the name of the file or the address that failed.
 pub(crate) fn report_failure<H: Host>(host: &mut H, name: &str) -> ExitCode
     ensures { Runs H.does host.old host.new (λ events. IsFailureReported name.now events (exit_status result)) }
 {
@@ -141,7 +141,7 @@ pub(crate) fn report_file<H: Host>(host: &mut H, name: &str, fault: FileFault) -
     }
 }
 
-/// Writes the text of a fault of the words, or the help that was asked for.
+/// Writes the text of an error of the arguments, or the requested help.
 fn report_text<H: Host>(host: &mut H, stream: Stream, fault: &LineFault, status: u8) -> ExitCode
     ensures { Runs H.does host.old host.new
         (λ events. IsPrinted stream fault.now status events (exit_status result)) }
@@ -150,8 +150,8 @@ fn report_text<H: Host>(host: &mut H, stream: Stream, fault: &LineFault, status:
     status_of(written, status)
 }
 
-/// Writes why words are no command, or the help that was asked for, and answers the status: 0 for help, 2 for a fault
-/// of the words, 1 for want of memory, and 3 where the stream fails.
+/// Writes why arguments are not a command, or the requested help, and returns the status: 0 for help, 2 for an error of
+/// the arguments, 1 if out of memory, and 3 if the stream fails.
 pub fn report_words<H: Host>(host: &mut H, fault: &LineFault) -> ExitCode
     ensures { Runs H.does host.old host.new (λ events. IsFaultReported fault.now events (exit_status result)) }
 {

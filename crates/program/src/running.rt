@@ -1,4 +1,4 @@
-//! A run, from the words of the command line to the status.
+//! A run, from the arguments of the command line to the status.
 ghost use Rattle.std.specs.Prelude.{map, string_bytes};
 ghost use Rattle.std.specs.Process.{exit_status};
 ghost use Rattle.program_lines.specs.Lines.{HasSites};
@@ -18,7 +18,7 @@ use program_lines::{Line, line_of};
 use std::alloc::Global;
 use std::process::ExitCode;
 
-/// Carries out a command.
+/// Executes a command.
 fn run_line<H: Host>(alloc: Global, host: &mut H, line: &Line<'_>) -> ExitCode
     requires { HasSites line.now }
     ensures { Runs H.does host.old host.new (λ events.
@@ -37,13 +37,13 @@ fn run_line<H: Host>(alloc: Global, host: &mut H, line: &Line<'_>) -> ExitCode
     }
 }
 
-/// Does what the words ask for, the first of which is the program's own name: checks policies, decides one request,
-/// puts files into a site and tells its state, serves one, pulls from one, exchanges between two, merges two states,
-/// plays a script, explains a code or what is rejected of files, writes help or the version, or what is wrong with the
-/// words.
+/// Executes the command of the arguments, the first of which is the program's name: checks policies, decides a request,
+/// loads files into a site and prints its state, serves a site, pulls from one, exchanges between two, merges two
+/// states, executes a script, explains a code or what is rejected in files, or writes help, the version, or the error
+/// of the arguments.
 ///
-/// The status is 0 for an answer or help, 1 for a refusal, also of one policy among those that are checked, 2 for words
-/// that are no command, and 3 where a file can't be read or written, the network fails, or a stream does.
+/// The status is 0 for an answer or help, 1 for an error, also of one of the checked policies, 2 for arguments that are
+/// not a command, and 3 if a file can't be read or written, or the network or a stream fails.
 pub fn run<H: Host>(alloc: Global, host: &mut H, words: &[String]) -> ExitCode
     ensures { Runs H.does host.old host.new (λ events.
         IsRun H.Reader.Source H.Writer.Sink H.Log.Sink (map string_bytes words.now) events (exit_status result)) }

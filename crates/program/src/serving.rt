@@ -1,4 +1,4 @@
-//! A site that is served, one connection after another.
+//! The command `serve`: a served site, one connection after another.
 ghost use Rattle.std.specs.Prelude.{◌≡◌, ◌*◌, min, option_map};
 ghost use Rattle.std.specs.Process.{exit_status};
 ghost use Rattle.program_lines.specs.stamped_store.Stamping.{has_stamps_of};
@@ -21,29 +21,29 @@ use program_lines::{ServeOptions, SiteName};
 use std::alloc::Global;
 use std::process::ExitCode;
 
-/// What stands before the name of a site that begins with stamps of its name.
+/// The warning that the initial state has stamps of the site's name, which follows.
 const OWN_STAMPS: &str = "warning: the state has stamps of this name, which is to be used once: ";
 
-/// What stands before the address where connections begin to fail before they stand.
+/// The warning that accepting a connection failed at an address, which follows.
 const FAILING: &str = "warning: accept failed, trying again: ";
 
-/// The pause behind the first failure of a row, in milliseconds.
+/// The pause after the first of consecutive failures, in milliseconds.
 const SHORTEST_PAUSE: u64 = 1;
 
 /// The longest pause, in milliseconds.
 const LONGEST_PAUSE: u64 = 1000;
 
-/// How often in a row a connection can fail before it stands. No run comes to that.
+/// The most consecutive failures to accept a connection. No run reaches it.
 const MOST_FAILURES: u64 = u64::MAX;
 
-/// Returns the pause behind the next failure: twice as long, up to the longest.
+/// Returns the pause after the next failure: twice as long, up to the longest.
 fn longer(pause: u64) -> u64
     ensures { result ≡ min (2 * pause) 1000 }
 {
     LONGEST_PAUSE.min(pause.saturating_mul(2))
 }
 
-/// Warns of a failure, where none stands right before it, and pauses.
+/// Warns of a failure to accept, if it does not directly follow another, and pauses.
 fn note_failure<H: Host>(host: &mut H, address: &str, before: u64, pause: u64)
     requires { pause ≡ pause_after before }
     ensures { Runs H.does host.old host.new (λ events. IsFailureNoted address.now before events) }
@@ -56,7 +56,7 @@ fn note_failure<H: Host>(host: &mut H, address: &str, before: u64, pause: u64)
     host.pause(pause);
 }
 
-/// Waits for a connection. Where it fails before it stands, with so many failures right before, that is noted.
+/// Waits for a connection. If accepting it fails, directly after `before` other failures, warns if due and pauses.
 fn try_accept<H: Host>(
     host: &mut H,
     listener: &H::Listener,
@@ -76,7 +76,7 @@ fn try_accept<H: Host>(
     }
 }
 
-/// Waits until a connection comes, whatever fails before.
+/// Waits until a connection is accepted, however often that fails before.
 fn next_link<H: Host>(
     host: &mut H,
     listener: &H::Listener,
@@ -96,7 +96,7 @@ fn next_link<H: Host>(
     Err(NetworkFailed)
 }
 
-/// Answers what comes over a connection, each reply behind its line, if a log is kept.
+/// Answers the requests of a connection; if there is a log, each reply after its line.
 fn serve_link<H: Host>(
     alloc: Global,
     link: &mut Link<H::Reader, H::Writer>,
@@ -112,7 +112,7 @@ fn serve_link<H: Host>(
     }
 }
 
-/// Waits for a connection, answers what comes over it, and lets it go. A fault of a connection ends that one alone.
+/// Waits for a connection, answers its requests, and closes it. An error of a connection ends that one only.
 fn serve_next<H: Host>(
     alloc: Global,
     host: &mut H,
@@ -136,7 +136,7 @@ fn serve_next<H: Host>(
     }
 }
 
-/// Serves so many connections, one after another.
+/// Serves the given number of connections, one after another.
 fn serve_all<H: Host>(
     alloc: Global,
     host: &mut H,
@@ -158,7 +158,7 @@ fn serve_all<H: Host>(
     Ok(())
 }
 
-/// Returns how many connections are served: all, where no number is given.
+/// Returns how many connections are served: all, if no number is given.
 fn most_of(connections: Option<u32>) -> u64
     ensures { result ≡ most_of connections }
 {
@@ -168,8 +168,8 @@ fn most_of(connections: Option<u32>) -> u64
     }
 }
 
-/// Warns where a site begins with stamps of its name, since a name is to be used once: stamps that are given again
-/// under it would name other updates.
+/// Warns if the initial site has stamps of its own name: a name is to be used once, since stamps issued again under it
+/// would identify other updates.
 fn warn_of_own_stamps<H: Host>(host: &mut H, site: &Site, name: SiteName)
     ensures { Runs H.does host.old host.new (λ events.
         IsWarned (has_stamps_of name (store_in site.now)) (own_stamps_line name) events) }
@@ -180,8 +180,8 @@ fn warn_of_own_stamps<H: Host>(host: &mut H, site: &Site, name: SiteName)
     let _ = host.write_line(Stream::Faults, OWN_STAMPS, name.as_bytes());
 }
 
-/// Serves a site that has begun: warns where it has stamps of its name already, opens its log, if one is named,
-/// listens, says where, and serves one connection after another, so many, if a number is given.
+/// Serves the initial site: warns if it has stamps of its own name, opens its log, if one is named, listens, prints the
+/// address, and serves one connection after another, as many as are given, if a number is.
 fn serve_begun<H: Host>(
     alloc: Global,
     host: &mut H,
@@ -201,7 +201,7 @@ fn serve_begun<H: Host>(
     }
 }
 
-/// Listens, says where, and serves one connection after another.
+/// Listens, prints the address, and serves one connection after another.
 fn serve_listening<H: Host>(
     alloc: Global,
     host: &mut H,
@@ -228,7 +228,7 @@ fn serve_listening<H: Host>(
     }
 }
 
-/// Begins a site with what files hold and serves it, or reports why it does not begin.
+/// Creates the initial site from the contents of files and serves it, or reports the error.
 fn serve_held<H: Host>(
     alloc: Global,
     host: &mut H,
@@ -249,7 +249,7 @@ fn serve_held<H: Host>(
     }
 }
 
-/// Reads the schema, and then the state, if one is named; then begins the site and serves it.
+/// Reads the schema and then the state, if one is named; then creates the site and serves it.
 pub(crate) fn run_serve<H: Host>(
     alloc: Global,
     host: &mut H,

@@ -1,4 +1,4 @@
-//! States that are merged, and a state that is brought up to date from another site.
+//! The commands `merge` and `pull`.
 ghost use Rattle.std.specs.Prelude.{◌≡◌, ◌⊎◌, IfOk, option_map, string_bytes};
 ghost use Rattle.std.specs.Process.{exit_status};
 ghost use Rattle.program.specs.Events.{Runs};
@@ -18,7 +18,7 @@ use state_exchanges::{PullFault, Pulled, merge_texts, pull_over};
 use std::alloc::Global;
 use std::process::ExitCode;
 
-/// Merges what files hold, and reports the state, or why there is none.
+/// Merges the contents of files, and reports the state or the error.
 fn merge_held<H: Host>(
     alloc: Global,
     host: &mut H,
@@ -62,7 +62,7 @@ pub(crate) fn run_merge<H: Host>(
     merge_held(alloc, host, options, &schema, &first, &second)
 }
 
-/// Returns the line that tells how many updates were taken.
+/// Returns the line with the number of applied updates.
 #[tactic(auto, unfolding(crate::specs::Reports::taken_report_line))]
 fn taken_line(alloc: Global, count: usize) -> Result<String, NoMemory>
     ensures { IfOk result (λ line. string_bytes line ≡ taken_report_line count) }
@@ -70,8 +70,8 @@ fn taken_line(alloc: Global, count: usize) -> Result<String, NoMemory>
     format!(in alloc; "{{\"taken\":{count}}}")
 }
 
-/// Writes the new state, and then tells how many updates came. Nothing is written where there is no memory for
-/// the line.
+/// Writes the new state, and then prints how many updates were received. Writes nothing if the line cannot be
+/// allocated.
 fn keep<H: Host>(alloc: Global, host: &mut H, name: &str, pulled: &Pulled) -> ExitCode
     ensures { Runs H.does host.old host.new (λ events.
         Stores name.now pulled.now.state.items (IsAnswerReported (taken_report_line pulled.now.taken)) events
@@ -87,7 +87,7 @@ fn keep<H: Host>(alloc: Global, host: &mut H, name: &str, pulled: &Pulled) -> Ex
     }
 }
 
-/// Tells what came of a pull: writes the new state, or tells why there is none.
+/// Reports the outcome of a pull: writes the new state, or reports the error.
 fn tell_pull<H: Host>(
     alloc: Global,
     host: &mut H,
@@ -103,7 +103,7 @@ fn tell_pull<H: Host>(
     }
 }
 
-/// Pulls over a connection that stands, lets it go, and tells what came of it.
+/// Pulls over an open connection, closes it, and reports the outcome.
 fn pull<H: Host>(
     alloc: Global,
     host: &mut H,
@@ -129,8 +129,8 @@ fn pull<H: Host>(
     tell_pull(alloc, host, options, came)
 }
 
-/// Reads the schema, and the state, if it is there; then takes from the site at an address what the state lacks, and
-/// writes the state. The site's name is for the record alone: nothing is stamped.
+/// Reads the schema, and the state, if it exists; then fetches the entries that the state lacks from the site at an
+/// address, and writes the state. The site's name makes no difference: a pull issues no stamps.
 pub(crate) fn run_pull<H: Host>(alloc: Global, host: &mut H, options: &PullOptions<'_>) -> ExitCode
     ensures { Runs H.does host.old host.new (λ events.
         IsPullRun H.Reader.Source H.Writer.Sink options.now events (exit_status result)) }

@@ -1,4 +1,4 @@
-//! The machine of the system.
+//! The machine of the operating system.
 ghost use Rattle.std.specs.Prelude.{◌++◌, OnOk};
 ghost use Rattle.std.specs.Io.KnownBytes.{Appends};
 ghost use Rattle.program.specs.Events.{Changes, closed};
@@ -20,7 +20,7 @@ pub struct SystemHost<'a, R, O, E> {
     pub files: &'a R,
     pub answers: O,
     pub faults: E,
-    /// Standard output again, for a log that goes there; a log takes it.
+    /// A second writer of standard output, for a log that goes there; opening the log takes it.
     pub lines: Option<O>,
 }
 
@@ -47,18 +47,18 @@ impl<F: Write, O: Write> Write for LogDevice<F, O> {
     }
 }
 
-/// The lines of a log, each of which begins on a line of its own: behind one that was cut by a failure, in this run or
-/// an earlier one, stands a line feed.
+/// The lines of a log, each of which begins on a line of its own: if a failure cut the last one off, in this run or an
+/// earlier one, a line feed is written first.
 #[derive(Drop)]
 pub struct LogLines<D> {
     device: D,
-    /// Whether the last byte that was taken ends no line.
+    /// Whether the last accepted byte does not end a line.
     open: bool,
-    /// Whether a write failed since, or the run began there, so that the next one begins a line.
+    /// Whether a write failed since, or the run began there, so that the next write begins a line.
     torn: bool,
 }
 
-/// A listener, with how long a read or a write of its connections may take.
+/// A listener, with the time limit of a read or a write of its connections.
 #[derive(Drop)]
 pub struct Listening<L> {
     listener: L,
@@ -87,7 +87,7 @@ impl From<io::Error> for FileFault {
     }
 }
 
-/// Writes a label, a line and the line's end.
+/// Writes a label, a line and a line feed.
 fn write_line<W: Write>(out: &mut W, label: &str, line: &[u8]) -> Result<(), StreamFailed>
     ensures { OnOk result (Appends (W.contents out.old) (W.contents out.new) (ended (label.now ++ line.now))) }
 {
@@ -97,7 +97,7 @@ fn write_line<W: Write>(out: &mut W, label: &str, line: &[u8]) -> Result<(), Str
     Ok(())
 }
 
-/// Writes a file of this name and no other, to its end on the disk.
+/// Writes a file of this name and no other, and waits until it is on the disk.
 fn write_new<R: Files>(files: &R, name: &str, bytes: &[u8]) -> Result<(), FileFault> {
     let mut file = File::create(files, name)?;
     file.write_all(bytes)?;
@@ -105,7 +105,7 @@ fn write_new<R: Files>(files: &R, name: &str, bytes: &[u8]) -> Result<(), FileFa
     Ok(())
 }
 
-/// Returns the name of the file that is written before it takes the name of another: that one's, with `.new` behind it.
+/// Returns the name of the file that is written first and then renamed to `name`: `name` with `.new` appended.
 fn new_name<R: AllocGlobal>(rt: &R, name: &str) -> Result<String, FileFault> {
     match format!(in rt.alloc(); "{name}.new") {
         Ok(new) => Ok(new),
@@ -113,7 +113,7 @@ fn new_name<R: AllocGlobal>(rt: &R, name: &str) -> Result<String, FileFault> {
     }
 }
 
-/// Returns the two ends of a stream of bytes, which goes out as it is written.
+/// Returns the reader and the writer of a stream of bytes; the writer does not buffer.
 fn link<S: Read + Write + OpenStream + Drop>(
     stream: S,
 ) -> Result<Link<Counted<S>, Counted<S>>, NetworkFailed> {
@@ -125,7 +125,7 @@ fn link<S: Read + Write + OpenStream + Drop>(
     })
 }
 
-/// Returns the two ends of a stream whose reads and writes may take so long, if a limit is given.
+/// Returns the reader and the writer of a stream, with a time limit for its reads and writes, if one is given.
 fn limited_link<S: Read + Write + OpenStream + Drop>(
     stream: S,
     idle: Option<Duration>,
@@ -137,14 +137,14 @@ fn limited_link<S: Read + Write + OpenStream + Drop>(
     link(stream)
 }
 
-/// Opens a file to append to; one that is not there is created.
+/// Opens a file to append to, and creates it if it is missing.
 fn append_to<R: Files>(files: &R, name: &str) -> io::Result<R::File> {
     let mut options = OpenOptions::new();
     options.append(true).create(true);
     options.open(files, name)
 }
 
-/// Returns the last byte of a file, or a line feed if it is no regular one. An empty file has none.
+/// Returns the last byte of a file, or a line feed if it is not a regular one. Fails for an empty file.
 fn last_byte<R: Files>(files: &R, name: &str) -> io::Result<u8> {
     let mut last = [b'\n'];
     if fs::metadata(files, name)?.is_file() {
@@ -155,7 +155,7 @@ fn last_byte<R: Files>(files: &R, name: &str) -> io::Result<u8> {
     Ok(last[0])
 }
 
-/// Returns whether the log of this name ends in a line that is cut, as far as it can be read.
+/// Returns whether the log of this name ends in a line that was cut off, as far as it can be read.
 fn ends_cut<R: Files>(files: &R, name: &str) -> bool {
     if name == "-" {
         return false;

@@ -1,4 +1,4 @@
--- Defines what the command `drill` prints of a schema and a script at n sites.
+-- Defines the output of the command `drill`: for a schema and a script at n sites.
 -- Source: docs/formats.md, of scripts.
 -- Rules of this product: the schema is checked first, then the whole script, and only then is an event executed; there
 -- is a line for each event, in order, then one for each site, joined by line feeds.

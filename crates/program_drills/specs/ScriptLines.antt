@@ -15,7 +15,7 @@ use Rattle.http_service.specs.site.declared.event.Operation.TheVariants as opera
 use Rattle.http_service.specs.site.declared.event.Event.{Event}
 use Rattle.program_drills.specs.declared.made.Made.{Made}
 
--- ---- what is made
+-- ---- what operations make
 
 -- `after_operation made d` counts the messages and summaries after the operation `d`: an offer makes a message, a state
 -- or a delta.
@@ -25,7 +25,7 @@ after_operation made (operation.OfferDelta k) = record { messages = made.message
 after_operation made operation.Summary = record { messages = made.messages; summaries = made.summaries + 1 }
 after_operation made _ = made
 
--- ---- what is asked for
+-- ---- the operation that a line asks for
 
 -- An `Asked` is an operation; or the JSON of an entity to put or of a request, which an operation has as bytes.
 pub data Asked : Type 0 where
@@ -91,7 +91,7 @@ asked_by made word d =
 
 -- ---- a line
 
--- A `ScriptLine` is what is asked, and of which site.
+-- A `ScriptLine` is what a line asks for, and the number of the site.
 pub record ScriptLine : Type 0 where
   pub site : ℕ
   pub asked : Asked

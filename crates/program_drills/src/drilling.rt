@@ -42,8 +42,8 @@ fn drill_under(
     Ok(play(alloc, schema, count, &events)?)
 }
 
-/// Executes a script at `sites` empty sites of a schema, named `00001`, `00002` and so on, and returns its lines: one
-/// for each event, then the state of each site, joined by line feeds.
+/// Executes a script at `sites` empty sites of a schema, and returns its lines: one for each event, then the state of
+/// each site, joined by line feeds. The sites are named `00001`, `00002` and so on.
 ///
 /// A line of the script is a JSON object with the number of a site at `site` and an operation at `do`, with its
 /// arguments at further keys: `put_policy` (`id`, `text`), `delete_policy` (`id`), `put_entity` (`entity`),

@@ -1,4 +1,4 @@
-//! The commands and their options, as clap knows them.
+//! The commands and their options, as values of clap.
 ghost use Rattle.std.specs.Prelude.{◌≡◌, false, IfOk, codes};
 ghost use Rattle.clap.specs.Words.{App, Rule, rule_of, new_app, with_rule, with_subcommand};
 ghost use Rattle.program_lines.specs.Apps.{value_option, value_word, number_option, demanded, site_option, site_app};
@@ -156,7 +156,7 @@ fn with_explain<'a>(
 fn check_command<'a>(alloc: Global) -> Result<Command<'a>, NoMemory>
     ensures { IfOk result (IsApp check_app) }
 {
-    let about = "Tells of each policy of a file whether it is accepted under a schema";
+    let about = "Reports whether each policy of a file is accepted under a schema";
     let example = "Example:\n  cedar_site check --schema schema.json policies.cedar";
     let command = bare(alloc, "check", about, example);
     let command = with_schema(alloc, command);
@@ -168,7 +168,7 @@ fn check_command<'a>(alloc: Global) -> Result<Command<'a>, NoMemory>
 fn decide_command<'a>(alloc: Global) -> Result<Command<'a>, NoMemory>
     ensures { IfOk result (IsApp decide_app) }
 {
-    let about = "Answers one request over a file of policies and a file of entities";
+    let about = "Decides one request over a file of policies and a file of entities";
     let request = "The request, a JSON object";
     let entities = "The entities, a JSON array";
     let schema = value_option(alloc, "schema", "FILE", "The schema, as JSON");
@@ -186,13 +186,13 @@ fn decide_command<'a>(alloc: Global) -> Result<Command<'a>, NoMemory>
 fn load_command<'a>(alloc: Global) -> Result<Command<'a>, NoMemory>
     ensures { IfOk result (IsApp load_app) }
 {
-    let about = "Prints the state of a site that files of policies and entities are put into";
+    let about = "Puts files of policies and entities into a site, and prints its state";
     let example = "Example:\n  cedar_site load --schema schema.json --site east \\\n      \
          --policies policies.cedar --entities entities.json > east.json";
     let name = "The site's name, for the stamps: 1 to 32 ASCII letters, digits, '-', '_' or '.'";
     let policies = "The policies, as text, each put under its name";
     let entities = "The entities, a JSON array, put in their order";
-    let begin = "A state or a delta to begin with; it is read and never written";
+    let begin = "The initial state or delta; the file is never written";
     let command = bare(alloc, "load", about, example);
     let command = with_schema(alloc, command);
     let command = with_site(alloc, command, name);
@@ -209,13 +209,13 @@ fn serve_command<'a>(alloc: Global) -> Result<Command<'a>, NoMemory>
     ensures { IfOk result (IsApp serve_app) }
 {
     let about = "Serves a site over HTTP, one connection after another";
-    let address = "Where to listen, as 127.0.0.1:7000";
-    let begin = "A state or a delta to begin with; it is read and never written";
-    let most = "How many connections to serve before the run ends";
-    let limit = "How long a connection may send or take nothing before it ends, 1 to 86400";
-    let lines = "Where each reply gets a line of JSON before it goes out; '-' is standard output";
+    let address = "The address to listen at, such as 127.0.0.1:7000";
+    let begin = "The initial state or delta; the file is never written";
+    let most = "The number of connections to serve before the run ends";
+    let limit = "The longest time of one read or write of a connection, 1 to 86400";
+    let lines = "The log: a line of JSON for each reply, before it is sent; '-' is standard output";
     let name =
-        "The site's name, which no other site has: 1 to 32 ASCII letters, digits, '-', '_' or '.'";
+        "The site's name, which no other site has or had: 1 to 32 ASCII letters, digits, '-', '_' or '.'";
     let example =
         "Example:\n  cedar_site serve --schema schema.json --site east --state east.json \\\n      \
          --listen 127.0.0.1:7000";
@@ -236,16 +236,15 @@ fn serve_command<'a>(alloc: Global) -> Result<Command<'a>, NoMemory>
 fn pull_command<'a>(alloc: Global) -> Result<Command<'a>, NoMemory>
     ensures { IfOk result (IsApp pull_app) }
 {
-    let about = "Takes from another site what a state file lacks";
-    let file = "The state, read and then written; where there is none, it is an empty one";
-    let name =
-        "The name of the site whose state it is, for the record alone: a pull stamps nothing";
+    let about = "Fetches from another site the entries that a state file lacks";
+    let file = "The file of the state, read and then written; a missing file is an empty state";
+    let name = "A site's name; any name will do, since a pull issues no stamps";
     let example =
         "Example:\n  cedar_site pull --schema schema.json --site west --from 127.0.0.1:7000 --state west.json";
     let command = bare(alloc, "pull", about, example);
     let command = with_schema(alloc, command);
     let command = with_site(alloc, command, name);
-    let from = "Where the other site listens";
+    let from = "The address of the other site";
     let command = with_needed(alloc, command, "from", "ADDRESS", from);
     with_needed(alloc, command, "state", "FILE", file)
 }
@@ -253,34 +252,41 @@ fn pull_command<'a>(alloc: Global) -> Result<Command<'a>, NoMemory>
 fn exchange_command<'a>(alloc: Global) -> Result<Command<'a>, NoMemory>
     ensures { IfOk result (IsApp exchange_app) }
 {
-    let about = "Brings two running sites up to date from one another";
+    let about = "Brings two running sites up to date with each other";
     let example =
         "Example:\n  cedar_site exchange --schema schema.json --between 127.0.0.1:7000 --and 127.0.0.1:7001";
     let command = bare(alloc, "exchange", about, example);
     let command = with_schema(alloc, command);
-    let first = "Where one site listens; it is brought up to date first";
+    let first = "The address of the site that is brought up to date first";
     let command = with_needed(alloc, command, "between", "ADDRESS", first);
-    with_needed(alloc, command, "and", "ADDRESS", "Where the other listens")
+    with_needed(
+        alloc,
+        command,
+        "and",
+        "ADDRESS",
+        "The address of the other site",
+    )
 }
 
 fn merge_command<'a>(alloc: Global) -> Result<Command<'a>, NoMemory>
     ensures { IfOk result (IsApp merge_app) }
 {
-    let about = "Prints the state that holds what two states hold";
+    let about = "Prints the join of two states";
     let example = "Example:\n  cedar_site merge --schema schema.json east.json west.json";
     let command = bare(alloc, "merge", about, example);
     let command = with_schema(alloc, command);
     let command = with_word(alloc, command, "first", "FIRST", "A state or a delta");
-    let command = with_word(alloc, command, "second", "SECOND", "Another one");
+    let command = with_word(alloc, command, "second", "SECOND", "Another state or delta");
     with_explain(alloc, command)
 }
 
 fn drill_command<'a>(alloc: Global) -> Result<Command<'a>, NoMemory>
     ensures { IfOk result (IsApp drill_app) }
 {
-    let about = "Plays a script of events at sites of one run, and prints what comes of each";
-    let count = "How many sites there are, 1 to 64; the script names them by their numbers";
-    let script = "The script: one event a line, each a JSON object";
+    let about =
+        "Executes a script of events at the sites of one process, and prints the result of each";
+    let count = "The number of sites, 1 to 64; the script names them by number, from 1";
+    let script = "The script: one event on each line, a JSON object";
     let example = "Example:\n  cedar_site drill --schema schema.json --sites 2 lost_and_late.jsonl";
     let command = bare(alloc, "drill", about, example);
     let command = with_schema(alloc, command);
@@ -293,8 +299,8 @@ fn explain_command<'a>(alloc: Global) -> Result<Command<'a>, NoMemory>
     ensures { IfOk result (IsApp explain_app) }
 {
     let about =
-        "Explains a code, or what is rejected of files: each policy, the first entity, the request";
-    let what = "A code, as 44, or the policies, as text";
+        "Explains a code, or what is rejected in files: each policy, the first entity, the request";
+    let what = "A code, such as 44, or a file of policies";
     let entities = value_option(alloc, "entities", "FILE", "The entities, a JSON array");
     let request = value_option(alloc, "request", "FILE", "The request, a JSON object");
     let schema = value_option(alloc, "schema", "FILE", "The schema, as JSON");
@@ -307,21 +313,21 @@ fn explain_command<'a>(alloc: Global) -> Result<Command<'a>, NoMemory>
     with_word(alloc, command, "what", "WHAT", what)
 }
 
-/// What `--version` prints after the program's name: the version of the Cedar language.
+/// The text that `--version` prints after the program's name: the version of the Cedar language.
 const VERSION: &str = "4.0";
 
 /// Returns the program's command, which demands a subcommand and prints its version.
 fn top_command<'a>(alloc: Global) -> Result<Command<'a>, NoMemory>
     ensures { IfOk result (IsApp (with_version (asks_for_command (new_app (codes "cedar_site"))))) }
 {
-    let about = "Checks policies, decides requests by them, and keeps sites of them alike";
+    let about = "Checks policies, decides requests, and runs sites that exchange their stores";
     let command = Command::new(alloc, "cedar_site")
         .about(about)
         .version(VERSION);
     Ok(command.subcommand_required(true))
 }
 
-/// All commands.
+/// Returns the program's command with all subcommands.
 pub(crate) fn command<'a>(alloc: Global) -> Result<Command<'a>, NoMemory>
     ensures { IfOk result (IsApp site_app) }
 {

@@ -17,13 +17,13 @@ pub enum LineFault {
     #[error(transparent)]
     Words(clap::Error),
     /// The value of `--site` is not a site name. Nothing else is wrong.
-    #[error("error: the value of '--site' is no site's name: 1 to 32 ASCII letters, digits, '-', '_' or '.'\n")]
+    #[error("error: the value of '--site' is not a site name: 1 to 32 ASCII letters, digits, '-', '_' or '.'\n")]
     Site,
     /// clap accepted the arguments, but a command or an option is missing: this does not occur.
     #[error("error: an option is missing\n")]
     Incomplete,
     /// An argument is not UTF-8. `line_of` never returns this: its arguments are texts.
-    #[error("error: a word of the command line is not UTF-8\n")]
+    #[error("error: an argument is not UTF-8\n")]
     NotText,
     /// Out of memory.
     #[error("error: out of memory\n")]

@@ -65,7 +65,7 @@ pub struct ServeOptions<'a> {
 }
 
 /// The options of `pull`: the name of a schema's file, a site's name, an address, and the name of the file with the
-/// state. The site's name makes no difference: nothing is stamped.
+/// state. The site's name makes no difference: a pull issues no stamps.
 #[derive(Clone, Copy)]
 pub struct PullOptions<'a> {
     pub schema: &'a str,
@@ -129,7 +129,7 @@ pub enum Line<'a> {
     Merge(MergeOptions<'a>),
     /// Execute a script.
     Drill(DrillOptions<'a>),
-    /// Explain a code, or what is rejected of files.
+    /// Explain a code, or what is rejected in files.
     Explain(ExplainOptions<'a>),
 }
 

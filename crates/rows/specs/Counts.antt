@@ -8,13 +8,13 @@ abbrev pub said : List ℕ → List ℕ → List ℕ
 said target [] = target
 said target (b ∷ body) = b ∷ body
 
--- `counts` holds of a reply with what the request says, or 503: requests are counted, and replies 503.
+-- `counts` holds if the reply has the text that the request says, or 503: requests and replies 503 are counted.
 abbrev pub counts : Counter → List ℕ → List ℕ → List ℕ → StatusCode → List ℕ → Counter → Type 0
 counts old method target body status reply new =
     (new.requests ≡ min (old.requests + 1) (2 ^ 64 - 1))
     × (((status ≡ 503) × (new.refused ≡ min (old.refused + 1) (2 ^ 64 - 1)))
     ⊎ ((status ≡ 200) × (reply ≡ said target body) × (new.refused ≡ old.refused)))
 
--- `asked_alike one other` holds if both counted as many requests; no reply tells the number of replies 503.
+-- `asked_alike one other` holds if both counted equally many requests; no reply shows the number of replies 503.
 abbrev pub asked_alike : Counter → Counter → Type 0
 asked_alike one other = one.requests ≡ other.requests

@@ -2,9 +2,9 @@
 use crate::keeping::ended;
 use crate::pieces::Line;
 use crate::written::bad_row;
+use explanation_texts::{place_of, push_excerpt};
 use plain::NoMemory;
 use std::alloc::Global;
-use text_places::{place_of, push_excerpt};
 
 fn push_shown(told: &mut Line, letter: char) {
     match letter {
@@ -23,7 +23,7 @@ fn in_one_line(alloc: Global, lines: &str) -> Result<String, NoMemory> {
     told.ended()
 }
 
-/// Returns the excerpt of a text that shows what is behind its first `from` bytes and before its last `behind` bytes.
+/// Returns the excerpt of a text that shows the part after its first `from` and before its last `behind` bytes.
 fn excerpt(alloc: Global, text: &str, from: usize, behind: usize) -> Result<String, NoMemory> {
     let start = place_of(text, from);
     let end = place_of(text, text.len().saturating_sub(behind));
@@ -39,7 +39,7 @@ fn excerpt(alloc: Global, text: &str, from: usize, behind: usize) -> Result<Stri
     in_one_line(alloc, lines.as_str())
 }
 
-/// Returns the excerpt of a text in which two bars stand round what is shown.
+/// Returns the excerpt of a text in which two bars enclose the shown part.
 pub(crate) fn marked(alloc: Global, text: &str) -> Result<String, NoMemory> {
     let Some((before, rest)) = text.split_once('|') else {
         return bad_row(alloc);
@@ -52,7 +52,7 @@ pub(crate) fn marked(alloc: Global, text: &str) -> Result<String, NoMemory> {
     ended(whole, told)
 }
 
-/// Returns the place of a byte of a text, and where its character begins; the byte's number stands before the text.
+/// Returns the place of a byte of a text, and the first byte of its character; the byte's number precedes the text.
 pub(crate) fn placed(alloc: Global, row: &str) -> Result<String, NoMemory> {
     let (number, text) = row.split_once(' ').unwrap_or((row, ""));
     let Ok(at) = number.parse::<usize>() else {

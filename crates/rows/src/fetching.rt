@@ -1,4 +1,4 @@
-//! Replies that are fetched.
+//! Cases of fetched replies.
 use crate::ways::{PLAIN, SEVENS, SLOW, Way, by_reads, reader_of, writer_of};
 use crate::written::shown;
 use http::Method;
@@ -8,18 +8,18 @@ use http_texts::parts::Ask;
 use plain::NoMemory;
 use std::alloc::Global;
 
-/// What came of a fetch.
+/// The outcome of a fetch.
 #[derive(Drop)]
 struct Fetched {
-    /// The status, or the fault.
+    /// The status, or the error.
     status: Result<u16, FetchFault>,
-    /// The body; empty where there is a fault.
+    /// The body; empty after an error.
     body: Vec<u8>,
-    /// How much is unread.
+    /// The number of unread bytes.
     left: usize,
 }
 
-/// Returns the status and the body, apart.
+/// Returns the status and the body separately.
 fn apart(
     alloc: Global,
     reply: Result<(u16, Vec<u8>), FetchFault>,
@@ -30,7 +30,7 @@ fn apart(
     }
 }
 
-/// Fetches from a peer that gives these bytes, in this way.
+/// Fetches from a peer that sends these bytes, split in this way.
 fn run(alloc: Global, bytes: &[u8], way: Way<'_>) -> Fetched {
     let mut reader = reader_of(way, bytes);
     let mut writer = writer_of(way, alloc);
@@ -59,7 +59,7 @@ fn status_and_body(alloc: Global, status: u16, body: &[u8]) -> Result<String, No
     format!(in alloc; "{status} {body}")
 }
 
-/// Returns the status and the body, or the fault. A write fails here only for want of memory.
+/// Returns the status and the body, or the error. A write fails here only if out of memory.
 fn told(alloc: Global, fetched: &Fetched) -> Result<String, NoMemory> {
     match fetched.status {
         Ok(status) => status_and_body(alloc, status, fetched.body.as_slice()),
@@ -77,7 +77,7 @@ fn is_told_in(alloc: Global, bytes: &[u8], said: &str, way: Way<'_>) -> Result<b
     Ok(found.as_str() == said)
 }
 
-/// Returns whether this is told however the reply is cut in two.
+/// Returns whether the outcome is this one however the reply is split in two.
 fn is_told(alloc: Global, bytes: &[u8], said: &str) -> Result<bool, NoMemory> {
     for at in 0..bytes.len() {
         let reads = [at, usize::MAX];
@@ -88,7 +88,7 @@ fn is_told(alloc: Global, bytes: &[u8], said: &str) -> Result<bool, NoMemory> {
     Ok(true)
 }
 
-/// Returns how much is unread of a reply in pieces.
+/// Returns the number of unread bytes of a reply in pieces.
 fn left(alloc: Global, bytes: &[u8]) -> usize {
     let fetched = run(alloc, bytes, SEVENS);
     fetched.left
@@ -102,13 +102,13 @@ fn told_and_left(alloc: Global, bytes: &[u8], said: &str) -> Result<String, NoMe
     format!(in alloc; "{said}, {left} left")
 }
 
-/// Returns what is fetched, if it is the same however the reply is cut in two, and how much is unread of it in pieces.
+/// Returns the fetched reply, if it is the same however it is split in two, and its number of unread bytes in pieces.
 fn fetched_all(alloc: Global, bytes: &[u8]) -> Result<String, NoMemory> {
     let said = told_in(alloc, bytes, SLOW)?;
     told_and_left(alloc, bytes, said.as_str())
 }
 
-/// Returns what is fetched of a long reply.
+/// Returns the outcome of fetching a long reply.
 fn far(alloc: Global, bytes: &[u8]) -> Result<String, NoMemory> {
     let fetched = run(alloc, bytes, PLAIN);
     match fetched.status {
@@ -117,7 +117,7 @@ fn far(alloc: Global, bytes: &[u8]) -> Result<String, NoMemory> {
     }
 }
 
-/// Returns what a row comes to.
+/// Returns the outcome of a row.
 pub(crate) fn came_to(alloc: Global, word: &str, bytes: &[u8]) -> Result<String, NoMemory> {
     match word {
         "fetch" => fetched_all(alloc, bytes),

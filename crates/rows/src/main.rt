@@ -1,34 +1,34 @@
-//! Rows of what no command shows: each line of standard input is one row, a word and a text, and the line printed
-//! for it is the row itself, an arrow, and what it came to. A line that is empty or begins with `#` is printed as
-//! it is, so that line N of what is read is line N of what is printed.
+//! Runs test cases of calls that no command shows. Each line of standard input is one case, a word and a text; the
+//! program prints the line, an arrow, and the outcome. It copies a line that is empty or begins with `#`, so line N
+//! of its output belongs to line N of its input.
 //!
 //! Texts (`texts`):
 //!
-//! - `name`, `json`: the text as it was read, in its canonical form.
-//! - `tokens`: how many there are, and the kind and the place of each; or the place at which there is none.
-//! - `place`: behind a byte's number, the line and the column of that byte, and where its character begins.
-//! - `excerpt`: the lines that show what stands between two bars, in one line, with `\n` and `\t` as in a text.
+//! - `name`, `json`: the parsed text in its canonical form.
+//! - `tokens`: the number of tokens, and the kind and the place of each; or the place at which no token begins.
+//! - `place`: after a byte's number, the line and the column of that byte, and the first byte of its character.
+//! - `excerpt`: the lines that show the part between two bars, in one line, with `\n` and `\t` as in a text.
 //!
-//! Policies (`spans`), behind the digits of a path, or `-`:
+//! Policies (`spans`), after the digits of a path, or `-`:
 //!
-//! - `span`: what is written for the core node at the path; `named`: the name that this node has itself.
+//! - `span`: the text of the core node at the path; `named`: the name that this node itself has.
 //!
 //! Streams (`streams`) to a service that answers each request by its body, or by its target, and counts:
 //!
-//! - `serve`: the statuses of the replies, with `!` where the last one ends the stream; how often the service was
-//!   asked; and the places at which more is answered, where the text ends there. The same has to come of the text
-//!   cut in two at each byte, and read byte by byte and written in pieces; else `differs`.
-//! - `whole`: the statuses alone, of a long text, which is not cut; `slow`: of one that is read byte by byte.
+//! - `serve`: the statuses of the replies, with `!` if the last one ends the stream; the number of calls of the
+//!   service; and the places at which a text that ends there gets more replies. The outcome must be the same for
+//!   the text split in two at each byte, and read byte by byte and written in pieces; else it is `differs`.
+//! - `whole`: only the statuses, of a long text that is not split; `slow`: of one that is read byte by byte.
 //! - `reply`: the replies themselves.
 //!
-//! Replies (`fetching`) that are fetched:
+//! Fetched replies (`fetching`):
 //!
-//! - `fetch`: what is fetched where the text comes as the reply, however it is cut, and how much of it is unread
-//!   where it is read in pieces of 7 bytes.
-//! - `far`: what is fetched of a reply that is not cut, by its size; `refused` where memory was.
+//! - `fetch`: the outcome of fetching the text as the reply, however it is split, and the number of unread bytes if
+//!   it is read in pieces of 7 bytes.
+//! - `far`: the outcome for a reply that is not split, by its size; `refused` if out of memory.
 //!
-//! In a text `\r`, `\n`, `\t` and `\\` are what they are elsewhere, `\v` is the byte 11, `\p` 12 and `\f` 255, `\d`
-//! is U+202E, `\k` stands for 1,024 letters and `\h` for a field.
+//! In a text `\r`, `\n`, `\t` and `\\` have their usual meaning, `\v` is the byte 11, `\p` 12 and `\f` 255, `\d`
+//! is U+202E, `\k` 1,024 letters and `\h` a field.
 #![tactic(auto)]
 
 mod excerpts;
@@ -46,7 +46,7 @@ use plain::NoMemory;
 use std::alloc::Global;
 use std::io;
 
-/// Returns what a row comes to.
+/// Returns the outcome of a row.
 fn came_to(alloc: Global, word: &str, text: &str) -> Result<String, NoMemory> {
     let bytes = unescaped(alloc, text)?;
     match word {
@@ -58,7 +58,7 @@ fn came_to(alloc: Global, word: &str, text: &str) -> Result<String, NoMemory> {
     }
 }
 
-/// Returns what is printed for a line.
+/// Returns the line that is printed for a line of input.
 fn told(alloc: Global, line: &str) -> Result<String, NoMemory> {
     if line.is_empty() || line.starts_with('#') {
         return String::from_str(alloc, line);

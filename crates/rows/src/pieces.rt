@@ -1,5 +1,4 @@
-//! A line and bytes that are made piece by piece. Once memory is refused there are none in the end, so that nothing
-//! has to be asked of each piece.
+//! A line and bytes, built from pieces. Only their end reports a failed allocation, so no caller checks each piece.
 use crate::keeping::whole;
 use plain::NoMemory;
 use std::alloc::Global;
@@ -33,7 +32,7 @@ impl Line {
         self.is_whole = self.is_whole & is_pushed;
     }
 
-    /// Adds what was made, if there was memory for it.
+    /// Appends a value, if it could be allocated.
     pub(crate) fn push_made(&mut self, made: Result<String, NoMemory>) {
         match made {
             Ok(piece) => self.push(piece.as_str()),
@@ -41,7 +40,7 @@ impl Line {
         }
     }
 
-    /// Returns the text, if there was memory for all of it.
+    /// Returns the text, if no allocation failed.
     pub(crate) fn ended(self) -> Result<String, NoMemory> {
         whole(self.text, self.is_whole)
     }
@@ -67,7 +66,7 @@ impl Bytes {
         self.is_whole = self.is_whole & is_pushed;
     }
 
-    /// Returns the bytes, if there was memory for all of them.
+    /// Returns the bytes, if no allocation failed.
     pub(crate) fn ended(self) -> Result<Vec<u8>, NoMemory> {
         whole(self.bytes, self.is_whole)
     }

@@ -1,10 +1,10 @@
-//! Spans in policies: what is written for a core node, or for its name, at a path.
+//! Cases of spans in policies: the text of a core node, or of its name, at a path.
 use crate::written::shown;
 use plain::NoMemory;
 use std::alloc::Global;
 use token_spans::{Span, name_span, span_of};
 
-/// Returns the path that digits stand for.
+/// Returns the path of these digits.
 fn path_of(alloc: Global, digits: &str) -> Result<Vec<usize>, NoMemory> {
     let mut path = Vec::new(alloc);
     for digit in digits.as_bytes() {
@@ -37,7 +37,7 @@ fn told(alloc: Global, text: &str, span: Option<Span>) -> Result<String, NoMemor
     }
 }
 
-/// Returns what a policy has at a path; the path's digits stand before the policy, `-` for none.
+/// Returns the text that a policy has at a path; the path's digits precede the policy, `-` for the empty path.
 fn spanned(alloc: Global, word: &str, row: &str) -> Result<String, NoMemory> {
     let (digits, text) = row.split_once(' ').unwrap_or((row, ""));
     let path = path_of(alloc, digits)?;
@@ -45,7 +45,7 @@ fn spanned(alloc: Global, word: &str, row: &str) -> Result<String, NoMemory> {
     told(alloc, text, span)
 }
 
-/// Returns what a row comes to.
+/// Returns the outcome of a row.
 pub(crate) fn came_to(alloc: Global, word: &str, bytes: &[u8]) -> Result<String, NoMemory> {
     match std::str::from_utf8(bytes) {
         Ok(text) => spanned(alloc, word, text),

@@ -1,4 +1,4 @@
-//! Streams that are served by a service that counts.
+//! Cases of streams, answered by a service that counts.
 ghost use Rattle.std.specs.Prelude.{◌≡◌, ℕ, List};
 ghost use Rattle.http_streams.specs.Laws.{AgreeOn, AnswersAll, HasOneAnswer, in_memory};
 ghost use Rattle.rows.specs.Counts.{asked_alike, counts};
@@ -13,8 +13,8 @@ use http_streams::service::{Answers, Service};
 use plain::NoMemory;
 use std::alloc::Global;
 
-/// Answers each request by its body, or by its target where it has none. It counts them, and how often memory was
-/// refused.
+/// Answers each request by its body, or by its target if the body is empty. Counts the requests, and the failed
+/// allocations.
 #[derive(Drop)]
 struct Counter {
     requests: u64,
@@ -61,12 +61,12 @@ impl Service for Counter {
     fn put_refusal_line(_status: StatusCode, _line: &mut Vec<u8>) {}
 }
 
-/// The service has one answer to each request, want of memory aside.
+/// Proves that the service has one answer to each request, except when out of memory. No-op.
 fn has_one_answer()
     ensures { HasOneAnswer (in_memory counts) asked_alike }
 {}
 
-/// So one answer is told of a stream, however it is cut: the rows look at what is proved here.
+/// Proves that a stream has one answer, however it is split: the rows observe what is proved here. No-op.
 fn agrees()
     ensures { (old old2 new new2 : Counter) → (stream out more : List ℕ) → asked_alike old old2
         → AnswersAll (in_memory counts) old stream out new → AnswersAll (in_memory counts) old2 stream more new2
@@ -76,7 +76,7 @@ fn agrees()
     one_answer::<Counter>();
 }
 
-/// What came of a stream.
+/// The outcome of a stream.
 #[derive(Drop)]
 struct Outcome {
     out: Vec<u8>,
@@ -85,18 +85,18 @@ struct Outcome {
 }
 
 impl Outcome {
-    /// Returns whether the stream was answered to its end, by the same replies to as many requests.
+    /// Returns whether the stream was answered to its end, by the same replies to equally many requests.
     fn is_as(&self, whole: &Outcome) -> bool {
         self.out == whole.out && self.requests == whole.requests && self.fault.is_none()
     }
 
-    /// Returns whether what went out is a beginning of what went out for the whole.
+    /// Returns whether the sent bytes are a prefix of those sent for the whole.
     fn begins(&self, whole: &Outcome) -> bool {
         whole.out.as_slice().starts_with(self.out.as_slice())
     }
 }
 
-/// Serves the bytes in this way.
+/// Serves the bytes, split in this way.
 fn run(alloc: Global, bytes: &[u8], way: Way<'_>) -> Result<Outcome, NoMemory> {
     let mut counter = Counter::new();
     let mut reader = reader_of(way, bytes);
@@ -110,13 +110,13 @@ fn run(alloc: Global, bytes: &[u8], way: Way<'_>) -> Result<Outcome, NoMemory> {
     })
 }
 
-/// Returns whether the same comes of the bytes in this way.
+/// Returns whether the bytes, split in this way, have the same outcome.
 fn is_same(alloc: Global, bytes: &[u8], whole: &Outcome, way: Way<'_>) -> Result<bool, NoMemory> {
     let found = run(alloc, bytes, way)?;
     Ok(found.is_as(whole))
 }
 
-/// Returns whether one answer is told of the bytes, however they are cut in two, read byte by byte, and written in
+/// Returns whether the bytes have one outcome, however they are split in two, and read byte by byte and written in
 /// pieces.
 fn is_one_answer(alloc: Global, bytes: &[u8], whole: &Outcome) -> Result<bool, NoMemory> {
     agrees();
@@ -132,8 +132,8 @@ fn is_one_answer(alloc: Global, bytes: &[u8], whole: &Outcome) -> Result<bool, N
     is_same(alloc, bytes, whole, SLOW)
 }
 
-/// Returns how much is answered of a part; `None` where that is no beginning of what is answered of the whole, or a
-/// fault is told.
+/// Returns how many requests of a part are answered; `None` after an error, or if the replies are not a prefix of
+/// those to the whole.
 fn answered(alloc: Global, part: &[u8], whole: &Outcome) -> Result<Option<usize>, NoMemory> {
     let found = run(alloc, part, PLAIN)?;
     if found.fault.is_none() && found.begins(whole) {
@@ -147,7 +147,7 @@ fn place_told(alloc: Global, place: usize) -> Result<String, NoMemory> {
     format!(in alloc; " {place}")
 }
 
-/// Adds the places at which more is answered, where the bytes end there; `false` where less is.
+/// Appends the places at which bytes that end there get more replies; `false` if a place has fewer replies.
 fn push_steps(
     alloc: Global,
     bytes: &[u8],
@@ -169,7 +169,7 @@ fn push_steps(
     Ok(true)
 }
 
-/// Adds a status that stands at the front.
+/// Appends the status that the bytes begin with.
 fn push_status(told: &mut Line, rest: &[u8]) {
     if rest.starts_with(b"HTTP/1.1 ".as_slice()) && rest.len() > 12 {
         if !told.is_empty() {
@@ -191,7 +191,7 @@ fn push_statuses(told: &mut Line, out: &[u8]) {
     }
 }
 
-/// Returns the statuses in what went out.
+/// Returns the statuses of the sent replies.
 fn statuses(alloc: Global, out: &[u8]) -> Result<String, NoMemory> {
     let mut told = Line::new(alloc);
     push_statuses(&mut told, out);
@@ -202,7 +202,7 @@ fn asked_told(alloc: Global, asked: u64) -> Result<String, NoMemory> {
     format!(in alloc; " ({asked}) at")
 }
 
-/// Returns the statuses, how often the service was asked, and the places; `false` where the places are none.
+/// Returns the statuses, the number of calls of the service, and the places; `false` if a place has fewer replies.
 fn push_served(
     alloc: Global,
     bytes: &[u8],
@@ -229,7 +229,7 @@ fn served(alloc: Global, bytes: &[u8], whole: &Outcome) -> Result<String, NoMemo
     String::from_str(alloc, "differs")
 }
 
-/// Returns how the stream of a row is cut.
+/// Returns how the stream of a row is split.
 fn way_of(word: &str) -> Way<'static> {
     match word {
         "slow" => SLOW,
@@ -237,7 +237,7 @@ fn way_of(word: &str) -> Way<'static> {
     }
 }
 
-/// Returns what is told of what came of a stream.
+/// Returns the line for the outcome of a stream.
 fn told(alloc: Global, word: &str, bytes: &[u8], found: &Outcome) -> Result<String, NoMemory> {
     match word {
         "serve" => served(alloc, bytes, found),
@@ -246,7 +246,7 @@ fn told(alloc: Global, word: &str, bytes: &[u8], found: &Outcome) -> Result<Stri
     }
 }
 
-/// Returns what a row comes to.
+/// Returns the outcome of a row.
 pub(crate) fn came_to(alloc: Global, word: &str, bytes: &[u8]) -> Result<String, NoMemory> {
     let found = run(alloc, bytes, way_of(word))?;
     told(alloc, word, bytes, &found)

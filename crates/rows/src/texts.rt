@@ -19,7 +19,7 @@ fn count_told(alloc: Global, count: usize) -> Result<String, NoMemory> {
     format!(in alloc; "{count}:")
 }
 
-/// Returns how many tokens there are, and the kind and the place of each.
+/// Returns the number of tokens, and the kind and the place of each.
 fn listed(alloc: Global, found: &[Token]) -> Result<String, NoMemory> {
     let mut told = Line::new(alloc);
     told.push_made(count_told(alloc, found.len()));
@@ -63,7 +63,7 @@ fn json(alloc: Global, bytes: &[u8]) -> Result<String, NoMemory> {
     }
 }
 
-/// Returns what a row comes to whose text is UTF-8.
+/// Returns the outcome of a row whose text is UTF-8.
 fn of_text(alloc: Global, word: &str, text: &str) -> Result<String, NoMemory> {
     match word {
         "tokens" => lexed(alloc, text),
@@ -74,7 +74,7 @@ fn of_text(alloc: Global, word: &str, text: &str) -> Result<String, NoMemory> {
     }
 }
 
-/// Returns what a row comes to.
+/// Returns the outcome of a row.
 pub(crate) fn came_to(alloc: Global, word: &str, bytes: &[u8]) -> Result<String, NoMemory> {
     if word == "json" {
         return json(alloc, bytes);

@@ -1,8 +1,8 @@
-//! Devices over memory, by how a stream is cut.
+//! Devices over memory, by how a stream is split.
 use http_devices::memory::{Fed, Kept, Plan};
 use std::alloc::Global;
 
-/// How a stream is cut: the sizes of the reads and of the writes.
+/// How a stream is split: the sizes of the reads and of the writes.
 #[derive(Clone, Copy)]
 pub(crate) struct Way<'a> {
     pub(crate) reads: &'a [usize],

@@ -24,7 +24,7 @@ fn push_escape(bytes: &mut Bytes, letter: u8) {
     }
 }
 
-/// Adds what a byte stands for, and tells whether the next one is escaped by it.
+/// Appends the bytes that a byte denotes, and returns whether it escapes the next one.
 fn push_unescaped(bytes: &mut Bytes, byte: u8, is_escaped: bool) -> bool {
     if is_escaped {
         push_escape(bytes, byte);
@@ -37,7 +37,7 @@ fn push_unescaped(bytes: &mut Bytes, byte: u8, is_escaped: bool) -> bool {
     false
 }
 
-/// Returns the bytes that a text with backslashes stands for.
+/// Returns the bytes that a text with backslashes denotes.
 pub(crate) fn unescaped(alloc: Global, written: &str) -> Result<Vec<u8>, NoMemory> {
     let mut bytes = Bytes::new(alloc);
     let mut is_escaped = false;
@@ -72,7 +72,7 @@ pub(crate) fn text_of(alloc: Global, bytes: &[u8]) -> Result<String, NoMemory> {
     }
 }
 
-/// Returns what is told of a row that is none.
+/// Returns the outcome of a line that is not a row.
 pub(crate) fn bad_row(alloc: Global) -> Result<String, NoMemory> {
     String::from_str(alloc, "bad row")
 }

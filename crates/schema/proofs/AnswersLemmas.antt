@@ -22,13 +22,14 @@ use Rattle.sha2.specs.Sha256.{sha256}
 use Rattle.hex.specs.Hex.{encode_lower}
 use Rattle.schema_names.specs.Naming.{StatesNamed}
 use Rattle.schema_names.specs.Laws.{IsEntityType, NamesItsEntityTypes}
-use Rattle.schema.specs.Schemas.{EnvironmentOf, Answers, IsSound, IsSchemaOf, IsShape, IsAction, IsEnvironment, IsPlace}
+use Rattle.schema.specs.Schemas.{EnvironmentOf, Answers, IsSound, IsShape, IsAction, IsEnvironment, IsPlace}
 use Rattle.schema.specs.Schemas.{IsRecordOf, action_parents, type_parents, type_uid, place_cmp}
 use Rattle.schema.specs.SchemaEntries.{kept}
 use Rattle.schema.specs.Places.{environment_of}
 use Rattle.schema.specs.LookUps.{is_numbered_at, stands_below, is_ancestor, stands_below_action, is_action_above}
 use Rattle.schema.specs.Views.{environment_view, schema_view, above_in}
 use Rattle.schema.specs.declared.type_numbers.TypeNumbers.{TypeNumbers}
+use Rattle.schema.specs.inner.ByNaming.{IsParsedAs}
 use Rattle.schema.specs.inner.Numbering.{AreNumbers}
 use Rattle.schema.specs.inner.Making.{shape_in, Places, AreShapes, ArePlaces, AreMembers}
 use Rattle.schema.specs.inner.Reading.{AreTypesOf, AreHierarchiesOf}
@@ -216,7 +217,7 @@ made_answers s own called label t h types hierarchies = record {
 
 -- what was made is the schema that the bytes state
 pub made_schema : (bytes : List ℕ) (s : ResolvedSchema) → StatesNamed bytes s → NamesItsEntityTypes s → IsSound s → (label : List ℕ) → label ≡ encode_lower (sha256 bytes) → (t : Types) (h : Hierarchies)
-    → AreTypesOf s.commons s t → AreHierarchiesOf s h → IsSchemaOf bytes (schema_view (kept label t.environments h.actions t.shapes h.members h.above.numbers h.above.spans h.types.numbers h.types.spans))
+    → AreTypesOf s.commons s t → AreHierarchiesOf s h → IsParsedAs bytes (schema_view (kept label t.environments h.actions t.shapes h.members h.above.numbers h.above.spans h.types.numbers h.types.spans))
 made_schema bytes s states own sound label is t h types hierarchies = record {
   named = s;
   states = states;

@@ -27,9 +27,9 @@ use Rattle.schema_names.specs.Laws as names
 use Rattle.schema.specs.declared.parts.Place.{Place}
 use Rattle.schema.specs.Schemas as schemas
 use Rattle.schema.specs.Schemas.{EnvironmentOf, StatedSchema, Answers, IsAction, IsEnvironment, IsPlace, IsRecordOf}
-use Rattle.schema.specs.Schemas.{IsSound, IsUnsound, IsSchemaOf, action_parents, type_parents, type_uid, place_cmp}
-use Rattle.schema.specs.Outcomes as outcomes
-use Rattle.schema.specs.Outcomes.{SchemaOrRefusal, SomeOutcome}
+use Rattle.schema.specs.Schemas.{IsSound, action_parents, type_parents, type_uid, place_cmp}
+use Rattle.schema.specs.inner.ByNaming as parsed
+use Rattle.schema.specs.inner.ByNaming.{IsUnsound, IsParsedAs, ParsedOrNot, SomeParsed}
 use Rattle.schema.specs.Places.{place_of}
 use Rattle.schema.proofs.HierarchyLemmas.{contains_map}
 use Rattle.schema.proofs.PlaceLemmas.{place_cmp-IsTotalOrder, place_cmp-IsAntisymmetric}
@@ -292,17 +292,17 @@ module _ (s : ResolvedSchema) (sound : IsSound s) where
       environments_ascend = in_order_ascends place_cmp (λ e. e.place) place_cmp-IsTotalOrder place_cmp-IsAntisymmetric made_environments.0;
     }
 
-    built_schema : (bytes : List ℕ) → StatesNamed bytes s → IsSchemaOf bytes (built bytes)
+    built_schema : (bytes : List ℕ) → StatesNamed bytes s → IsParsedAs bytes (built bytes)
     unfolding built
     built_schema bytes states = record { named = s; states = states; sound = sound; label = refl; answers = built_answers bytes }
 
-pub some_outcome : names.SomeOutcome → names.FilesDeclareOnce → names.FilesNameTheirOwn → TypesStandForOneOrSomeForNone → PathsAreDecided → SomeOutcome
+pub some_outcome : names.SomeOutcome → names.FilesDeclareOnce → names.FilesNameTheirOwn → TypesStandForOneOrSomeForNone → PathsAreDecided → SomeParsed
 some_outcome some once own ends decided bytes = by (some bytes)
   where
-    told : (s : ResolvedSchema) → StatesNamed bytes s → IsSound s ⊎ ((f : SchemaFault) × IsUnsound s f) → SchemaOrRefusal bytes
-    told s states (inl sound) = outcomes.states (built s sound decided bytes) (built_schema s sound decided bytes states)
-    told s states (inr (f, unsound)) = outcomes.refused f (schemas.unsound s f states unsound)
+    told : (s : ResolvedSchema) → StatesNamed bytes s → IsSound s ⊎ ((f : SchemaFault) × IsUnsound s f) → ParsedOrNot bytes
+    told s states (inl sound) = parsed.parsed (built s sound decided bytes) (built_schema s sound decided bytes states)
+    told s states (inr (f, unsound)) = parsed.not_parsed f (parsed.unsound s f states unsound)
 
-    by : names.NamesOrRefusal bytes → SchemaOrRefusal bytes
+    by : names.NamesOrRefusal bytes → ParsedOrNot bytes
     by (names.states s states) = told s states (sound_or_not s ends (once bytes s states) (own bytes s states) decided)
-    by (names.refused f refused) = outcomes.refused f (schemas.naming f refused)
+    by (names.refused f refused) = parsed.not_parsed f (parsed.naming f refused)

@@ -21,7 +21,7 @@ use Rattle.schema_names.specs.Laws.{DeclaresOnce}
 use Rattle.schema.specs.declared.parts.Place.{Place}
 use Rattle.schema.specs.Schemas.{StatedSchema, EnvironmentOf, Answers, Applies, IsRecordOf, IsEnvironment, IsPlace}
 use Rattle.schema.specs.Schemas.{place_cmp}
-use Rattle.schema.specs.Outcomes.{OneSchema}
+use Rattle.schema.specs.inner.ByNaming.{OneParsed}
 use Rattle.schema.proofs.PlaceLemmas.{place_cmp-IsTotalOrder}
 
 -- ---- lists whose keys are apart
@@ -211,7 +211,7 @@ module _ (one : OneWritten) (lists : AscendingListsAreOne) (s : ResolvedSchema) 
           may_have_parent = λ child above. parents_same child above i;
         }
 
-pub one_schema : OneWritten → names.FilesDeclareOnce → AscendingListsAreOne → names.OneFile → OneSchema
+pub one_schema : OneWritten → names.FilesDeclareOnce → AscendingListsAreOne → names.OneFile → OneParsed
 one_schema one once lists file bytes v w a b =
     let same = file bytes a.named b.named a.states b.states in
     one_answer one lists b.named (once bytes b.named b.states) v w (subst (λ (s : ResolvedSchema). Answers s v) same a.answers) b.answers (a.label ∙ sym b.label)

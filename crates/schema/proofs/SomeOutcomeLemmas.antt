@@ -23,7 +23,9 @@ use Rattle.schema_names.specs.Qualifying.{ResolvedEntityType, ResolvedUse, Resol
 use Rattle.schema_names.specs.Laws as names
 use Rattle.schema_names.specs.Laws.{DeclaresOnce, NamesItsOwn}
 use Rattle.schema.specs.Schemas as schemas
-use Rattle.schema.specs.Schemas.{IsWritten, StandsIn, SomeActionIsOnCycle, SomeTypeIsTooLarge, IsSound, IsUnsound}
+use Rattle.schema.specs.Schemas.{IsWritten, StandsIn, SomeActionIsOnCycle, SomeTypeIsTooLarge, IsSound}
+use Rattle.schema.specs.inner.ByNaming.{IsUnsound}
+use Rattle.schema.specs.inner.ByNaming as parsed
 use Rattle.schema.specs.Schemas.{type_uid, with_actions, with_types}
 use Rattle.schema.proofs.HierarchyLemmas.{first_edge, has_parent}
 use Rattle.schema.proofs.InOrder.{in_order, in_order_ascends, from_in_order, all_in_order}
@@ -312,13 +314,13 @@ module _ (s : ResolvedSchema) (ends : TypesStandForOneOrSomeForNone) (once : Dec
   sound_or_not decided = by some_endless
     where
       sized : (SomeStandsForNone s.commons → ⊥) → (SomeActionIsOnCycle s → ⊥) → SomeTypeIsTooLarge s ⊎ ((r : Qualified) → StandsIn s r → IsWritten s.commons r) → IsSound s ⊎ ((f : SchemaFault) × IsUnsound s f)
-      sized endless cycle (inl large) = inr (TypeTooLarge, schemas.too_large endless cycle large)
+      sized endless cycle (inl large) = inr (TypeTooLarge, parsed.too_large endless cycle large)
       sized endless cycle (inr all) = inl (record { no_cycle = cycle; is_written = all })
 
       acyclic : (SomeStandsForNone s.commons → ⊥) → SomeActionIsOnCycle s ⊎ (SomeActionIsOnCycle s → ⊥) → IsSound s ⊎ ((f : SchemaFault) × IsUnsound s f)
-      acyclic endless (inl cycle) = inr (ActionCycle, schemas.action_cycle endless cycle)
+      acyclic endless (inl cycle) = inr (ActionCycle, parsed.action_cycle endless cycle)
       acyclic endless (inr none) = sized endless none (sizes_decided endless)
 
       by : SomeStandsForNone s.commons ⊎ (SomeStandsForNone s.commons → ⊥) → IsSound s ⊎ ((f : SchemaFault) × IsUnsound s f)
-      by (inl endless) = inr (TypeCycle, schemas.type_cycle endless)
+      by (inl endless) = inr (TypeCycle, parsed.type_cycle endless)
       by (inr none) = acyclic none (on_cycle_or_not s.actions decided)

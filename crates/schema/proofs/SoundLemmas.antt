@@ -12,7 +12,9 @@ use Rattle.schema_types.specs.declared.fault.SchemaFault.{SchemaFault}
 use Rattle.schema_types.specs.declared.fault.SchemaFault.TheVariants.{ActionCycle}
 use Rattle.schema_names.specs.Qualifying.{ResolvedSchema}
 use Rattle.schema_names.specs.Laws.{IsShapeOrContext}
-use Rattle.schema.specs.Schemas.{SomeActionIsOnCycle, StandsIn, IsWritten, IsSound, IsUnsound}
+use Rattle.schema.specs.Schemas.{SomeActionIsOnCycle, StandsIn, IsWritten, IsSound}
+use Rattle.schema.specs.inner.ByNaming.{IsUnsound}
+use Rattle.schema.specs.inner.ByNaming as parsed
 use Rattle.schema.specs.Schemas as schemas
 use Rattle.schema.specs.declared.reading.Types.{Types}
 use Rattle.schema.specs.inner.Reading.{AreTypesOf, TypesRefused, EdgesRefused}
@@ -25,13 +27,13 @@ all_end commons known are endless =
     endless.stands_for_none stands.type stands.is_written
 
 commons_fault : (s : ResolvedSchema) (f : SchemaFault) → CommonsRefused s.commons f → IsUnsound s f
-commons_fault s _ (outcome.cycle endless) = schemas.type_cycle endless
+commons_fault s _ (outcome.cycle endless) = parsed.type_cycle endless
 
 pub commons_refused : (s : ResolvedSchema) (f : SchemaFault) → CommonsRefused s.commons f → IsUnsound s f
 commons_refused s f h = commons_fault s f h
 
 edges_fault : (s : ResolvedSchema) → (SomeStandsForNone s.commons → ⊥) → SomeActionIsOnCycle s → IsUnsound s ActionCycle
-edges_fault s ends cycle = schemas.action_cycle ends cycle
+edges_fault s ends cycle = parsed.action_cycle ends cycle
 
 pub edges_refused : (s : ResolvedSchema) (f : SchemaFault) → (SomeStandsForNone s.commons → ⊥) → EdgesRefused s f → IsUnsound s f
 edges_refused s f ends h = subst (λ (g : SchemaFault). IsUnsound s g) (sym h.0) (edges_fault s ends h.1)
@@ -42,7 +44,7 @@ declared_of commons _ _ (written.common q r t d w) = (r, d)
 sizes_fault : (s : ResolvedSchema) (f : SchemaFault) → (SomeStandsForNone s.commons → ⊥) → (SomeActionIsOnCycle s → ⊥) → SizesRefused s.commons f → IsUnsound s f
 sizes_fault s _ ends no_cycle (outcome.large_common large) =
     let declared = declared_of s.commons large.name large.type large.is_written in
-    schemas.too_large ends no_cycle (record {
+    parsed.too_large ends no_cycle (record {
       type = qualified.common large.name;
       whole = large.type;
       stands = schemas.common large.name declared.0 declared.1;
@@ -55,7 +57,7 @@ sizes_refused s f ends no_cycle h = sizes_fault s f ends no_cycle h
 
 type_fault : (s : ResolvedSchema) (r : Qualified) (f : SchemaFault) → (SomeStandsForNone s.commons → ⊥) → (SomeActionIsOnCycle s → ⊥) → IsShapeOrContext s r → TypeRefused s.commons r f → IsUnsound s f
 type_fault s r _ ends no_cycle is (outcome.large_type large) =
-    schemas.too_large ends no_cycle (record {
+    parsed.too_large ends no_cycle (record {
       type = r;
       whole = large.type;
       stands = schemas.shape_or_context r is;

@@ -18,7 +18,8 @@ use Rattle.schema.specs.Schemas.{StatedSchema, Answers, IsAction, IsRecordOf, Is
 use Rattle.schema.specs.Schemas.{type_parents, type_uid}
 use Rattle.schema.proofs.HierarchyLemmas.{last_edge, action_edge, above_declared, below_declared}
 use Rattle.schema.proofs.NameLemmas.{AreNamed, names_of}
-use Rattle.schema.specs.WellFormed.{AreAttributes, IsActionType, IsWellFormed, StatedSchemasAreWellFormed}
+use Rattle.schema.specs.WellFormed.{AreAttributes, IsActionType, IsWellFormed}
+use Rattle.schema.specs.inner.ByNaming.{ParsedSchemasAreWellFormed}
 
 none_ascend : Ascend []
 unfolding IsStrictlySortedBy
@@ -122,6 +123,6 @@ module _ (one : OneWritten) (written : WrittenTypesAscend) (s : ResolvedSchema) 
       parents = λ child parent h. there parent (above_declared s own child parent ((answers.parents child parent).0 h));
     }
 
-pub stated_schemas_are_well_formed : OneWritten → WrittenTypesAscend → names.FilesDeclareOnce → names.FilesTypesAscend → names.ShapesAreRecords → names.FilesNameTheirEntityTypes → WrittenEntitiesAreNamed → StatedSchemasAreWellFormed
+pub stated_schemas_are_well_formed : OneWritten → WrittenTypesAscend → names.FilesDeclareOnce → names.FilesTypesAscend → names.ShapesAreRecords → names.FilesNameTheirEntityTypes → WrittenEntitiesAreNamed → ParsedSchemasAreWellFormed
 stated_schemas_are_well_formed one written once ascend records own named bytes v is =
     well_formed one written is.named (once bytes is.named is.states) (ascend bytes is.named is.states) (records bytes is.named is.states) is.sound named (own bytes is.named is.states) (names_of bytes is.named is.states) v is.answers

@@ -1,11 +1,13 @@
--- Defines the schema that bytes state, and the error if they state none.
+-- Defines the schema that bytes state, and the error of bytes that state none, by its cause.
 -- Source: Cedar reference guide 4.0, "Schema JSON format": `shape`, `memberOfTypes`, `memberOf`, `appliesTo`.
--- Rules of this product: the limits on types, that no action is its own ancestor, and the order of errors; the label
--- of a schema is SHA-256 (FIPS 180-4) of its bytes.
+-- Rules of this product: the limits on types, that no action is its own ancestor; the order of the errors: 20, 21 over
+-- the whole file, 22, 23, 24, 25; the label of a schema is SHA-256 (FIPS 180-4) of its bytes.
 use Rattle.std.specs.Prelude.{◌≡◌, ◌↔◌, ℕ, List, [], ◌∷◌, map, Contains, IsTrue, IsSome, Bool, Option, Some, None}
 use Rattle.std.specs.List.Sorted.{IsStrictlySortedBy}
 use Rattle.sha2.specs.Sha256.{sha256}
 use Rattle.hex.specs.Hex.{encode_lower}
+use Rattle.serde_json.specs.Data.{Data}
+use Rattle.json_words.specs.Json.{json_of}
 use Rattle.values.specs.declared.entity_uid.EntityUid.{EntityUid}
 use Rattle.ancestor_search.specs.Hierarchy.{Parents, IsAncestor, IsAllAbove, IsAscending, IsOnCycle, no_parents}
 use Rattle.ancestor_search.specs.Hierarchy.{with_parents}
@@ -13,13 +15,17 @@ use Rattle.schema_types.specs.Qualified as qualified
 use Rattle.schema_types.specs.Qualified.{Qualified}
 use Rattle.schema_types.specs.Cedar.{Cedar, record_of, no_fields, IsTooLarge}
 use Rattle.schema_types.specs.WrittenOut.{Declarations, Declares, WrittenOut}
-use Rattle.schema_types.specs.Outcome.{SomeStandsForNone}
+use Rattle.schema_types.specs.Mentions.{Leads}
 use Rattle.schema_types.specs.declared.fault.SchemaFault.{SchemaFault}
-use Rattle.schema_types.specs.declared.fault.SchemaFault.TheVariants.{TypeCycle, ActionCycle, TypeTooLarge}
+use Rattle.schema_types.specs.declared.fault.SchemaFault.TheVariants.{NotJson, BadShape, UnknownName, TypeCycle}
+use Rattle.schema_types.specs.declared.fault.SchemaFault.TheVariants.{ActionCycle, TypeTooLarge}
+use Rattle.schema_names.specs.schema_file.FileForm.{NamespaceOf}
 use Rattle.schema_names.specs.Qualifying.{ResolvedEntityType, ResolvedUse, ResolvedAction, ResolvedSchema}
-use Rattle.schema_names.specs.Naming.{StatesNamed, NamingRefused}
 use Rattle.schema_names.specs.Laws.{IsShapeOrContext}
 use Rattle.schema.specs.declared.parts.Place.{Place}
+use Rattle.schema.specs.StatedFiles.{StatesFile, IsNoFile}
+use Rattle.schema.specs.NamesResolved.{ResolvesFile, FileHasUnknown}
+use Rattle.schema.specs.NoRecords.{SomeIsNotRecord}
 pub use Rattle.schema.specs.Places.{place_cmp}
 
 -- ---- the abstract schema
@@ -152,23 +158,49 @@ pub record IsSound (s : ResolvedSchema) : Type 0 where
   pub no_cycle : SomeActionIsOnCycle s → ⊥
   pub is_written : (r : Qualified) → StandsIn s r → IsWritten s.commons r
 
--- `IsUnsound s f` holds if `f` is the first of three errors of `s`.
-pub data IsUnsound (s : ResolvedSchema) : SchemaFault → Type 0 where
-  type_cycle : SomeStandsForNone s.commons → IsUnsound s TypeCycle
-  action_cycle : (SomeStandsForNone s.commons → ⊥) → SomeActionIsOnCycle s → IsUnsound s ActionCycle
-  too_large : (SomeStandsForNone s.commons → ⊥) → (SomeActionIsOnCycle s → ⊥) → SomeTypeIsTooLarge s
-      → IsUnsound s TypeTooLarge
+-- `HasContent bytes ns` holds if `bytes` are JSON that states the namespaces `ns`.
+pub record HasContent (bytes : List ℕ) (ns : List NamespaceOf) : Type 0 where
+  pub value : Data
+  pub json : json_of bytes ≡ Some value
+  pub states : StatesFile value ns
 
--- `IsSchemaOf bytes v` holds if `bytes` state the schema `v`. Nothing is declared twice, since the keys of a parsed
--- object are distinct: a theorem of `schema_names`.
+-- `HasDeclarations bytes s` holds if `bytes` state a file whose shapes and contexts are records, and `s` are its
+-- declarations with their names resolved.
+pub record HasDeclarations (bytes : List ℕ) (s : ResolvedSchema) : Type 0 where
+  pub namespaces : List NamespaceOf
+  pub content : HasContent bytes namespaces
+  pub records : SomeIsNotRecord namespaces → ⊥
+  pub resolved : ResolvesFile namespaces s
+
+-- `IsSchemaOf bytes v` holds if `bytes` state the schema `v`: no action is its own ancestor, each type has an
+-- expansion within the limits, and each look-up of `v` finds what is declared. Nothing is declared twice, since the
+-- keys of a parsed object are distinct: a theorem of `schema_names`.
 pub record IsSchemaOf (bytes : List ℕ) (v : StatedSchema) : Type 0 where
   pub named : ResolvedSchema
-  pub states : StatesNamed bytes named
+  pub states : HasDeclarations bytes named
   pub sound : IsSound named
   pub label : v.label ≡ encode_lower (sha256 bytes)
   pub answers : Answers named v
 
--- `RefusedFor bytes f` holds if `bytes` state no schema, and `f` is the first error.
+-- `SomeCommonLeadsBack s` holds if some common type leads back to itself, from a declaration to a name in it.
+abbrev pub SomeCommonLeadsBack : ResolvedSchema → Type 0
+SomeCommonLeadsBack s = (q : List ℕ) × Leads s.commons q q
+
+-- `RefusedFor bytes fault` holds if `bytes` state no schema, and `fault` is the first error, by its cause.
 pub data RefusedFor (bytes : List ℕ) : SchemaFault → Type 0 where
-  naming : (f : SchemaFault) → NamingRefused bytes f → RefusedFor bytes f
-  unsound : (s : ResolvedSchema) (f : SchemaFault) → StatesNamed bytes s → IsUnsound s f → RefusedFor bytes f
+  -- 20: the bytes are not JSON
+  not_json : json_of bytes ≡ None → RefusedFor bytes NotJson
+  -- 21: the JSON states no file, or some shape or context is not a record
+  no_file : (d : Data) → json_of bytes ≡ Some d → IsNoFile d → RefusedFor bytes BadShape
+  no_record : (ns : List NamespaceOf) → HasContent bytes ns → SomeIsNotRecord ns → RefusedFor bytes BadShape
+  -- 22: some name means nothing that is declared
+  unknown_name : (ns : List NamespaceOf) → HasContent bytes ns → (SomeIsNotRecord ns → ⊥) → FileHasUnknown ns
+      → RefusedFor bytes UnknownName
+  -- 23: some common type leads back to itself
+  type_cycle : (s : ResolvedSchema) → HasDeclarations bytes s → SomeCommonLeadsBack s → RefusedFor bytes TypeCycle
+  -- 24: some action is its own ancestor
+  action_cycle : (s : ResolvedSchema) → HasDeclarations bytes s → (SomeCommonLeadsBack s → ⊥)
+      → SomeActionIsOnCycle s → RefusedFor bytes ActionCycle
+  -- 25: some type, expanded, is too large
+  too_large : (s : ResolvedSchema) → HasDeclarations bytes s → (SomeCommonLeadsBack s → ⊥)
+      → (SomeActionIsOnCycle s → ⊥) → SomeTypeIsTooLarge s → RefusedFor bytes TypeTooLarge

@@ -1,3 +1,4 @@
+pub mod ByNaming
 pub mod Filling
 pub mod Making
 pub mod Numbering

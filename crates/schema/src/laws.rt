@@ -1,4 +1,7 @@
 //! Theorems about the definitions. The functions are no-ops.
+ghost use Rattle.schema.specs.Laws.{TypesAreRead, TypesHaveOneOutcome, FilesAreRead, FilesHaveOneOutcome};
+ghost use Rattle.schema.specs.Laws.{NamesAreResolved, NamesHaveOneOutcome, DeclarationsAreRead};
+ghost use Rattle.schema.specs.inner.ByNaming.{SchemasAreRead};
 ghost use Rattle.schema.specs.Outcomes.{OneSchema, NotBoth, OneRefusal, SomeOutcome};
 ghost use Rattle.schema.specs.WellFormed.{StatedSchemasAreWellFormed};
 
@@ -8,8 +11,61 @@ use schema_names::{
     one_refusal, shapes_are_records, some_outcome,
 };
 use schema_types::{
-    keys_ascend, one_written, types_stand_for_one_or_some_for_none, written_entities_are_named,
+    cycles_stand_for_none, keys_ascend, one_written, types_stand_for_one_or_some_for_none,
+    what_stands_for_none_leads_back, written_entities_are_named,
 };
+use values::paths_are_told;
+
+/// Proves that parsing a type gives the type that JSON states, or the error if it states none. No-op.
+///
+/// JSON states exactly one type or is rejected with exactly one error, never both.
+pub fn types_are_read_as_stated()
+    ensures read { TypesAreRead }
+    ensures one { TypesHaveOneOutcome }
+{
+    paths_are_told();
+}
+
+/// Proves that parsing a file gives the namespaces that JSON states, or the error if it states none. No-op.
+///
+/// JSON states exactly one file or is rejected with exactly one error, never both.
+pub fn files_are_read_as_stated()
+    ensures read { FilesAreRead }
+    ensures one { FilesHaveOneOutcome }
+{
+    paths_are_told();
+}
+
+/// Proves that resolving the names of a file gives the declarations that they mean, or the error if a name means none.
+/// No-op.
+///
+/// The names of a file have exactly one meaning or are rejected with exactly one error, never both.
+pub fn names_are_resolved_as_stated()
+    ensures resolved { NamesAreResolved }
+    ensures one { NamesHaveOneOutcome }
+{}
+
+/// Proves that the declarations that are parsed of bytes are those that they state. No-op.
+pub fn declarations_are_read_as_stated()
+    ensures { DeclarationsAreRead }
+{
+    paths_are_told();
+    cycles_stand_for_none();
+    what_stands_for_none_leads_back();
+    files_name_their_own();
+    files_are_in_order();
+}
+
+/// Proves that parsing gives the schema that bytes state, or the first error by its cause. No-op.
+pub(crate) fn schemas_are_read_as_stated()
+    ensures { SchemasAreRead }
+{
+    paths_are_told();
+    cycles_stand_for_none();
+    what_stands_for_none_leads_back();
+    files_name_their_own();
+    files_are_in_order();
+}
 
 /// Proves that bytes state exactly one schema, or are rejected with exactly one error. No-op.
 pub fn bytes_have_one_outcome()
@@ -28,6 +84,7 @@ pub fn bytes_have_one_outcome()
     some_outcome();
     one_written();
     types_stand_for_one_or_some_for_none();
+    schemas_are_read_as_stated();
 }
 
 /// Proves the invariants of a schema that bytes state. No-op.
@@ -44,4 +101,5 @@ pub fn stated_schemas_are_well_formed()
     keys_ascend();
     one_written();
     written_entities_are_named();
+    schemas_are_read_as_stated();
 }

@@ -21,7 +21,10 @@ mod type_numbers;
 pub use answers::Schema;
 pub use cycles::demand_no_cycle;
 pub use label::label_of;
-pub use laws::{bytes_have_one_outcome, stated_schemas_are_well_formed};
+pub use laws::{
+    bytes_have_one_outcome, declarations_are_read_as_stated, files_are_read_as_stated,
+    names_are_resolved_as_stated, stated_schemas_are_well_formed, types_are_read_as_stated,
+};
 pub use listed_environments::{listed, make_place};
 pub use lookups::{is_action_above, may_have_parent, parents_at};
 pub use parts::{EntityDecl, Environment, Place};

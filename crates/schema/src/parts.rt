@@ -4,7 +4,7 @@ use plain::Shared;
 use schema_types::CedarType;
 use values::{EntityUid, TypeName};
 
-/// A place: an action with the types of principal and resource.
+/// The place of an environment: an action with the types of principal and resource.
 #[derive(PartialEq, Eq, PartialOrd, Ord, Drop)]
 pub struct Place {
     pub action: EntityUid,
@@ -14,7 +14,7 @@ pub struct Place {
     pub resource: TypeName,
 }
 
-/// An environment: a place, and the type of its action's context.
+/// An environment: an action with the types of principal, resource and context.
 #[derive(Drop)]
 pub struct Environment {
     pub place: Place,
@@ -22,7 +22,7 @@ pub struct Environment {
     pub context: Shared<CedarType>,
 }
 
-/// An entity type.
+/// A declared entity type.
 #[derive(Drop)]
 pub struct EntityDecl {
     /// The attributes of its entities, as a record.

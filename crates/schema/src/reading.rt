@@ -8,7 +8,8 @@ ghost use Rattle.schema_types.specs.declared.fault.SchemaFault.TheVariants as Sc
 ghost use Rattle.schema_names.specs.ResolvedViews.{found_view};
 ghost use Rattle.schema_names.specs.Laws.{NamesItsOwn};
 ghost use Rattle.schema_names.specs.Naming.{StatesNamed};
-ghost use Rattle.schema.specs.Schemas.{IsSchemaOf, RefusedFor, IsUnsound};
+ghost use Rattle.schema.specs.Schemas.{IsSchemaOf, RefusedFor};
+ghost use Rattle.schema.specs.inner.ByNaming.{IsUnsound};
 ghost use Rattle.schema.specs.Views.{schema_view};
 ghost use Rattle.schema.specs.inner.Reading.{AreEdges, AreTypesClosed, AreTypesOf};
 ghost use Rattle.schema.specs.inner.Reading.{AreHierarchiesOf, TypesRefused, EdgesRefused};
@@ -18,6 +19,7 @@ use crate::cycles::demand_no_cycle;
 use crate::environments::make_places;
 use crate::hierarchies::{action_edges, make_members, type_edges, uids_of};
 use crate::label::label_of;
+use crate::laws::schemas_are_read_as_stated;
 use crate::listed_environments::listed;
 use crate::numbering::{IsAncestor, above_each};
 use crate::parts::{EntityDecl, Environment};
@@ -48,7 +50,7 @@ struct Hierarchies {
     types: TypeNumbers,
 }
 
-/// Returns the hierarchy of actions, in which none is its own ancestor.
+/// Returns the hierarchy of actions, in which no action is its own ancestor.
 fn demand_edges(alloc: Global, found: &ResolvedFile) -> Result<Searched, SchemaFault>
     ensures { MatchResult result (λ s. AreEdges (found_view found.now) (searched.parents-value.it s))
         (λ f. f ≢ SchemaFault.NoMemory → EdgesRefused (found_view found.now) f) }
@@ -122,6 +124,7 @@ fn make_schema(
         → TypesRefused (found_view found.now).commons (found_view found.now) f) }
 {
     files_name_their_entity_types();
+    schemas_are_read_as_stated();
     let label = label_of(alloc, bytes)?;
     let hierarchies = make_hierarchies(alloc, found, edges)?;
     let types = make_types(alloc, found, table)?;
@@ -179,6 +182,7 @@ pub fn read_schema(alloc: Global, bytes: &[u8]) -> Result<Schema, SchemaFault>
         (λ f. f ≢ SchemaFault.NoMemory → RefusedFor bytes.now f) }
 {
     files_name_their_own();
+    schemas_are_read_as_stated();
     let found = read_named(alloc, bytes)?;
     sound_schema(alloc, bytes, &found)
 }

@@ -29,7 +29,7 @@ fn no_attributes(alloc: Global) -> Result<CedarType, SchemaFault>
     Ok(CedarType::Record(fields))
 }
 
-/// Returns a shape or a context, expanded; if there is none, a record without attributes. The only errors are that it
+/// Returns a shape or a context, expanded; if it is missing, a record without attributes. The only errors are that it
 /// is too large, and `NoMemory`.
 pub(crate) fn make_record(
     alloc: Global,

@@ -1,7 +1,7 @@
--- Defines how texts are read under a schema.
+-- Defines how texts are parsed under a schema.
+-- Source: Cedar reference guide 4.0, "Policy validation".
 -- Rules of this product: a request is decided only if each policy passes validation; the schema's actions are added
 -- to the entities, each with the parents that its `memberOf` states.
--- Source: Cedar reference guide 4.0, "Policy validation".
 use Rattle.std.specs.Prelude.{◌≡◌, All}
 use Rattle.serde_json.specs.Data.{Data}
 use Rattle.entity_hierarchy.specs.schema.Schemas.{StatedSchema}

@@ -1,7 +1,7 @@
 -- Defines the content of a schema file, before names are resolved.
 -- Source: Cedar reference guide, "Schema JSON format": namespaces, `commonTypes`, `entityTypes`, `actions`.
 -- Rules of this product: a namespace may lack each of the three; null at an optional key counts as missing;
--- `annotations` has any value; an action's `attributes` are none; other keys are rejected.
+-- `annotations` has any value; an action's `attributes` is an object without keys; other keys are rejected.
 use Rattle.std.specs.Prelude.{ℕ, List, [], ◌∷◌, Bool, true, false, not, codes, Option, Some, None, Result, Ok}
 use Rattle.std.specs.Str.{bytes_eq}
 use Rattle.serde_json.specs.Data.{Data, Items, Members, no_members}

@@ -1,7 +1,7 @@
 -- Defines a schema file with resolved names.
 -- Source: Cedar reference guide, "Schema JSON format": action types, `memberOf`, `memberOfTypes`, `appliesTo`.
 -- Rules of this product: an action of the empty namespace has the type `Action`, one of another `NS::Action`; a
--- member of `memberOf` without a type is of the same namespace, and one with an unqualified type is resolved in the
+-- member of `memberOf` without a type is of the same namespace, and one with an unqualified type is resolved in its
 -- own namespace and then in the empty one.
 use Rattle.std.specs.Prelude.{ℕ, List, [], ◌∷◌, ◌++◌, map, Bool, Option, Some, None, Result, Ok}
 use Rattle.std.specs.Ordering.{is_eq}

@@ -1,4 +1,4 @@
--- Defines that shapes and contexts are records, directly or by name.
+-- Defines when shapes and contexts are records, directly or by name.
 -- Source: Cedar reference guide, "Schema JSON format": `shape`, `context`.
 -- Rules of this product: names are followed as far as they are declared.
 use Rattle.std.specs.Prelude.{◌≡◌, ◌⊎◌, ℕ, List, Contains, Bool, true, false, Option, Some, None, is_some}

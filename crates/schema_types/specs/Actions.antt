@@ -18,7 +18,7 @@ action_uid type_name id = record { type_name = type_name; id = id }
 abbrev pub declared_action : (EntityUid → Bool) → List ℕ → List ℕ → Option EntityUid
 declared_action is_action t id = if is_action (action_uid t id) then Some (action_uid t id) else None
 
--- `first_of a b` is `a`, or `b` if there is none.
+-- `first_of a b` is `a`, or `b` if `a` is `None`.
 abbrev pub first_of : {A : Type 0} → Option A → Option A → Option A
 first_of (Some x) later = Some x
 first_of None later = later

@@ -48,12 +48,12 @@ built_in w =
     if bytes_eq w (codes "ipaddr") then Some qualified.ipaddr else
     if bytes_eq w (codes "decimal") then Some qualified.decimal else None
 
--- `or_entity o later` is the entity type `o`, or `later` if there is none.
+-- `or_entity o later` is the entity type `o`, or `later` if `o` is `None`.
 abbrev pub or_entity : Option (List ℕ) → Option Qualified → Option Qualified
 or_entity (Some q) later = Some (qualified.entity q)
 or_entity None later = later
 
--- `or_common o later` is the common type `o`, or `later` if there is none.
+-- `or_common o later` is the common type `o`, or `later` if `o` is `None`.
 abbrev pub or_common : Option (List ℕ) → Option Qualified → Option Qualified
 or_common (Some q) later = Some (qualified.common q)
 or_common None later = later

@@ -42,7 +42,7 @@ reserved_type w =
     if bytes_eq w (codes "__cedar::ipaddr") then Some raw.ipaddr else
     if bytes_eq w (codes "__cedar::decimal") then Some raw.decimal else None
 
--- `or_path o w` is the type `o`, or that of the name `w` if there is none.
+-- `or_path o w` is the type `o`, or that of the name `w` if `o` is `None`.
 abbrev pub or_path : Option Raw → List ℕ → Result Raw SchemaFault
 or_path (Some t) w = Ok t
 or_path None w = do

@@ -32,7 +32,7 @@ pub fn required_text<'v>(value: &'v Value, key: &str) -> Result<&'v str, SchemaF
     }
 }
 
-/// Returns the boolean of a value, or `missing` if there is none.
+/// Returns the boolean of a value, or `missing` if `value` is `None`.
 pub(crate) fn truth_or(missing: bool, value: Option<&Value>) -> Result<bool, SchemaFault>
     ensures { AlwaysReadsAs (λ b. b) result (truth_of missing (option_map (λ v. view v.now) value.entry)) }
 {

@@ -97,7 +97,7 @@ fn add_from(
     Ok(())
 }
 
-/// Returns that none of so many nodes was seen.
+/// Returns `places` marks: no node was visited.
 fn none_seen(alloc: Global, places: usize) -> Result<Vec<bool>, NoMemory>
     ensures { IfOk result (λ seen. seen.items ≡ replicate places false) }
 {

@@ -1,7 +1,7 @@
 -- Defines the key of a policy in the index: an entity that its scope names for the principal, or else for the
 -- resource.
--- Rules of this product: the principal comes first; a part names an entity by `==` or `in`; `is` alone names none.
 -- Source: Cedar reference guide 4.0, "Policy scope", for the meaning of a scope.
+-- Rules of this product: the principal comes first; a part names an entity by `==` or `in`, and not by `is` alone.
 use Rattle.std.specs.Prelude.{◌≡◌, ℕ, List, Option, Some, None, string_bytes, map}
 use Rattle.std.specs.BTreeMap.{is_at}
 use Rattle.std.specs.Map.{lookup}

@@ -1,4 +1,4 @@
--- Defines a system as the code shows it: the sites themselves, and the bytes of what was made.
+-- Defines a system as the code has it: the sites themselves, and the bytes of the messages and summaries.
 use Rattle.std.specs.Prelude.{◌≡◌, ℕ, List, [], ◌∷◌, map}
 use Rattle.site_steps.specs.schema.Schemas.{StatedSchema}
 use Rattle.site_steps.specs.stamped_store.Store.{Store}

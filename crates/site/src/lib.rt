@@ -9,6 +9,7 @@ mod laws;
 mod playing;
 mod world;
 
+pub use entities::{entities_are_read_as_stated, requests_are_read_as_stated};
 pub use event::{Event, EventReply, Operation};
 pub use laws::{answers_fix_worlds, first_sites_are_distinct, worlds_keep_promises};
 pub use site_steps::{

@@ -65,14 +65,14 @@ fn new_sites(alloc: Global, schema: &Shared<Schema>, count: u16) -> Result<Vec<S
     Ok(sites)
 }
 
-/// Runs events at `count` sites of a schema, `00001`, `00002` and so on, which are empty at the start.
+/// Runs events at `count` empty sites of a schema, named `00001`, `00002` and so on.
 ///
 /// The result is a system as the theorems describe it ([`worlds_keep_promises`]).
 ///
 /// # Errors
 ///
-/// `NoMemory` if there is no memory for the sites, or to store what was made, or a reply. Any other failed allocation
-/// is the reply to its event.
+/// `NoMemory` if an allocation fails for the sites, or to store a message, a summary or a reply. Any other failed
+/// allocation is the reply to its event.
 pub fn simulate(
     alloc: Global,
     schema: &Shared<Schema>,

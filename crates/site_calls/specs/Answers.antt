@@ -1,7 +1,7 @@
--- Defines how what is asked of a site is answered, and what that leaves of the site.
+-- Defines the reply to each call of a site, and the site afterwards.
 -- Source: docs/formats.md, of the replies of the routes.
--- Rules of this product: it is at most one step of the site; what is rejected before leaves the site as it was, and may
--- meet `NoMemory` first.
+-- Rules of this product: a call is at most one step of the site; a call that is rejected before leaves the site
+-- unchanged, and may get `NoMemory` first.
 use Rattle.std.specs.Prelude.{◌≡◌, ◌⊎◌, ℕ, List, ◌++◌}
 use Rattle.http.specs.declared.status.StatusCode.{StatusCode}
 use Rattle.http_replies.specs.Replies.{fault_reply, status_reply}
@@ -22,7 +22,7 @@ Replies old (rejects f) status body new =
     (((status, body) ≡ fault_reply f) ⊎ ((status, body) ≡ fault_reply fault.NoMemory)) × (new ≡ old)
 Replies old (unserved s) status body new = ((status, body) ≡ status_reply s) × (new ≡ old)
 
--- The same, where the body is appended to a text.
+-- The same, with the body appended to a text.
 abbrev pub Appends : SiteView → Asked → StatusCode → List ℕ → List ℕ → SiteView → Type 0
 Appends old asked status before after new =
     (body : List ℕ) × (after ≡ before ++ body) × Replies old asked status body new

@@ -1,7 +1,7 @@
--- Defines what bytes ask of a site.
+-- Defines the input of a site that bytes ask for.
 -- Source: docs/formats.md, of the bodies of the routes.
--- Rules of this product: a policy's id is checked before its text, and of a text that is not UTF-8 the length before
--- that; a body that names no entity does not have an entity's form.
+-- Rules of this product: a policy's id is checked before its text, and the length of a text before whether it is UTF-8;
+-- a body that does not name an entity does not have the form of an entity.
 use Rattle.std.specs.Prelude.{ℕ, Bool, ◌&&◌, List, length, Option, Some, None, if◌then◌else◌, nat_le}
 use Rattle.std.specs.Str.{is_utf8}
 use Rattle.values.specs.declared.entity_uid.EntityUid.{EntityUid}
@@ -19,9 +19,9 @@ use Rattle.http_replies.specs.site_steps.Inputs as input
 pub data Asked : Type 0 where
   -- the site is given an input
   gives : Input → Asked
-  -- it is given nothing, since an error is found before
+  -- the site is not called, since an error is found before
   rejects : SiteFault → Asked
-  -- it is given nothing, since there is no such operation; the status says so
+  -- the site is not called, since there is no such operation; the status says so
   unserved : StatusCode → Asked
 
 -- A policy may have this id: 1 to 256 bytes.

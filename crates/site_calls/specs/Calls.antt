@@ -1,5 +1,5 @@
--- Defines the calls of a site over bytes, and what each asks of the site.
--- Source: docs/formats.md, of the bodies of the routes that ask the same.
+-- Defines the calls of a site over bytes, and the input that each asks for.
+-- Source: docs/formats.md, of the bodies of the routes that ask for the same.
 -- Rules of this product: bytes that are not UTF-8 are not an id.
 use Rattle.std.specs.Prelude.{ℕ, List, option_and_then, if◌then◌else◌}
 use Rattle.std.specs.Str.{is_utf8}
@@ -30,7 +30,7 @@ pub data Call : Type 0 where
   State : Call
   -- the summary is written
   Summary : Call
-  -- what a site is missing is written: that site's summary
+  -- the entries that a site is missing are written: that site's summary
   Delta : List ℕ → Call
   -- the updates of a message are applied
   Merge : List ℕ → Call
@@ -48,7 +48,7 @@ call_of borrowed.Summary = Summary
 call_of (borrowed.Delta summary) = Delta summary.now
 call_of (borrowed.Merge message) = Merge message.now
 
--- `upon id asks`: what is asked of the policy whose id these bytes are; bytes that are not UTF-8 are not an id.
+-- `upon id asks`: `asks` of the policy with this id; bytes that are not UTF-8 are not an id.
 abbrev pub upon : List ℕ → (List ℕ → Asked) → Asked
 upon id asks = if is_utf8 id then asks id else rejects (fault.Policy BadId)
 

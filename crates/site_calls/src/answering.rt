@@ -1,10 +1,14 @@
 //! Calls of a site, each answered by a status and a body.
-ghost use Rattle.std.specs.Prelude.{◌≡◌, ◌≤◌, ◌+◌, IfOk, MatchOption, vec_len, true, false, option_and_then};
+ghost use Rattle.std.specs.Prelude.{◌≡◌, ◌≤◌, ◌+◌, ℕ, List, IfOk, MatchOption, vec_len, true, false};
+ghost use Rattle.std.specs.Prelude.{option_and_then, option_map};
 ghost use Rattle.std.specs.Str.{is_utf8};
 ghost use Rattle.std.specs.Vec.{vec_capacity};
+ghost use Rattle.serde_json.specs.View.{view};
 ghost use Rattle.json_words.specs.Json.{json_of};
 ghost use Rattle.http_replies.specs.entity_uids.Uids.{uid_in};
-ghost use Rattle.http_replies.specs.site_steps.Inputs.{input_of, GetPolicy, DeletePolicy};
+ghost use Rattle.http_replies.specs.site_steps.Inputs.{input_of, Authorize, GetPolicy, DeletePolicy};
+ghost use Rattle.http_replies.specs.site_steps.SiteViews.{schema_of, store_in};
+ghost use Rattle.http_replies.specs.site_steps.Steps.{Answers};
 ghost use Rattle.site_calls.specs.Asked.{gives, put_asked, removal_asked, not_text};
 ghost use Rattle.site_calls.specs.Calls.{asked, call_of, upon};
 ghost use Rattle.site_calls.specs.Answers.{Appends};
@@ -13,11 +17,12 @@ use crate::call::Call;
 use crate::replying::report_reply;
 use http::StatusCode;
 use http_replies::{
-    EntityFault, Input, LINE_ROOM, MOST_ID_BYTES, MOST_POLICY_BYTES, ReadFault, Site, SiteFault,
-    answer as answer_input, read_uid, report_fault,
+    Answer, EntityFault, Input, LINE_ROOM, MOST_ID_BYTES, MOST_POLICY_BYTES, ReadFault, Reply,
+    Site, SiteFault, answer as answer_input, read_uid, report_fault,
 };
 use json_values::{Scratch, read_json_by};
 use plain::NoMemory;
+use serde_json::Value;
 use std::alloc::Global;
 use values::EntityUid;
 
@@ -35,6 +40,36 @@ pub fn reply_to(
     ensures kept { vec_capacity text.old ≤ vec_capacity text.new }
 {
     let reply = answer_input(alloc, scratch, site, input);
+    report_reply(alloc, text, &reply)
+}
+
+/// Returns the answer to the request that JSON states; `None` is of bytes that are not JSON.
+fn decided(site: &Site, json: &Option<Value>) -> Result<Answer, SiteFault>
+    ensures { Answers (schema_of site.now) (store_in site.now) (option_map view json.now) result }
+{
+    match json {
+        Some(json) => site.authorize(json),
+        None => Err(SiteFault::Request(EntityFault::BadShape)),
+    }
+}
+
+/// Answers a request whose body was parsed as this JSON, and appends the body of the reply. Returns the status.
+///
+/// The reply is one of [`reply_to`] to each body that is parsed so; `None` is of bytes that are not JSON. So a caller
+/// that uses the JSON too parses the body once.
+pub fn reply_to_request(
+    alloc: Global,
+    site: &Site,
+    json: &Option<Value>,
+    text: &mut Vec<u8>,
+) -> StatusCode
+    requires room { vec_len text.old + LINE_ROOM ≤ vec_capacity text.old }
+    ensures reply { (body : List ℕ) → json_of body ≡ option_map view json.now
+        → Appends site.now (gives (Authorize body)) result text.old.items text.new.items site.now }
+    ensures grows { vec_len text.old ≤ vec_len text.new }
+    ensures kept { vec_capacity text.old ≤ vec_capacity text.new }
+{
+    let reply = Reply::Answered(decided(site, json));
     report_reply(alloc, text, &reply)
 }
 

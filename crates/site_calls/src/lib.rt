@@ -8,7 +8,7 @@ mod answering;
 mod call;
 mod replying;
 
-pub use answering::{answer_call, delete_entity, put_text, reply_to};
+pub use answering::{answer_call, delete_entity, put_text, reply_to, reply_to_request};
 pub use call::Call;
 pub use http_replies::{
     Answer, Event, EventReply, Found, Input, LINE_ROOM, Operation, Put, ReadFault, Refusal, Reply,

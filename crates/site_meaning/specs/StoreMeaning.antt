@@ -1,7 +1,7 @@
 -- Defines the meaning of a store: its policies, its entities, and the answers over them.
--- Rules of this product: these are the policies and entities whose body is a text, each read from its text; a deleted
--- name has none; the schema's actions are added to the entities. What a text may be read as, under its name, is a
--- relation that the user of these definitions gives.
+-- Rules of this product: these are the policies and entities whose body is a text, each parsed from its text; a deleted
+-- name has no policy and no entity; the schema's actions are added to the entities. The relation `Reads` between a
+-- name, a text and what the text may be parsed as is a parameter of these definitions.
 use Rattle.std.specs.Prelude.{◌≡◌, ℕ, List, Option, Some, None, option_map}
 use Rattle.std.specs.List.{AllZip}
 use Rattle.values.specs.declared.entity_uid.EntityUid.{EntityUid}
@@ -49,7 +49,7 @@ abbrev pub data_in : (EntityUid → Option Entity) → EntityMap
 data_in entities uid = option_map data_of (entities uid)
 
 -- `world_under schema entities` is the entity data of evaluation: the attributes of `entities`, and the parents of
--- these and of the schema's actions, of each what its `memberOf` states (specs/ByMemberOf.antt). A theorem of
+-- these and of the schema's actions; an action's are those of its `memberOf` (specs/ByMemberOf.antt). A theorem of
 -- `entity_hierarchy` shows that all ancestors of an action could be its parents, with the same answers and the same
 -- cycles.
 abbrev pub world_under : StatedSchema → (EntityUid → Option Entity) → Entities

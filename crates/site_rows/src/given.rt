@@ -123,7 +123,7 @@ impl Given {
         }
     }
 
-    /// Appends what a site says of its caches, or how many policies its last answer tried.
+    /// Appends which caches of a site are present, or how many policies its last answer tried.
     pub(crate) fn push_measure(&self, word: &str, name: &str, line: &mut Line) {
         match (word, site_of(&self.sites, name)) {
             ("tried", Some(site)) => line.push_number(site.tried() as u64),

@@ -10,14 +10,14 @@
 //!   `delete_entity TYPE ID`, `authorize JSON`, `take MESSAGE`, `get_policy ID`, `state`, `summary` or
 //!   `delta SUMMARY`.
 //! - `prefixes NAME INPUT` gives the site each proper prefix of the bytes of an input `put_entity`, `take`,
-//!   `authorize` or `delta`, and prints the replies. ` × ` stands between the number of equal ones in a row and one.
+//!   `authorize` or `delta`, and prints the replies. ` × ` separates the number of equal ones in a row from one.
 //! - `says NAME INPUT` does as `NAME INPUT`, and prints the message of an error in place of its code.
 //! - `standing NAME` prints which caches of the site are present, its ancestors and its index of policies, and
 //!   `tried NAME` how many policies its last answer tried.
 //! - `context TYPE ID JSON` reads the context of a request for this action, and prints it as the attributes of an
 //!   entity.
 //! - `network ERROR` prints the message of an error of a served stream (`served read`) or of a request (`read`).
-//! - `world COUNT EVENT` plays events at so many empty sites, and prints the reply to each event and the state of each
+//! - `world COUNT EVENT` executes events at COUNT empty sites, and prints the reply to each event and the state of each
 //!   site. ` ¶ ` separates events. An event is the number of a site and one of the first five inputs, or `summary`,
 //!   `offer`, `offer_delta NUMBER` or `deliver NUMBER`.
 //! - `serve STREAM` serves an empty site, `00001`, over a stream of requests, and prints the outcome and the replies.
@@ -32,9 +32,9 @@
 //!   on, as `serve` does; and then the outcome if the second of these reads fails.
 //!
 //! A case of another form has the outcome `bad row`, and one for which an allocation fails `no memory`. An error is
-//! its code, its place and the code within. In an input `⟦3×ab⟧` stands for `ababab`, `⟦2№a#+⟧` for `a01a12`, `⟦0a ff⟧`
-//! for two bytes. In a stream `\r` and `\n` stand for a carriage return and a line feed, and a backslash before any
-//! other byte for that byte.
+//! its code, its place and the code within. In an input `⟦3×ab⟧` is `ababab`, `⟦2№a#+⟧` is `a01a12`, and `⟦0a ff⟧` two
+//! bytes. In a stream `\r` and `\n` are a carriage return and a line feed, and a backslash before any other byte is
+//! that byte.
 //!
 //! [`run`]: site::run
 //! [`simulate`]: site::simulate

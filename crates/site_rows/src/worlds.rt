@@ -138,7 +138,7 @@ fn count_of(text: &str) -> u16 {
     text.parse().unwrap_or(0)
 }
 
-/// Plays events at so many sites. Returns None if a world cannot have so many.
+/// Executes events at the given number of sites. Returns None if a system cannot have that many.
 fn played(
     alloc: Global,
     schema: &Shared<Schema>,
@@ -152,7 +152,7 @@ fn played(
     }
 }
 
-/// Plays events at so many sites, and appends the outcome.
+/// Executes events at the given number of sites, and appends the outcome.
 fn push_played(
     alloc: Global,
     schema: &Shared<Schema>,
@@ -167,7 +167,7 @@ fn push_played(
     }
 }
 
-/// Plays the events that a string describes at so many sites, and appends the outcome.
+/// Executes the events that a string describes at the given number of sites, and appends the outcome.
 fn push_script(alloc: Global, schema: &Shared<Schema>, count: u16, text: &str, line: &mut Line) {
     match events_of(alloc, text) {
         Ok(Some(events)) => push_played(alloc, schema, count, &events, line),

@@ -8,7 +8,7 @@ pub(crate) fn first_word(text: &str) -> (&str, &str) {
     text.split_once(' ').unwrap_or((text, ""))
 }
 
-/// Appends a part in which `#` stands for a number and `+` for the next one.
+/// Appends a part in which `#` is a number and `+` the next one.
 fn push_numbered(bytes: &mut Line, part: &str, number: usize) {
     for byte in part.as_bytes() {
         match *byte {
@@ -45,7 +45,7 @@ pub(crate) fn number_of(text: &str) -> Option<usize> {
     text.parse().ok()
 }
 
-/// Appends the bytes that a string in brackets stands for.
+/// Appends the bytes that a string in brackets denotes.
 fn push_bracketed(bytes: &mut Line, text: &str) {
     if let Some((count, part)) = text.split_once('№') {
         push_all_numbered(bytes, part, number_of(count).unwrap_or(0));
@@ -56,7 +56,7 @@ fn push_bracketed(bytes: &mut Line, text: &str) {
     }
 }
 
-/// Appends the bytes that the string behind an opening bracket stands for.
+/// Appends the bytes that the string after an opening bracket denotes.
 fn push_piece(bytes: &mut Line, piece: &str) {
     match piece.split_once('⟧') {
         Some((bracketed, behind)) => {
@@ -67,7 +67,7 @@ fn push_piece(bytes: &mut Line, piece: &str) {
     }
 }
 
-/// Returns the bytes that a string with brackets stands for.
+/// Returns the bytes that a string with brackets denotes.
 pub(crate) fn expanded(alloc: Global, text: &str) -> Result<Vec<u8>, NoMemory> {
     let mut bytes = Line::new(alloc);
     let (front, rest) = text.split_once('⟦').unwrap_or((text, ""));
@@ -86,13 +86,13 @@ pub(crate) fn text_in(bytes: &[u8]) -> &str {
     }
 }
 
-/// Returns the string that a string with brackets stands for.
+/// Returns the string that a string with brackets denotes.
 pub(crate) fn expanded_text(alloc: Global, text: &str) -> Result<Text, NoMemory> {
     let bytes = expanded(alloc, text)?;
     Text::from_str(alloc, text_in(&bytes))
 }
 
-/// Appends the byte that a byte of a stream stands for. Returns whether the byte escapes the next one.
+/// Appends the byte that a byte of a stream denotes. Returns whether the byte escapes the next one.
 fn push_unescaped_byte(bytes: &mut Line, byte: u8, is_escaped: bool) -> bool {
     match (is_escaped, byte) {
         (false, b'\\') => return true,
@@ -103,7 +103,7 @@ fn push_unescaped_byte(bytes: &mut Line, byte: u8, is_escaped: bool) -> bool {
     false
 }
 
-/// Appends the bytes that a string of a stream stands for.
+/// Appends the bytes that a string of a stream denotes.
 pub(crate) fn push_unescaped(bytes: &mut Line, text: &str) {
     let mut is_escaped = false;
     for byte in text.as_bytes() {

@@ -17,7 +17,7 @@ use Rattle.sync_messages.specs.typing.Environment.{Environment}
 use Rattle.sync_messages.specs.typing.Membership.{Of}
 use Rattle.sync_messages.specs.type_checker.FromSchemas.{static, field_types_in, attributes_of, typing_environment_of}
 
--- A value that JSON is read as by a type is of that type.
+-- A value that JSON is parsed as by a type is of that type.
 abbrev pub ValuesAreOfTheirTypes : Type 0
 ValuesAreOfTheirTypes = (t : Cedar) (d : Data) (v : PlainValue) → typed_value t d ≡ Ok v → Of v (static t)
 

@@ -11,6 +11,7 @@ pub use laws::{
     stored_answers_are_sound, what_is_read_conforms, what_is_read_is_of_its_type,
     what_is_stored_is_sound,
 };
+pub use site_meaning::declarations_are_read_as_stated;
 pub use sync_messages::{
     MessageFault, SchemaTexts, Summary, TypeFault, Update, canonical_texts_are_read, check,
     json_texts_are_utf8, messages_have_one_outcome, messages_read_back, names_read_back,

@@ -1,5 +1,6 @@
 -- What is read conforms to the one environment of the schema.
 use Rattle.std.proofs.Common.{sym, subst}
+use Rattle.site_soundness.specs.schema.Laws.{DeclarationsAreRead}
 use Rattle.site_soundness.specs.schema.Schemas.{EnvironmentOf}
 use Rattle.values.specs.Paths.{PathTestIsExact}
 use Rattle.site_soundness.specs.entity_uids.Laws.{WrittenIsRead}
@@ -12,7 +13,7 @@ use Rattle.site_soundness_example.specs.Something.{SomethingConformsUnderASchema
 use Rattle.site_soundness_example.proofs.ExampleStated.{only, something_is_stated}
 use Rattle.site_soundness_example.proofs.ExampleRead.{are_read, states}
 
-pub something_conforms : PathTestIsExact → WrittenIsRead → WhatIsReadConforms → SomethingConformsUnderASchema
-something_conforms paths back conform =
-    let at = conform schema_text schema something_is_stated entities are_read request_json request (states paths back) in
+pub something_conforms : DeclarationsAreRead → PathTestIsExact → WrittenIsRead → WhatIsReadConforms → SomethingConformsUnderASchema
+something_conforms read paths back conform =
+    let at = conform schema_text schema (something_is_stated read) entities are_read request_json request (states paths back) in
     subst (λ (e : EnvironmentOf). Conforms (typing_environment_of schema e) (closed_world schema entities) request) (sym (only at.1)) at.2

@@ -29,6 +29,7 @@ use Rattle.site_soundness.specs.schema_names.Qualifying.{entity_types_named}
 use Rattle.site_soundness.specs.schema_names.Records.{is_no_record, common_meant, MeansNoRecord, StandsAsRecord}
 use Rattle.site_soundness.specs.schema_names.Records.{SomeIsNoRecord}
 use Rattle.site_soundness.specs.schema_names.Naming.{StatesNamed}
+use Rattle.site_soundness.specs.schema.Laws.{DeclarationsAreRead}
 use Rattle.site_soundness.specs.schema.Schemas.{IsSchemaOf, IsSound, Answers, action_parents, type_parents, StandsIn}
 use Rattle.site_soundness.specs.schema.Schemas.{IsWritten, IsAction, IsShape, IsEnvironment, Applies, EnvironmentOf}
 use Rattle.site_soundness.specs.schema.Schemas.{place_cmp, type_uid, IsRecordOf}
@@ -224,5 +225,5 @@ answers = record {
   environments_ascend = one_place_ascends;
 }
 
-pub something_is_stated : IsSchemaOf schema_text schema
-something_is_stated = record { named = named; states = states; sound = sound; label = refl; answers = answers }
+pub something_is_stated : DeclarationsAreRead → IsSchemaOf schema_text schema
+something_is_stated read = record { named = named; states = (read schema_text named).0 states; sound = sound; label = refl; answers = answers }

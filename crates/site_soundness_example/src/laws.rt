@@ -3,7 +3,7 @@ ghost use Rattle.site_soundness_example.specs.Something.{SomethingIsStated, Some
 ghost use Rattle.site_soundness_example.specs.Something.{SomethingConformsUnderASchema};
 ghost use Rattle.site_soundness_example.specs.Something.{SomethingPasses, SomethingIsRefused};
 
-use site_soundness::{names_read_back, what_is_read_conforms};
+use site_soundness::{declarations_are_read_as_stated, names_read_back, what_is_read_conforms};
 use values::paths_are_told;
 
 /// Proves that the theorems about schemas and what conforms to them are not vacuous, by an example.
@@ -20,5 +20,6 @@ pub fn something_conforms_under_a_schema()
 {
     paths_are_told();
     names_read_back();
+    declarations_are_read_as_stated();
     what_is_read_conforms();
 }

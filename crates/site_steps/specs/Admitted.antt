@@ -29,7 +29,7 @@ use Rattle.site_soundness.specs.sync_messages.Texts.{ReadsPolicy, ReadsEntity}
 use Rattle.site_steps.specs.declared.fault.SiteFault.{SiteFault}
 use Rattle.site_steps.specs.declared.fault.SiteFault.TheVariants as fault
 
--- ---- what a text in the store is read as
+-- ---- what a text in the store is parsed as
 
 -- `IsPolicyUnder schema id text p` holds if `text` is the text of the policy `p`, which passes validation, whatever
 -- the id.

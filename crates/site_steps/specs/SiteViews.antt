@@ -31,7 +31,7 @@ store_in a = abstract_store a.kept
 abbrev pub IsSameSite : SiteView → SiteView → Type 0
 IsSameSite a b = (b.schema ≡ a.schema) × (b.name ≡ a.name)
 
--- `IsHeld schema k` holds if each text of the store `k` is read as its parsed form under `schema`.
+-- `IsHeld schema k` holds if each text of the store `k` is parsed as its stored form under `schema`.
 abbrev pub IsHeld : StatedSchema → StoreEntries Policy Entity → Type 0
 IsHeld schema k = AreEntriesRead (IsPolicyUnder schema) (IsEntityUnder schema) k
 

@@ -153,3 +153,30 @@ pub(crate) fn take_entity(
     }
     take_and_follow(alloc, schema, store, ancestors, pace, uid, entry)
 }
+
+/// Joins an entry that wins at an entity's uid, and updates the cache. What is stored there is not compared first.
+///
+/// Otherwise like [`take_entity`].
+pub(crate) fn record_entity(
+    alloc: Global,
+    schema: &Schema,
+    store: &mut StampedStore<Policy, Entity>,
+    ancestors: &mut Option<AncestorCache>,
+    pace: &mut RebuildPolicy,
+    uid: EntityUid,
+    entry: Entry<Entity>,
+) -> Result<(), (EntityUid, Entry<Entity>)>
+    requires { IfSome ancestors.old (AreAncestorsOf (schema_view schema.now) store.old.entities) }
+    ensures followed { IfSome ancestors.new (AreAncestorsOf (schema_view schema.now) store.new.entities) }
+    ensures ok { OnOk result (abstract_store store.new
+        ≡ store_of (updates (abstract_store store.old) ++ (entity_name uid, plain_entry entry) ∷ [])) }
+    ensures others { OnOk result
+        (KeepsOtherNames (entity_name uid) (abstract_store store.old) (abstract_store store.new)) }
+    ensures kept { OnOk result
+        (store.new ≡ kept store.old.policies (taken uid_cmp greater store.old.entities uid entry)) }
+    ensures refused { IfErr result (λ pair. pair ≡ (uid, entry)) }
+    ensures err { OnErr result (store.new ≡ store.old) }
+{
+    pace.pass();
+    take_and_follow(alloc, schema, store, ancestors, pace, uid, entry)
+}

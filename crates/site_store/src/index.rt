@@ -126,8 +126,10 @@ fn needs_nothing<E: Drop>(
     stays(store.get_policy(id), entry)
 }
 
-/// Joins an entry at a policy's id, and updates the index.
-fn take_and_follow<E: Drop>(
+/// Joins an entry that wins at a policy's id, and updates the index. What is stored there is not compared first.
+///
+/// Otherwise like [`take_policy`].
+pub(crate) fn record_policy<E: Drop>(
     alloc: Global,
     store: &mut StampedStore<Policy, E>,
     index: &mut Option<ScopeIndex>,
@@ -182,5 +184,5 @@ pub fn take_policy<E: Drop>(
     if needs_nothing(store, index, id.as_str(), &entry) {
         return store.take_policy(id, entry);
     }
-    take_and_follow(alloc, store, index, id, entry)
+    record_policy(alloc, store, index, id, entry)
 }

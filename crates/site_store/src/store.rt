@@ -14,9 +14,9 @@ ghost use Rattle.site_store.specs.Indexed.{AreIndexed};
 ghost use Rattle.site_store.specs.Kept.{AreAncestorsOf};
 ghost use Rattle.site_store.specs.StoreViews.{AreBeside};
 
-use crate::ancestors::{ancestors_of, take_entity};
+use crate::ancestors::{ancestors_of, record_entity, take_entity};
 use crate::answering::is_in_order;
-use crate::index::{rebuild_index_if_missing, take_policy};
+use crate::index::{rebuild_index_if_missing, record_policy, take_policy};
 use crate::pace::RebuildPolicy;
 use crate::stored_world::StoredWorld;
 use crate::tries::ScanCount;
@@ -188,7 +188,7 @@ impl IndexedStore {
         )
     }
 
-    /// Like [`Self::take_policy`], but first rebuilds the dropped caches, if there is memory.
+    /// Like [`Self::take_policy`], for an entry that wins; first rebuilds the dropped caches, if there is memory.
     pub fn record_policy(
         &mut self,
         id: String,
@@ -214,10 +214,10 @@ impl IndexedStore {
             &mut self.ancestors,
             &mut self.pace,
         );
-        take_policy(self.alloc, &mut self.store, &mut self.index, id, entry)
+        record_policy(self.alloc, &mut self.store, &mut self.index, id, entry)
     }
 
-    /// Like [`Self::take_entity`], but first rebuilds the dropped caches, if there is memory.
+    /// Like [`Self::take_entity`], for an entry that wins; first rebuilds the dropped caches, if there is memory.
     pub fn record_entity(
         &mut self,
         uid: EntityUid,
@@ -242,7 +242,7 @@ impl IndexedStore {
             &mut self.ancestors,
             &mut self.pace,
         );
-        take_entity(
+        record_entity(
             self.alloc,
             self.schema.get(),
             &mut self.store,
@@ -290,9 +290,9 @@ impl IndexedStore {
     /// Returns the answer to a request over the store: over the policies and entities that its texts are parsed as,
     /// and the actions of the schema.
     ///
-    /// `R` is what texts may be read as. The answer is that of the store for each r of `R` by which each text of the
-    /// store is read as its parsed form. If the index is present and there is memory, only its candidates are
-    /// evaluated.
+    /// `R` gives relations between texts and what they may be parsed as. For each of them that relates each text of
+    /// the store to its parsed form, the answer is that of the store. If the index is present and there is memory,
+    /// only its candidates are evaluated.
     ///
     /// # Errors
     ///
@@ -313,7 +313,7 @@ impl IndexedStore {
     /// Returns whether putting an entity into the store would make it cyclic, whatever its uid has there now. Cycles
     /// of other entities do not matter.
     ///
-    /// `R` is what texts may be read as, as in [`Self::answer`].
+    /// `R` is as in [`Self::answer`].
     ///
     /// # Errors
     ///

@@ -1,3 +1,5 @@
 mod Readings
 mod Stepping
+mod Running
+mod Holding
 mod Systems

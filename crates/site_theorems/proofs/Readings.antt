@@ -15,9 +15,9 @@ use Rattle.site.specs.site_steps.stamped_store.Contents.{text_under}
 use Rattle.site.specs.site_steps.site_meaning.StoreMeaning.{IsReadFrom, AreEntities, IsAnswerOver, MakesCycle}
 use Rattle.site.specs.site_steps.site_meaning.StoreMeaning.{MakesNoCycle}
 use Rattle.site.specs.site_steps.Admitted.{entity_stated, IsRequestOf, IsNoRequest}
-use Rattle.entity_theorems.specs.Entities.{StatesEntity, RefusesEntity}
-use Rattle.entity_theorems.specs.Requests.{DescribesRequest, RefusesRequest}
-use Rattle.entity_theorems.specs.Laws.{EntitiesAreRead, RequestsAreRead}
+use Rattle.site.specs.site_steps.entities.StatedEntities.{StatesEntity, RefusesEntity}
+use Rattle.site.specs.site_steps.entities.StatedRequests.{DescribesRequest, RefusesRequest}
+use Rattle.site.specs.site_steps.entities.AsStated.{EntitiesAreRead, RequestsAreRead}
 use Rattle.site_theorems.specs.Steps.{JsonStates, JsonRefused}
 
 -- ---- entities of a store

@@ -20,7 +20,7 @@ use Rattle.site.specs.site_steps.Inputs.{Input}
 use Rattle.site.specs.site_steps.Inputs as input
 use Rattle.site.specs.site_steps.declared.reply.Reply.{Reply}
 use Rattle.site.specs.site_steps.declared.reply.Reply.TheVariants as reply
-use Rattle.entity_theorems.specs.Laws.{EntitiesAreRead, RequestsAreRead}
+use Rattle.site.specs.site_steps.entities.AsStated.{EntitiesAreRead, RequestsAreRead}
 use Rattle.message_theorems.specs.Texts.{StatesText}
 use Rattle.message_theorems.specs.Laws.{TextsAreRead, SummariesAreRead, MessagesAreRead}
 use Rattle.site_theorems.specs.Steps.{PutsEntity, IsNoMessageOf, TakesMessage, Answers, WritesDelta, IsStep}

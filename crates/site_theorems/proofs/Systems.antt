@@ -25,8 +25,8 @@ use Rattle.site.specs.Sites.{SiteName, numbered, World, start}
 use Rattle.site.specs.Worlds.{IsStepAt, HappensAt, Happens, Leads, WasIssued, issued_by, input_of}
 use Rattle.site.specs.Promises.{KeepsPromises, StatesBy, IssuesBy, SystemsKeepPromises}
 use Rattle.site.specs.Promises as site
-use Rattle.entity_theorems.specs.Entities.{StatesEntity}
-use Rattle.entity_theorems.specs.Laws.{EntitiesAreRead}
+use Rattle.site.specs.site_steps.entities.StatedEntities.{StatesEntity}
+use Rattle.site.specs.site_steps.entities.AsStated.{EntitiesAreRead}
 use Rattle.message_theorems.specs.Updates.{StatesUpdates}
 use Rattle.message_theorems.specs.Laws.{UpdatesAreRead}
 use Rattle.site_theorems.specs.Steps.{JsonStates, IsStep}

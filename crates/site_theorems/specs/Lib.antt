@@ -1,3 +1,6 @@
 pub mod Steps
+pub mod Runs
+pub mod SiteStores
 pub mod Promises
+pub mod Headline
 pub mod Laws

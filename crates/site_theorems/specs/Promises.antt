@@ -1,9 +1,9 @@
--- Defines the headline: the promises of systems of sites, over relations between bytes and what they state.
--- Rules of this product: schemas, entities, requests, messages and summaries are those that bytes state; no function
--- that parses is cited.
+-- Defines the promises of systems of sites over relations between bytes and what they state.
+-- Rules of this product: schemas, entities, requests, messages and summaries are those that bytes state. No function
+-- that reads these from JSON is cited; `json_of`, which parses JSON, is.
 use Rattle.std.specs.Prelude.{◌≡◌, ℕ, List, Some, None, Ok}
 use Rattle.json_words.specs.Json.{json_of}
-use Rattle.site.specs.site_steps.schema.Schemas.{StatedSchema}
+use Rattle.site.specs.site_steps.schema.Schemas.{StatedSchema, IsSchemaOf}
 use Rattle.site.specs.site_steps.schema.SchemaEntries.{SchemaEntries}
 use Rattle.site.specs.site_steps.schema.Views.{schema_view}
 use Rattle.site.specs.site_steps.entity_data.declared.entity.Entity.{Entity}
@@ -14,9 +14,8 @@ use Rattle.site.specs.site_steps.declared.reply.Reply.TheVariants as reply
 use Rattle.site.specs.declared.event.Operation.{Operation}
 use Rattle.site.specs.declared.event.Operation.TheVariants as operation
 use Rattle.site.specs.Promises.{SystemsKeepPromises}
-use Rattle.entity_theorems.specs.Entities.{StatesEntity}
+use Rattle.site.specs.site_steps.entities.StatedEntities.{StatesEntity}
 use Rattle.message_theorems.specs.Updates.{StatesUpdates}
-use Rattle.schema_theorems.specs.Schemas.{StatesSchema}
 use Rattle.site_theorems.specs.Steps.{JsonStates, IsStep}
 
 -- `Issues schema d r u` holds if the reply `r` to the local command `d` is a stamp, for the update `u`.
@@ -34,7 +33,7 @@ Issues schema _ _ u = ⊥
 abbrev pub WorldsKeepPromises : StatedSchema → Type 0
 WorldsKeepPromises schema = SystemsKeepPromises (IsStep schema) (StatesUpdates schema.label) (Issues schema)
 
--- The headline: this holds for each schema that bytes state, as it is kept.
+-- The promises hold for each schema that bytes state, as it is kept.
 abbrev pub AllWorldsKeepPromises : Type 0
-AllWorldsKeepPromises = (bytes : List ℕ) (schema : SchemaEntries) → StatesSchema bytes (schema_view schema)
+AllWorldsKeepPromises = (bytes : List ℕ) (schema : SchemaEntries) → IsSchemaOf bytes (schema_view schema)
     → WorldsKeepPromises (schema_view schema)

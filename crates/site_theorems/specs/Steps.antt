@@ -31,8 +31,8 @@ use Rattle.site.specs.site_steps.Inputs.{Input}
 use Rattle.site.specs.site_steps.Inputs as input
 use Rattle.site.specs.site_steps.declared.reply.Reply.{Reply}
 use Rattle.site.specs.site_steps.declared.reply.Reply.TheVariants as reply
-use Rattle.entity_theorems.specs.Entities.{StatesEntity, RefusesEntity}
-use Rattle.entity_theorems.specs.Requests.{DescribesRequest, RefusesRequest}
+use Rattle.site.specs.site_steps.entities.StatedEntities.{StatesEntity, RefusesEntity}
+use Rattle.site.specs.site_steps.entities.StatedRequests.{DescribesRequest, RefusesRequest}
 use Rattle.message_theorems.specs.Texts.{StatesText}
 use Rattle.message_theorems.specs.Summaries.{StatesSummary, RefusesSummary}
 use Rattle.message_theorems.specs.Messages.{StatesMessage, RefusesMessage}

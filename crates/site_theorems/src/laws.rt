@@ -1,14 +1,18 @@
 //! Theorems. The functions are no-ops.
 ghost use Rattle.site_theorems.specs.Laws.{StepsAreAsStated};
+ghost use Rattle.site_theorems.specs.Runs.{RunsLeaveApplied, EqualUpdatesLeaveEqualStores, RunsReplyHarmlessly};
+ghost use Rattle.site_theorems.specs.SiteStores.{SitesHoldApplied};
 ghost use Rattle.site_theorems.specs.Promises.{AllWorldsKeepPromises};
+ghost use Rattle.site_theorems.specs.Headline.{SitesAreAsStated};
 
-use entity_theorems::{entities_are_read_as_stated, requests_are_read_as_stated};
 use message_theorems::{
     entity_texts_are_read_as_stated, messages_are_read_as_stated, summaries_are_read_as_stated,
     updates_are_read_as_stated,
 };
-use schema_theorems::schemas_are_read_as_stated;
-use site::worlds_keep_promises;
+use site::{
+    entities_are_read_as_stated, requests_are_read_as_stated, runs_are_sound,
+    runs_leave_what_they_took, worlds_keep_promises,
+};
 
 /// Proves that the steps that the contracts of a site cite are those that bytes state: of each input, with each
 /// reply, over each store. No-op.
@@ -25,6 +29,37 @@ pub fn steps_are_as_stated()
     messages_are_read_as_stated();
 }
 
+/// Proves what runs leave, over what bytes state: each run of each site, from any store. No-op.
+///
+/// - `leave`: exactly one list of updates was applied, and the store at the end is the join of the updates that the
+///   site had and of these: at each name the greatest entry.
+/// - `equal`: sites that had and applied equal sets of updates hold equal stores, whatever the order, the repeats and
+///   the grouping of the updates.
+/// - `harmless`: under a schema that bytes state, no reply has an error of type, of an attribute or of an extension
+///   function.
+pub fn runs_leave_what_was_applied()
+    ensures leave { RunsLeaveApplied }
+    ensures equal { EqualUpdatesLeaveEqualStores }
+    ensures harmless { RunsReplyHarmlessly }
+{
+    steps_are_as_stated();
+    entities_are_read_as_stated();
+    updates_are_read_as_stated();
+    runs_leave_what_they_took();
+    runs_are_sound();
+}
+
+/// Proves that in each system of sites, at every moment, each site's store is the join of the updates that the site
+/// applied: exactly one list of updates, by what bytes state. No-op.
+pub fn sites_hold_what_they_applied()
+    ensures { SitesHoldApplied }
+{
+    steps_are_as_stated();
+    entities_are_read_as_stated();
+    updates_are_read_as_stated();
+    runs_leave_what_they_took();
+}
+
 /// Proves the promises of [`worlds_keep_promises`] over what bytes state: in each system of sites with distinct names
 /// under a schema that bytes state, whatever was delivered, in whatever order and however often. No-op.
 pub fn worlds_keep_promises_as_stated()
@@ -34,5 +69,14 @@ pub fn worlds_keep_promises_as_stated()
     steps_are_as_stated();
     entities_are_read_as_stated();
     updates_are_read_as_stated();
-    schemas_are_read_as_stated();
+}
+
+/// Proves in one what sites keep, over what bytes state: all of [`runs_leave_what_was_applied`],
+/// [`sites_hold_what_they_applied`] and [`worlds_keep_promises_as_stated`]. No-op.
+pub fn sites_are_as_stated()
+    ensures { SitesAreAsStated }
+{
+    runs_leave_what_was_applied();
+    sites_hold_what_they_applied();
+    worlds_keep_promises_as_stated();
 }

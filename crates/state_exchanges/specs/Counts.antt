@@ -1,4 +1,4 @@
--- Defines the line by which a site answers a merge.
+-- Defines the line with which a site answers a merge.
 -- Source: docs/formats.md, the routes of a site.
 -- Rules of this product: compact JSON with one key; the count has decimal digits.
 use Rattle.std.specs.Prelude.{◌≡◌, ℕ, ◌<◌, ◌++◌, List, length, true, codes}

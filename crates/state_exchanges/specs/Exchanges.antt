@@ -1,4 +1,4 @@
--- Defines one request and its reply over a reader and a writer, or why there is no reply of status 200.
+-- Defines one call over a reader and a writer: its reply, or why there is no reply of status 200.
 -- Source: RFC 9112, sections 3, 4 and 6; RFC 9110, section 15.3.1.
 use Rattle.std.specs.Prelude.{◌≡◌, ◌≢◌, ◌↔◌, ◌<◌, ℕ, List, ◌++◌, Option, IsFalse, IsTrue}
 use Rattle.std.specs.Io.KnownBytes.{Appends, Consumes, IsAtEnd}

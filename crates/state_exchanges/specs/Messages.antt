@@ -1,4 +1,4 @@
--- Defines messages of a schema and the stores into which they are joined.
+-- Defines messages of a schema, and the stores into which they are joined.
 -- Source: docs/formats.md, of states and deltas.
 -- Rules of this product: a message, a state or a delta, is rejected whole, with its first error, or all its updates are
 -- applied in order, including those that lose; an error has a code, a place and the code of an error inside.

@@ -1,4 +1,4 @@
--- Defines the requests by which one site asks another for the entries that it lacks, and for a merge.
+-- Defines the requests of a pull and of an exchange: for a summary, for the entries that a site lacks, and for a merge.
 -- Source: RFC 9112, section 3; RFC 9110, sections 7.2, 7.6.1 and 8.6.
 -- Rules of this product: the summary of a store is posted to /v1/delta; an absent state is an empty store.
 use Rattle.std.specs.Prelude.{◌≡◌, ℕ, List, [], ◌++◌, Option, Some, None, length, codes, decimal}

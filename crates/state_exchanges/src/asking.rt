@@ -83,7 +83,7 @@ fn call_size(call: Call, body: &[u8]) -> usize
     }
 }
 
-/// Makes one call to the site behind a reader and a writer, and returns the body of the reply, which has status 200.
+/// Makes one call to the site at a reader and a writer, and returns the body of the reply, which has status 200.
 ///
 /// `host` is the value of the field `Host`. `body` is the summary or the message that the call sends; a call for a
 /// summary sends none. After an error nothing, a first part of the request, or all of it was sent.

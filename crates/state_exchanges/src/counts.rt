@@ -1,4 +1,4 @@
-//! The line by which a site answers a merge.
+//! The line with which a site answers a merge.
 ghost use Rattle.std.specs.Prelude.{◌≡◌, ◌↔◌, IsTrue};
 ghost use Rattle.std.specs.Char.{is_ascii_digit};
 ghost use Rattle.std.specs.List.{list_all};

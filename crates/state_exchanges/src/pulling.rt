@@ -155,12 +155,12 @@ fn pull_under<R: Source, W: Sink>(
     }
 }
 
-/// Asks the site behind a reader and a writer for the entries that a state lacks, and joins them.
+/// Asks the site at a reader and a writer for the entries that a state lacks, and joins them.
 ///
 /// `schema` is the text of the schema, `state` a state or a delta of it, absent for an empty store, and `host` the
 /// value of the field `Host`. One request is written, `POST /v1/delta` with the summary of the state, and its reply is
-/// read; the updates of its body are joined, and the new state is returned, with their number. There is no site on this
-/// side: nothing is stamped.
+/// read; the updates of its body are joined, and the new state is returned, with their number. No site is involved on
+/// this side, so no stamp is issued.
 ///
 /// # Errors
 ///

@@ -17,6 +17,6 @@ pub use messages::read_updates;
 pub use texts::SchemaTexts;
 pub use validator::{
     Entity, Schema, TypeFault, action_types_are_told, bytes_have_one_outcome, check,
-    entities_read_back, json_texts_are_utf8, parents_tell_ancestors, passing_policies_are_sound,
-    policies_have_one_outcome,
+    entities_are_read_as_stated, entities_read_back, json_texts_are_utf8, parents_tell_ancestors,
+    passing_policies_are_sound, policies_have_one_outcome,
 };

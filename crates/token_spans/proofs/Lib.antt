@@ -1,3 +1,35 @@
--- What is proved of spans.
---   Unread   a text that is not made of tokens is no policy
+-- What is proved of spans: a text that is not made of tokens is no policy (Unread); the tokens of a core node derive it.
+--   Languages, Lifting    properties of what a production derives; a production's expressions are expressions
+--   Lists                 tokens cut and counted
+--   Standing, Deriving    a form whose tokens derive it, for a core node; what is shown of each production
+--   Chains, Methods, Members, Steps, Rows
+--                         the operands of each kind of form stand in its tokens
+--   Productions           each production is shown by these
+--   Walking               the way down a path
+--   Owning                a form's own tokens
+--   SomeTokens            an expression has a token
+--   ScopeCounts, Starting, Policies
+--                         a policy's parts count their tokens; its effect is found; its nodes stand in its tokens
+--   Naming, OwnNames, NamePlaces
+--                         the same of the name that a node has itself
 pub mod Unread
+mod Languages
+mod Lifting
+mod Lists
+mod Standing
+mod Chains
+mod Methods
+mod Members
+mod Deriving
+mod Steps
+mod Rows
+mod Productions
+mod Walking
+mod Owning
+mod SomeTokens
+mod ScopeCounts
+mod Starting
+mod Policies
+mod Naming
+mod OwnNames
+mod NamePlaces

@@ -1,6 +1,6 @@
--- Defines spans of tokens, and which span a core node, a name or a token of a text has.
+-- Defines spans of tokens, and the span of a core node, a name or a token of a text.
 -- Source: this product's docs, "Codes".
--- Rules of this product: a span is a first byte and the byte behind the last one.
+-- Rules of this product: a span is a first byte and the byte after the last one.
 use Rattle.std.specs.Prelude.{◌≡◌, ◌⊎◌, ℕ, ◌-◌, ◌==◌, List, length, slice_get}
 use Rattle.std.specs.Prelude.{Option, Some, None, find, option_and_then}
 use Rattle.grammar_policies.specs.grammar_tokens.declared.token.Token.{Token}
@@ -40,8 +40,8 @@ IsTokenAt text at found =
 abbrev pub Written : Type 0
 Written = List Token → PolicyTree → Option (List Token)
 
--- `IsSpanInPolicy way text found` holds if `text` is a policy, and `found` is the span of the tokens that are chosen,
--- None if none are.
+-- `IsSpanInPolicy way text found` holds if `text` is a policy, and `found` is the span of the chosen tokens, or None if
+-- no token is chosen.
 pub record IsSpanInPolicy (way : Written) (text : List ℕ) (found : Option Span) : Type 0 where
   pub tree : PolicyTree
   pub derives : Derives (grammar.policy nesting_limit) most_policy_bytes text tree
@@ -54,15 +54,15 @@ abbrev pub IsNoPolicy : List ℕ → Type 0
 IsNoPolicy text =
     (why : ReadFault) × IsUnread (grammar.policy nesting_limit) (at_any grammar.policy) most_policy_bytes text why
 
--- `IsSpanBy way text found` holds if it is so, or if `text` is not a policy and nothing is found.
+-- `IsSpanBy way text found` holds if that holds, or if `text` is not a policy and `found` is None.
 abbrev pub IsSpanBy : Written → List ℕ → Option Span → Type 0
 IsSpanBy way text found = IsSpanInPolicy way text found ⊎ (IsNoPolicy text × (found ≡ None))
 
--- `IsSpanOf text path found` holds if `found` is the span of the least written form round the core node at `path` of
+-- `IsSpanOf text path found` holds if `found` is the span of the least written form around the core node at `path` of
 -- the policy's whole expression.
 abbrev pub IsSpanOf : List ℕ → List ℕ → Option Span → Type 0
 IsSpanOf text path = IsSpanBy (λ ts tree. written_at ts tree path) text
 
--- `IsNameSpanOf text path found` holds if `found` is the span of the name that this node has itself.
+-- `IsNameSpanOf text path found` holds if `found` is the span of the name that this node itself has.
 abbrev pub IsNameSpanOf : List ℕ → List ℕ → Option Span → Type 0
 IsNameSpanOf text path = IsSpanBy (λ ts tree. named_at ts tree path) text

@@ -13,16 +13,16 @@ use policy_grammar::{ReadFault, policy_tree};
 use std::alloc::Global;
 use written_forms::{named_at, written_at};
 
-/// Bytes of a text, from the first up to the end.
+/// A span of a text, in bytes.
 #[derive(Clone, Copy, PartialEq, Eq)]
 pub struct Span {
     /// The first byte, counted from 0.
     pub start: usize,
-    /// The byte behind the last.
+    /// The byte after the last.
     pub end: usize,
 }
 
-/// Returns the bytes from one token to another; None where one is missing.
+/// Returns the bytes from one token to another; None if one is missing.
 fn between(first: Option<&Token>, last: Option<&Token>) -> Option<Span>
     ensures { result ≡ spec.between (option_copied first.entry) (option_copied last.entry) }
 {
@@ -38,7 +38,7 @@ fn between(first: Option<&Token>, last: Option<&Token>) -> Option<Span>
     }
 }
 
-/// Returns the bytes from the first of these tokens to the last; None of no token.
+/// Returns the bytes from the first of these tokens to the last; None if there are no tokens.
 fn covering(tokens: &[Token]) -> Option<Span>
     ensures { result ≡ spec.covering tokens.now }
 {
@@ -71,7 +71,7 @@ fn covered(written: Option<&[Token]>) -> Option<Span>
     }
 }
 
-/// Returns the tree of a policy, or `None` where the text is not one.
+/// Returns the tree of a policy, or `None` if the text is not one.
 fn tree_of(alloc: Global, text: &str) -> Result<Option<PolicyTree>, NoMemory>
     ensures { IfOk result (λ found. MatchOption found (spec.IsNoPolicy text.now)
         (Derives (grammar.policy nesting_limit) most_policy_bytes text.now)) }
@@ -85,7 +85,7 @@ fn tree_of(alloc: Global, text: &str) -> Result<Option<PolicyTree>, NoMemory>
     }
 }
 
-/// Returns the tokens of a text, or `None` where it is not made of tokens.
+/// Returns the tokens of a text, or `None` if it is not made of tokens.
 fn tokens_of(alloc: Global, text: &str) -> Result<Option<Vec<Token>>, NoMemory>
     ensures { IfOk result (λ found. MatchOption found ((bad : ℕ) × IsBadAt text.now bad)
         (λ tokens. IsLexed text.now tokens.items)) }
@@ -99,7 +99,7 @@ fn tokens_of(alloc: Global, text: &str) -> Result<Option<Vec<Token>>, NoMemory>
     }
 }
 
-/// Returns the span of the token of a text that starts at a byte, as parse errors name one; `None` where no token
+/// Returns the span of the token of a text that starts at a byte, as parse errors name one; `None` if no token
 /// starts there, or the text is not made of tokens.
 ///
 /// O(length of `text`).
@@ -151,13 +151,13 @@ fn name_span_in(
     }
 }
 
-/// Returns the span of what the core node at a path of a policy's whole expression is written as; `None` where `text`
+/// Returns the span of what the core node at a path of a policy's whole expression is written as; `None` if `text`
 /// is not a policy, or its expression has no such node.
 ///
 /// `path` is the numbers of the operands that lead to the node from the root `principal && (action && (resource &&
 /// condition))`: operands are numbered from 0 in the order that they are written in. A path into a part of the scope
 /// gives the span of that part, and the root's conjunctions that of the policy without its annotations. Parentheses
-/// round a form do not belong to it. Where rewriting made the node, as `<=` of `a > b`, its form is the least one
+/// around a form do not belong to it. If rewriting made the node, as `<=` of `a > b`, its form is the least one
 /// around it.
 ///
 /// O(length of `text` and `path`).
@@ -176,7 +176,7 @@ pub fn span_of(alloc: Global, text: &str, path: &[usize]) -> Result<Option<Span>
 }
 
 /// Returns the span of the name that the core node at a path of a policy's whole expression has itself: the uid of an
-/// entity, or the type behind `is`. `None` where `text` is not a policy, or the node has no name.
+/// entity, or the type after `is`. `None` if `text` is not a policy, or the node has no name.
 ///
 /// `path` is as [`span_of`] takes it, also in the scope: `principal == User::"a"` has its uid at 1.
 ///

@@ -31,7 +31,7 @@ pub use common_types::common;
 pub use entities::{
     ActionScope, Entity, EntityFault, EntityScope, Environment, Policy, Schema, SchemaFault, Scope,
     action_types_are_told, bytes_have_one_outcome, canonical_text, canonical_texts_are_read,
-    entities_read_back, json_texts_are_utf8, read_entity, read_schema,
+    entities_are_read_as_stated, entities_read_back, json_texts_are_utf8, read_entity, read_schema,
     stated_schemas_are_well_formed,
 };
 pub use environment::{TypingEnvironment, is_action_type};

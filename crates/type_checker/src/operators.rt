@@ -80,7 +80,7 @@ pub fn unary_type<'a>(
 /// In this order:
 ///
 /// - `Unexpected`: the operator requires other types.
-/// - `NoCommonType`: the operator requires a common type, and there is none.
+/// - `NoCommonType`: the operator requires a common type, and the operands have none.
 pub fn binary_type<'a>(
     _alloc: Global,
     env: TypingEnvironment<'a>,

@@ -14,7 +14,7 @@ use crate::static_type::{BooleanType, Leaf};
 /// The common type of two types, compared with the left one.
 #[derive(Clone, Copy)]
 pub(crate) enum Join {
-    /// There is none.
+    /// The two types have no join.
     Apart,
     /// It is the left one.
     Left,
@@ -111,7 +111,7 @@ pub(crate) fn paired<'r, 's, 'a>(
 }
 
 /// Returns the join of two declared records, and `None` for others. Declared booleans are Bool, so the common fields
-/// are the left ones, or there are none.
+/// are the left ones, or do not exist.
 fn join_of_declared(left: Fields<'_, '_>, right: Fields<'_, '_>) -> Option<Join>
     ensures { IfSome result (λ j. Tells j (fields_view left.entry)
         (common_fields (fields_view left.entry) (fields_view right.entry))) }

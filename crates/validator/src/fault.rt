@@ -8,7 +8,7 @@ use std::alloc::AllocFailed;
 use thiserror::Error;
 use type_checker::ExpressionFault;
 
-/// The first error for which a policy does not pass validation under a schema.
+/// The first error of validating a policy under a schema.
 #[derive(Clone, Copy, PartialEq, Eq, Debug, Error)]
 pub enum TypeFault {
     /// An allocation failed.

@@ -96,7 +96,7 @@ pub(crate) fn check_entity(schema: &Schema, uid: &EntityUid) -> Result<(), TypeF
     check_other(schema, uid)
 }
 
-/// Returns why a schema does not know an entity that is written out, or `None` where it does. Does not allocate.
+/// Returns the error of an entity that a schema does not declare, or `None` if it declares it. Does not allocate.
 pub fn unknown_entity(schema: &Schema, uid: &EntityUid) -> Option<TypeFault>
     ensures { MatchOption result (IsKnown (schema_view schema.now) (entity uid.now))
         (λ f. IsUnknown (schema_view schema.now) (entity uid.now) f) }
@@ -107,7 +107,8 @@ pub fn unknown_entity(schema: &Schema, uid: &EntityUid) -> Option<TypeFault>
     }
 }
 
-/// Returns why a schema does not know a type behind `is`, or `None` where it does. Does not allocate.
+/// Returns the error of a type after `is` that a schema does not declare, or `None` if it declares it. Does not
+/// allocate.
 pub fn unknown_tested_type(schema: &Schema, name: &TypeName) -> Option<TypeFault>
     ensures { MatchOption result (IsKnown (schema_view schema.now) (tested_type name.now))
         (λ f. IsUnknown (schema_view schema.now) (tested_type name.now) f) }

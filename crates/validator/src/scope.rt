@@ -110,7 +110,7 @@ pub(crate) fn parts_of(alloc: Global, scope: &Scope) -> Result<Vec<Expr>, NoMemo
     Ok(parts)
 }
 
-/// Returns what is asked of the resource, and then the conditions.
+/// Returns the scope's test of the resource, joined with the conditions.
 fn resource_and_condition(
     alloc: Global,
     scope: &Scope,
@@ -124,7 +124,7 @@ fn resource_and_condition(
     Ok(Expr::And(resource, condition))
 }
 
-/// Returns what is asked of the action, and then the others.
+/// Returns the scope's test of the action, joined with the rest.
 fn behind_principal(
     alloc: Global,
     scope: &Scope,

@@ -2,6 +2,7 @@ mod Agreeing
 mod EntityForms
 mod Going
 mod Loops
+mod Once
 mod Parts
 mod RequestLaws
 mod Requests

@@ -1,5 +1,6 @@
--- Defines the theorems: what is rejected has exactly one path, and what is read has none.
-use Rattle.std.specs.Prelude.{◌≡◌, List, Result, Ok, Err}
+-- Defines the theorems that a rejected value has exactly one path to its fault, that an accepted one has no path, and
+-- that the words on an entity's part are determined.
+use Rattle.std.specs.Prelude.{◌≡◌, ℕ, List, Option, Result, Ok, Err}
 use Rattle.serde_json.specs.Data.{Data}
 use Rattle.schema_types.specs.Cedar.{Cedar}
 use Rattle.entities.specs.schema.Schemas.{StatedSchema}
@@ -11,15 +12,16 @@ use Rattle.value_paths.specs.declared.steps.Step.{Step}
 use Rattle.value_paths.specs.Paths.{FaultAt, RecordFaultAt}
 use Rattle.value_paths.specs.EntityPaths.{IsPathOf}
 use Rattle.value_paths.specs.RequestPaths.{IsRequestPathOf}
+use Rattle.value_paths.specs.Told.{IsEntityTold}
 
--- `HasPath r LeadsTo` holds if `LeadsTo` holds of exactly one path where `r` is an error, and of none where `r` is a
--- value.
+-- `HasPath r LeadsTo` holds if `r` is an error, and `LeadsTo` holds of exactly one path; or `r` is a value, and
+-- `LeadsTo` holds of no path.
 abbrev pub HasPath : {A F : Type 0} → Result A F → (List Step → Type 0) → Type 0
 HasPath (Ok x) LeadsTo = (path : List Step) → LeadsTo path → ⊥
 HasPath (Err f) LeadsTo =
     (path : List Step) × LeadsTo path × ((other : List Step) → LeadsTo other → other ≡ path)
 
--- `ValuesHavePaths`: a value that is rejected by a type has exactly one path to its fault, one that is read has none.
+-- `ValuesHavePaths`: a value that a type rejects has exactly one path to its fault, one that it accepts has no path.
 abbrev pub ValuesHavePaths : Type 0
 ValuesHavePaths = (t : Cedar) (d : Data) → HasPath (typed_value t d) (FaultAt t d)
 
@@ -42,3 +44,8 @@ abbrev pub RequestsHavePaths : Type 0
 RequestsHavePaths = (s : StatedSchema) (d : Data) (f : EntityFault) → RequestRefused s d f
     → (path : List Step) × IsRequestPathOf s d f path
     × ((other : List Step) → IsRequestPathOf s d f other → other ≡ path)
+
+-- `EntitiesAreToldOnce`: two texts that say where a value is at fault as an entity are the same.
+abbrev pub EntitiesAreToldOnce : Type 0
+EntitiesAreToldOnce = (s : StatedSchema) (o : Option Data) (words others : List ℕ) → IsEntityTold s o words
+    → IsEntityTold s o others → words ≡ others

@@ -1,6 +1,6 @@
--- Defines what the second pass returns.
--- Rules of this product: the error that reading gives, with the path to the part at fault; nothing where reading gives
--- a value.
+-- Defines the result of the search for the part at fault.
+-- Rules of this product: it is the error that parsing gives, with the path to the part at fault; nothing if parsing
+-- gives a value.
 use Rattle.std.specs.Prelude.{◌≡◌, Option, MatchOption, Ok, Err}
 use Rattle.serde_json.specs.Data.{Data}
 use Rattle.values.specs.declared.request.Request.{Request}
@@ -13,7 +13,7 @@ use Rattle.value_paths.specs.EntityPaths.{IsPathOf}
 use Rattle.value_paths.specs.RequestPaths.{IsRequestPathOf}
 
 -- `IsEntityFault s d o` holds if `o` is the error of `d` as an entity under the schema `s`, with the path to the part
--- at fault, or `None`, and `d` states an entity.
+-- at fault; or if `o` is `None`, and `d` states an entity.
 abbrev pub IsEntityFault : StatedSchema → Data → Option PlacedFault → Type 0
 IsEntityFault s d o = MatchOption o ((e : Entity) × (entity_stated_in s d ≡ Ok e))
     (λ x. (entity_stated_in s d ≡ Err x.fault) × IsPathOf s d x.fault x.path)

@@ -6,11 +6,11 @@ use Rattle.std.specs.List.{flat_map}
 use Rattle.value_paths.specs.declared.steps.Step.{Step}
 use Rattle.value_paths.specs.declared.steps.Step.TheVariants.{Key, Index}
 
--- `escaped_char c` are the characters that stand for the character `c` of a key.
+-- `escaped_char c` are the characters that represent the character `c` of a key.
 abbrev pub escaped_char : ℕ → List ℕ
 escaped_char c = if c == 126 then codes "~0" else (if c == 47 then codes "~1" else c ∷ [])
 
--- `escaped key` are the bytes that stand for a key.
+-- `escaped key` are the bytes that represent the key `key`.
 abbrev pub escaped : List ℕ → List ℕ
 escaped key = encode_utf8_all (flat_map escaped_char (chars key))
 

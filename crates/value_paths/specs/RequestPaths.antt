@@ -1,7 +1,7 @@
 -- Defines the path to the part of a request's JSON that is at fault under a schema.
 -- Source: Cedar reference guide 4.0, "Authorization request".
--- Rules of this product: the name of an entity is one part. An error of the form leads to the first part that has not
--- the form; 39 to `action`; 33, 34 and 35 into `context`.
+-- Rules of this product: the name of an entity is one part. An error of the form leads to the first part without the
+-- form; 39 to `action`; 33, 34 and 35 into `context`.
 use Rattle.std.specs.Prelude.{◌≡◌, ℕ, List, [], ◌∷◌, true, false, is_some, Option, Some, codes}
 use Rattle.serde_json.specs.Data.{Data}
 use Rattle.serde_json.specs.Find.{get, as_object}
@@ -23,7 +23,7 @@ use Rattle.value_paths.specs.EntityPaths.{to_key}
 abbrev pub IsNamedAt : List ℕ → Data → Type 0
 IsNamedAt key d = (uid : EntityUid) × NamesAt key d uid
 
--- `FormFaultAt d path` holds if `path` leads to the first part of `d` that has not the form of a request's.
+-- `FormFaultAt d path` holds if `path` leads to the first part of `d` that does not have the form of a request.
 pub data FormFaultAt (d : Data) : List Step → Type 0 where
   no_object : is_some (as_object d) ≡ false → FormFaultAt d []
   no_principal : is_some (as_object d) ≡ true → (IsNamedAt (codes "principal") d → ⊥)

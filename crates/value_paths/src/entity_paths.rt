@@ -111,11 +111,11 @@ fn placed_fault(
 /// Returns the error of a value as an entity under a schema, and the path to the part at fault; `None` if the value
 /// states an entity. The only error is `NoMemory`.
 ///
-/// The path of `BadShape` leads to the first part that has not the form of an entity's; that of `UnknownType` and
+/// The path of `BadShape` leads to the first part without the form of an entity; that of `UnknownType` and
 /// `ActionEntity` to the uid; that of `BadParent` and `SelfParent` to the first parent that the entity may not have.
 /// Within attributes it leads to the innermost part at fault: an item, a member, or a required key that is absent.
 ///
-/// Reads `value` again. Beyond that O(n f) for n members of objects and types of at most f fields.
+/// Parses `value` again. Beyond that O(n f) for n members of objects and types of at most f fields.
 pub fn entity_fault(
     alloc: Global,
     schema: &Schema,

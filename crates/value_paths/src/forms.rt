@@ -62,7 +62,7 @@ fn find_nameless(alloc: Global, parents: &[Value]) -> Result<Option<Trail>, NoMe
     Ok(None)
 }
 
-/// Returns the path to the part of the parents that has not their form, if there is one.
+/// Returns the path to the first part of the parents without their form, if there is one.
 fn find_in_parents(alloc: Global, found: Option<&Value>) -> Result<Option<Trail>, NoMemory>
     ensures { IfOk result
         (λ o. o ≡ first_unmet (parents_demands (option_map (λ v. view v.now) found.entry))) }
@@ -76,7 +76,7 @@ fn find_in_parents(alloc: Global, found: Option<&Value>) -> Result<Option<Trail>
     }
 }
 
-/// Returns the path to the first part that has not the form of an entity's, if there is one.
+/// Returns the path to the first part without the form of an entity, if there is one.
 pub(crate) fn find_in_form(alloc: Global, value: &Value) -> Result<Option<Trail>, NoMemory>
     ensures { IfOk result (λ o. o ≡ first_unmet (form_demands (view value.now))) }
 {

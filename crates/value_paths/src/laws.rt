@@ -1,11 +1,11 @@
 //! Theorems. The functions are no-ops.
 ghost use Rattle.value_paths.specs.Laws.{ValuesHavePaths, RecordsHavePaths, EntitiesHavePaths};
-ghost use Rattle.value_paths.specs.Laws.{RequestsHavePaths};
+ghost use Rattle.value_paths.specs.Laws.{RequestsHavePaths, EntitiesAreToldOnce};
 
 use entity_values::{names_read_back, texts_have_one_reading};
 
-/// Proves that a value that a type rejects has exactly one path to the part at fault, and a value of the type none;
-/// and the same of attributes and contexts. No-op.
+/// Proves that a value that a type rejects has exactly one path to the part at fault, and a value of the type has no
+/// path; and the same of attributes and contexts. No-op.
 pub fn rejected_values_have_one_path()
     ensures values { ValuesHavePaths }
     ensures records { RecordsHavePaths }
@@ -22,4 +22,11 @@ pub fn rejected_requests_have_one_path()
 {
     names_read_back();
     texts_have_one_reading();
+}
+
+/// Proves that the schema and the JSON determine the words on the part at fault of an entity. No-op.
+pub fn entities_are_told_once()
+    ensures { EntitiesAreToldOnce }
+{
+    rejected_entities_have_one_path();
 }

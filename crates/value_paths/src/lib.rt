@@ -1,4 +1,5 @@
-//! Which part of the JSON of an entity or a request is at fault: the path to it, and its JSON pointer.
+//! The part at fault in the JSON of an entity or a request: the path to it, its JSON pointer, and the words of an
+//! explanation on it.
 //!
 //! A second pass, for explanations. It is made only after the JSON was rejected, and repeats the first error.
 #![tactic(auto)]
@@ -12,16 +13,19 @@ mod placed;
 mod pointers;
 mod request_paths;
 mod steps;
+mod told;
 mod type_paths;
 mod wholes;
 
 pub use entities::Schema;
 pub use entity_paths::entity_fault;
 pub use laws::{
-    rejected_entities_have_one_path, rejected_requests_have_one_path, rejected_values_have_one_path,
+    entities_are_told_once, rejected_entities_have_one_path, rejected_requests_have_one_path,
+    rejected_values_have_one_path,
 };
 pub use placed::PlacedFault;
 pub use pointers::pointer;
 pub use request_paths::request_fault;
 pub use steps::Step;
+pub use told::{entity_part, request_part};
 pub use type_paths::type_at;

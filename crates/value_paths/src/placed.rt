@@ -9,9 +9,9 @@ use plain::{Items, NoMemory};
 /// An error of JSON as an entity or a request, and the path from the JSON to the part at fault.
 #[derive(Drop)]
 pub struct PlacedFault {
-    /// The error, which reading the JSON gives.
+    /// The error of parsing the JSON.
     pub fault: EntityFault,
-    /// The steps to the part; none if the whole is at fault. A required key that is absent is the last step.
+    /// The steps to the part; empty if the whole is at fault. A required key that is absent is the last step.
     pub path: Items<Step>,
 }
 

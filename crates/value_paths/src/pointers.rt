@@ -6,7 +6,7 @@ use crate::steps::Step;
 use plain::{NoMemory, Text};
 use std::alloc::Global;
 
-/// Appends what stands for a character of a key.
+/// Appends the escaped form of a character of a key.
 fn push_escaped(out: &mut String, c: char) -> Result<(), NoMemory>
     ensures { OnOk result (string_bytes out.new ≡ string_bytes out.old ++ encode_utf8_all (escaped_char c)) }
 {
@@ -17,7 +17,7 @@ fn push_escaped(out: &mut String, c: char) -> Result<(), NoMemory>
     }
 }
 
-/// Appends what stands for a key.
+/// Appends the escaped form of a key.
 fn push_key(out: &mut String, key: &str) -> Result<(), NoMemory>
     ensures { OnOk result (string_bytes out.new ≡ string_bytes out.old ++ escaped key.now) }
 {

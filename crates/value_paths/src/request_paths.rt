@@ -40,8 +40,8 @@ fn is_named(alloc: Global, found: Option<&Value>) -> Result<bool, NoMemory>
     Ok(name_at(alloc, found)?.is_some())
 }
 
-/// Returns the path to the first part that has not the form of a request's, if there is one, where it is known which
-/// of the three names are given.
+/// Returns the path to the first part without the form of a request, if there is one; the three booleans say which
+/// names are given.
 fn first_unmet(
     alloc: Global,
     value: &Value,
@@ -69,7 +69,7 @@ fn first_unmet(
     Ok(None)
 }
 
-/// Returns the path to the first part that has not the form of a request's, if there is one.
+/// Returns the path to the first part without the form of a request, if there is one.
 fn find_in_request_form(alloc: Global, value: &Value) -> Result<Option<Trail>, NoMemory>
     ensures { IfOk result (IsFormSearched (view value.now)) }
 {
@@ -134,7 +134,7 @@ fn find_in_context_of(
     }
 }
 
-/// Returns the same, where the names are there.
+/// Returns the same if all three names are given.
 fn find_in_context_named(
     alloc: Global,
     schema: &Schema,
@@ -202,8 +202,8 @@ fn placed_fault(
 /// Returns the error of a value as a request under a schema, and the path to the part at fault; `None` if the value
 /// states a request. The only error is `NoMemory`.
 ///
-/// The path of `BadShape` leads to the first part that has not the form of a request's, that of `NotApplicable` to the
-/// action, any other into the context, as in [`entity_fault`](crate::entity_fault).
+/// The path of `BadShape` leads to the first part without the form of a request, that of `NotApplicable` to the action,
+/// any other into the context, as in [`entity_fault`](crate::entity_fault).
 pub fn request_fault(
     alloc: Global,
     schema: &Schema,

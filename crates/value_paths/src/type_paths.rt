@@ -20,8 +20,8 @@ fn type_under<'t>(ty: &'t CedarType, step: &Step) -> Option<&'t CedarType>
     }
 }
 
-/// Returns the type that is declared for the part of a value of the type `whole` to which `path` leads, or `None` if
-/// none is: at an undeclared key. Does not allocate.
+/// Returns the declared type of the part to which `path` leads in a value of the type `whole`, or `None` at an
+/// undeclared key. Does not allocate.
 pub fn type_at<'t>(whole: &'t CedarType, path: &[Step]) -> Option<&'t CedarType>
     ensures { option_map (λ t. cedar_view t.now) result ≡ type_at (cedar_view whole.now) path.now }
 {

@@ -19,8 +19,8 @@ use std::alloc::Global;
 fn object_with(alloc: Global, value: &Value) -> Result<Value, NoMemory>
     ensures { IfOk result (λ v. view v ≡ object (member [] (view value.now) no_members)) }
 {
-    let mut members = Map::new(alloc);
     let copy = value.clone()?;
+    let mut members = Map::new(alloc);
     put(&mut members, alloc, "", copy)?;
     Ok(Value::Object(members))
 }
@@ -29,14 +29,14 @@ fn object_with(alloc: Global, value: &Value) -> Result<Value, NoMemory>
 fn record_with(alloc: Global, ty: &CedarType) -> Result<CedarType, NoMemory>
     ensures { IfOk result (λ t. cedar_view t ≡ record_of (field [] (cedar_view ty.now) false no_fields)) }
 {
-    let name = Text::from_str(alloc, "")?;
     let copy = ty.copy()?;
+    let name = Text::from_string(String::new(alloc));
     let mut fields = Items::new(alloc);
     fields.push((name, copy, false))?;
     Ok(CedarType::Record(Shared::new(alloc, fields)?))
 }
 
-/// Returns that a value is not read, for an error of the value.
+/// Returns `false` for an error of a value: it is rejected.
 fn rejected(fault: ValueFault) -> Result<bool, NoMemory>
     ensures { IfOk result (λ yes. (yes ≡ false) × (fault ≢ ValueFault.NoMemory)) }
 {
@@ -46,9 +46,9 @@ fn rejected(fault: ValueFault) -> Result<bool, NoMemory>
     }
 }
 
-/// Returns whether a value is read by a type: whether a record with it alone is.
+/// Returns whether a type accepts a value: whether a record with only this value is accepted.
 ///
-/// So the reader of records itself decides, and this crate has no rules of types of its own.
+/// So the parser of records decides, and this crate has no typing rules of its own.
 fn is_read(alloc: Global, value: &Value, ty: &CedarType) -> Result<bool, NoMemory>
     ensures { IfOk result (λ yes. yes ≡ is_ok (typed_value (cedar_view ty.now) (view value.now))) }
 {

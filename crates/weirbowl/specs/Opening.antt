@@ -1,7 +1,7 @@
--- Defines a site that was opened, and why none is.
+-- Defines an opened site, and why a site is not opened.
 -- Sources: docs/formats.md, of schemas and of names of sites; docs/codes.md, of the numbers of a schema.
--- Rules of this product: the name is checked before the schema; a new site has nothing stored; the number 2 is of a
--- name.
+-- Rules of this product: the name is checked before the schema; a new site has nothing stored; the number of a name's
+-- error is 2.
 use Rattle.std.specs.Prelude.{◌≡◌, ℕ, List, []}
 use Rattle.site_calls.specs.site_steps.SiteViews.{schema_of, store_in}
 use Rattle.site_calls.specs.site_steps.schema.Schemas.{IsSchemaOf}
@@ -22,12 +22,12 @@ pub record IsOpened (schema name : List ℕ) (e : EmbeddedSite) : Type 0 where
   pub fresh : e.body.items ≡ []
 
 -- `IsOpenError schema name f`: no site of this name is opened under these bytes, because of `f`. `NoMemory` may be the
--- cause at any bytes.
+-- cause for any bytes.
 abbrev pub IsOpenError : List ℕ → List ℕ → OpenError → Type 0
 IsOpenError schema name SiteName = IsSiteName name → ⊥
 IsOpenError schema name (Schema r) = (r ≡ no_memory → ⊥) → IsSiteName name × IsSchemaRefused schema r
 
--- The number of an error: 2 of a name, 1 for `NoMemory`, 20 to 25 of a schema.
+-- The number of an error: 2 for a name, 1 for `NoMemory`, 20 to 25 for a schema.
 abbrev pub code_of : OpenError → ℕ
 code_of SiteName = 2
 code_of (Schema r) = r.code

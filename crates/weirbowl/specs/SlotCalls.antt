@@ -1,6 +1,6 @@
 -- Defines what a call on a slot returns and writes, and which site it leaves there.
 -- Source: docs/embedding.md.
--- Rules of this product: a slot has a site or none; a call without a site does nothing and returns the status 0.
+-- Rules of this product: a slot has at most one site; a call without a site does nothing and returns the status 0.
 use Rattle.std.specs.Prelude.{◌≡◌, ◌⊎◌, ◌<◌, ℕ, Bool, List, Option, Some, None, is_some, length}
 use Rattle.http.specs.declared.status.StatusCode.{StatusCode}
 use Rattle.site_calls.specs.Calls.{Call}
@@ -30,8 +30,8 @@ RepeatsBody (Some old) r before after new =
     × (new ≡ Some old)
 RepeatsBody None r before after new = (r ≡ not_open) × (after ≡ before) × (new ≡ None)
 
--- `Opens old schema name code new`: a site is opened with nothing stored (0); one is open there already (3); or none is
--- opened, and the number says why.
+-- `Opens old schema name code new`: a site is opened with nothing stored (0); a site is already open there (3); or no
+-- site is opened, and the number says why.
 abbrev pub Opens : Option EmbeddedSite → List ℕ → List ℕ → ℕ → Option EmbeddedSite → Type 0
 Opens (Some old) schema name code new = (code ≡ 3) × (new ≡ Some old)
 Opens None schema name code new =

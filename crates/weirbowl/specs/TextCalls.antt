@@ -1,7 +1,7 @@
--- Defines what a call over texts returns and writes: no site is in it.
+-- Defines what a call over texts, without a site, returns and writes.
 -- Source: docs/formats.md, of `decide` and `check`.
--- Rules of this product: the status is 200 for an answer, and for policies that all pass; 422 for texts that are
--- rejected, and for policies of which one does not pass; if out of memory, 503 without a body.
+-- Rules of this product: the status is 200 for an answer, and for policies that all pass; 422 for rejected texts, and
+-- if one of the policies does not pass; 503 without a body if out of memory.
 use Rattle.std.specs.Prelude.{◌≡◌, ◌⊎◌, ℕ, Bool, List, length, if◌then◌else◌}
 use Rattle.schema_decisions.specs.answer_lines.declared.refusal.Refusal.{Refusal}
 use Rattle.schema_decisions.specs.answer_lines.Refusals.{error_line}
@@ -21,7 +21,7 @@ abbrev pub Returns : ℕ → List ℕ → CallResult → List ℕ → List ℕ �
 Returns status text r before after =
     (r ≡ record { status = status; length = length text }) × (after ≡ copied text before)
 
--- `Rejects IsDue r before after`: an error that is due is returned, or that there is no memory; nothing is then
+-- `Rejects IsDue r before after`: an error for which `IsDue` holds is returned, or lack of memory, and nothing is
 -- written.
 abbrev pub Rejects : (Refusal → Type 0) → CallResult → List ℕ → List ℕ → Type 0
 Rejects IsDue r before after =
@@ -39,7 +39,7 @@ DecidesUnder schema policies entities request r before after =
     ((line : List ℕ) × typed.IsDecided schema policies entities request line × Returns 200 line r before after)
     ⊎ Rejects (typed.IsSchemaDecisionRefused schema policies entities request) r before after
 
--- The status of policies that were checked, by whether one does not pass.
+-- The status of checked policies, by whether one of them does not pass.
 abbrev pub checked_status : Bool → ℕ
 checked_status some_rejected = if some_rejected then 422 else 200
 

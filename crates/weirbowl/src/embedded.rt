@@ -1,4 +1,4 @@
-//! A site in the process of the program that asks it.
+//! A site in the process of its caller.
 ghost use Rattle.std.specs.Prelude.{◌≡◌, ◌≤◌};
 ghost use Rattle.std.specs.Vec.{vec_capacity};
 ghost use Rattle.site_calls.specs.http_replies.declared.TheConstants.{LINE_ROOM};
@@ -11,7 +11,7 @@ use std::alloc::Global;
 #[derive(Drop)]
 pub struct EmbeddedSite {
     pub(crate) alloc: Global,
-    // lent to each JSON that is read, since a new one is zeroed whole
+    // reused for each JSON that is parsed, since a new one is zeroed whole
     pub(crate) scratch: Scratch,
     /// The site.
     pub site: Site,

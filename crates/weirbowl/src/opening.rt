@@ -1,4 +1,4 @@
-//! Sites that are opened for a program.
+//! Opening a site for a program.
 ghost use Rattle.std.specs.Prelude.{◌≡◌, [], IfOk, IfErr, MatchOption};
 ghost use Rattle.site_calls.specs.site_steps.SiteViews.{schema_of, store_in};
 ghost use Rattle.site_calls.specs.site_steps.stamped_store.SiteNames.{IsSiteName};
@@ -16,14 +16,14 @@ use std::alloc::Global;
 /// Why no site is opened.
 #[derive(Clone, Copy)]
 pub enum OpenError {
-    /// The name is not a site's.
+    /// The name is not a site name.
     SiteName,
     /// The bytes are not a schema, or an allocation failed.
     Schema(Refusal),
 }
 
 impl OpenError {
-    /// Returns the number of the error: 2 of a name, 1 for out of memory, 20 to 25 of a schema.
+    /// Returns the number of the error: 2 for a name, 1 for out of memory, 20 to 25 for a schema.
     pub fn code(self) -> u8
         ensures { result ≡ code_of self }
     {
@@ -66,7 +66,7 @@ fn open_under(alloc: Global, schema: Schema, name: &str) -> Result<EmbeddedSite,
     embedded(alloc, Site::new(alloc, schema, name))
 }
 
-/// Returns a site under the schema that bytes describe, of a name that is a site's.
+/// Returns a site under the schema that bytes describe, with a valid site name.
 fn open_named(alloc: Global, schema: &[u8], name: &str) -> Result<EmbeddedSite, Refusal>
     requires { IsSiteName name.now }
     ensures opened { IfOk result (IsOpened schema.now name.now) }
@@ -76,7 +76,7 @@ fn open_named(alloc: Global, schema: &[u8], name: &str) -> Result<EmbeddedSite, 
     Ok(open_under(alloc, schema, name)?)
 }
 
-/// Returns a site under the schema that bytes describe, of a name that is a site's, or the error.
+/// Returns a site under the schema that bytes describe, with a valid site name, or the error.
 fn open_as(alloc: Global, schema: &[u8], name: &str) -> Result<EmbeddedSite, OpenError>
     requires { IsSiteName name.now }
     ensures opened { IfOk result (IsOpened schema.now name.now) }

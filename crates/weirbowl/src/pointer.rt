@@ -1,4 +1,4 @@
-//! The pointer by which C keeps a site.
+//! The pointer with which C keeps a site.
 ghost use Rattle.std.specs.Prelude.{◌≡◌, Option, Some, None, is_some, true};
 ghost use Rattle.weirbowl.specs.declared.embedded.EmbeddedSite.{EmbeddedSite};
 ghost use Rattle.weirbowl.specs.Ownership.{site_at, site_coded};
@@ -8,7 +8,7 @@ use crate::raw_box::RawBox;
 use std::alloc::Global;
 use std::marker::Model;
 
-/// A pointer to a site, which it owns; or to nothing.
+/// A pointer that owns a site, or nothing.
 #[repr(C)]
 #[derive(Drop)]
 pub struct SitePointer {
@@ -21,7 +21,7 @@ impl Model for SitePointer {
 }
 
 impl SitePointer {
-    /// Returns the site, and leaves a pointer that owns nothing. Does not allocate.
+    /// Takes the site, and leaves a pointer that owns nothing. Does not allocate.
     pub(crate) fn take(&mut self, alloc: Global) -> Box<EmbeddedSite>
         requires { is_some self.old.site ≡ true }
         ensures { (self.old.site ≡ Some result.value) × (self.new.site ≡ None) }

@@ -1,4 +1,4 @@
-//! What C calls on the site of a slot.
+//! The exports for C on the site of a slot.
 ghost use Rattle.site_calls.specs.Calls as call;
 ghost use Rattle.weirbowl.specs.SlotCalls.{Calls, Opens, Closes, RepeatsBody};
 

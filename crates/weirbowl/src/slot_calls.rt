@@ -1,4 +1,4 @@
-//! What is done with the site of a slot.
+//! Calls of the site of a slot.
 ghost use Rattle.std.specs.Prelude.{◌≡◌, length};
 ghost use Rattle.site_calls.specs.Calls.{call_of};
 ghost use Rattle.weirbowl.specs.Copies.{copied};

@@ -1,4 +1,4 @@
-//! What C calls over texts, without a site.
+//! The exports for C over texts, without a site.
 ghost use Rattle.std.specs.Prelude.{◌≡◌, length};
 ghost use Rattle.schema_decisions.specs.answer_lines.Refusals.{no_memory as memory_refused};
 ghost use Rattle.weirbowl.specs.Copies.{copied};

@@ -15,9 +15,9 @@ use Rattle.grammar_trees.specs.grammar_tokens.Grammar.{identifiers}
 use Rattle.grammar_policies.specs.grammar_expressions.Expressions as g
 use Rattle.grammar_policies.specs.grammar_expressions.Expressions.{boolean_of, variable_of, sign_of, comparison_of, patterns, joined}
 use Rattle.grammar_policies.specs.grammar_expressions.Expressions.{accessed, is_in, is_positive, expr}
-use Rattle.token_counts.specs.TokenCounts.{path_count, uid_count, tree_count, access_tree_count, term_count, entry_count, each_count, total, lone_count, row_count}
-use Rattle.token_counts.proofs.Counts.{count-Boolean, count-Number, count-Text, count-Variable, count-Uid, count-Call, count-Parentheses, count-Set, count-Record, count-Member, count-Not, count-Minus, count-Product, count-Sum, count-Compare, count-Has, count-Like, count-Is, count-IsIn, count-And, count-Or, count-If}
-use Rattle.token_counts.proofs.Dropping.{length-mapped}
+use Rattle.written_forms.specs.TokenCounts.{path_count, uid_count, tree_count, access_tree_count, term_count, entry_count, each_count, total, lone_count, row_count}
+use Rattle.written_forms.proofs.Counts.{count-Boolean, count-Number, count-Text, count-Variable, count-Uid, count-Call, count-Parentheses, count-Set, count-Record, count-Member, count-Not, count-Minus, count-Product, count-Sum, count-Compare, count-Has, count-Like, count-Is, count-IsIn, count-And, count-Or, count-If}
+use Rattle.written_forms.proofs.Dropping.{length-mapped}
 use Rattle.written_forms.proofs.LanguageCounts.{Fits, Single, By, token_fits, nothing_fits, both_fits, past_fits, giving_fits, or_fits, gate_fits, optional_fits, many_fits, total_more, path_fits, uid_fits}
 
 symbol_fits : {A : Type 0} (meaning : TokenKind → Option A) → Fits (g.symbol meaning) Single

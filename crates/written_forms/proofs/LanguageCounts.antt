@@ -7,7 +7,7 @@ use Rattle.grammar_trees.specs.grammar_tokens.Lang.{Lang}
 use Rattle.grammar_trees.specs.grammar_tokens.Lang as lang
 use Rattle.grammar_trees.specs.grammar_tokens.Grammar as g
 use Rattle.grammar_trees.specs.grammar_tokens.Grammar.{identifiers}
-use Rattle.token_counts.specs.TokenCounts.{path_count, uid_count, total, each_count}
+use Rattle.written_forms.specs.TokenCounts.{path_count, uid_count, total, each_count}
 
 -- The tokens that derive a value are so many that P holds of both.
 abbrev pub Fits : {A : Type 0} → Lang A → (A → ℕ → Type 0) → Type 0

@@ -7,7 +7,7 @@ use Rattle.grammar_trees.specs.declared.tree.Term.{Term}
 use Rattle.grammar_trees.specs.declared.tree.ExprTree.{ExprTree, out-ExprTree, roll-ExprTree, roll-out-ExprTree}
 use Rattle.grammar_trees.specs.declared.tree.ExprTree.TheVariants as t
 use Rattle.grammar_trees.specs.declared.tree.ExprTree.TheOpen.{ExprTree-F as tree}
-use Rattle.token_counts.specs.TokenCounts.{tree_count}
+use Rattle.written_forms.specs.TokenCounts.{tree_count}
 use Rattle.written_forms.specs.Forms.{Form, operand_step, behind_step, behind_minus, one_at}
 
 -- an operand of a form whose tree is this one

@@ -1,4 +1,4 @@
--- Defines which written form a core node belongs to, by the way down from the node of a form around it.
+-- Defines the written form that a core node belongs to, by the path from the node of a form around it.
 -- Source: Cedar reference guide 4.0, "Grammar specification for Cedar policy syntax" and "Operators and functions".
 -- Rules of this product: the operands of a core node are numbered from 0 in the order that they are written in. A chain
 -- groups to the left, and the tokens of its first operand with some further pieces are a form. Where rewriting made the
@@ -18,8 +18,8 @@ use Rattle.grammar_trees.specs.declared.tree.ExprTree.{ExprTree}
 use Rattle.grammar_trees.specs.declared.tree.ExprTree.TheOpen.{ExprTree-F as tree}
 use Rattle.grammar_trees.specs.declared.tree.ExprTree.TheFolds.{fold-ExprTree}
 use Rattle.grammar_trees.specs.declared.tree.ExprTree.TheViews.{out-ExprTree}
-use Rattle.token_counts.specs.TokenCounts.{path_count, tree_count, access_tree_count, term_count, entry_count}
-use Rattle.token_counts.specs.TokenCounts.{each_count, total}
+use Rattle.written_forms.specs.TokenCounts.{path_count, tree_count, access_tree_count, term_count, entry_count}
+use Rattle.written_forms.specs.TokenCounts.{each_count, total}
 use Rattle.written_forms.specs.declared.forms.Part.{Part}
 use Rattle.written_forms.specs.declared.forms.Part.TheVariants as part
 use Rattle.written_forms.specs.declared.forms.Form as code
@@ -30,7 +30,7 @@ pub record Form : Type 0 where
   pub part : Part
   pub tokens : List Token
 
--- `form_of` is what the code's form stands for.
+-- `form_of` is the abstract form of the code's form.
 abbrev pub form_of : code.Form → Form
 form_of f = record { tree = f.tree.now; part = f.part; tokens = f.tokens.now }
 
@@ -44,7 +44,7 @@ abbrev pub depth_step : tree ℕ → ℕ
 depth_step (tree.Parentheses a) = suc a
 depth_step _ = 0
 
--- `depth x` is how many pairs of parentheses stand round an expression.
+-- `depth x` is the number of pairs of parentheses around the expression `x`.
 abbrev pub depth : ExprTree → ℕ
 depth = fold-ExprTree ℕ depth_step
 
@@ -52,12 +52,12 @@ abbrev pub inside : tree ExprTree → ExprTree → ExprTree
 inside (tree.Parentheses a) x = a
 inside _ x = x
 
--- `peeled n x` is x without so many pairs of parentheses.
+-- `peeled n x` is `x` without `n` pairs of parentheses.
 abbrev pub peeled : ℕ → ExprTree → ExprTree
 peeled zero x = x
 peeled (suc n) x = peeled n (inside (out-ExprTree x) x)
 
--- `unwrapped f` is the form f without the parentheses round it.
+-- `unwrapped f` is the form f without the parentheses around it.
 abbrev pub unwrapped : Form → Form
 unwrapped f =
     record { tree = peeled (depth f.tree) f.tree; part = f.part; tokens = drop (depth f.tree) f.tokens }
@@ -76,7 +76,7 @@ abbrev pub left_at : Form → ExprTree → ℕ → Form
 left_at f a n =
     if n == 0 then whole a f.tokens else record { tree = f.tree; part = part.First n; tokens = f.tokens }
 
--- `piece_at a more ts i` is the operand of the further piece i, and `term_at` that of a sum: behind the first operand,
+-- `piece_at a more ts i` is the operand of the further piece i, and `term_at` that of a sum: after the first operand,
 -- the pieces before it and its own operator.
 abbrev pub piece_at : ExprTree → List ExprTree → List Token → ℕ → Option Form
 piece_at a more ts i =
@@ -97,12 +97,12 @@ chain_at f a right n i =
 
 -- ## Lists
 
--- `row_at items ts i` is item i of a list, whose opening bracket stands before the tokens ts.
+-- `row_at items ts i` is item `i` of a list, whose opening bracket precedes the tokens `ts`.
 abbrev pub row_at : List ExprTree → List Token → ℕ → Option Form
 row_at items ts i =
     option_map (λ b. whole b (drop (each_count (map tree_count (take i items))) ts)) (slice_get items i)
 
--- `entry_at entries ts i` is the value of entry i of a record: behind the entries before it, its key and its colon.
+-- `entry_at entries ts i` is the value of entry i of a record: after the entries before it, its key and its colon.
 abbrev pub entry_at : List (RecordEntry ExprTree) → List Token → ℕ → Option Form
 entry_at entries ts i =
     option_map (λ e. whole e.value (drop 2 (drop (each_count (map entry_count (take i entries))) ts)))
@@ -120,8 +120,8 @@ access_at a accesses ts n i =
     (λ x. argument_at x (drop (total (map access_tree_count (take n accesses))) (drop (tree_count a) ts)) i)
     (slice_get accesses n)
 
--- `member_at f a accesses n i` is operand i of what n accesses reach, one at least: 0 is what the last of them is asked
--- of, and the others are its arguments.
+-- `member_at f a accesses n i` is operand i of what n accesses reach, one at least: 0 is the operand of the last
+-- access, and the others are its arguments.
 abbrev pub member_at : Form → ExprTree → List (Access (List ExprTree)) → ℕ → ℕ → Option Form
 member_at f a accesses n i =
     if i == 0 then Some (left_at f a (n - 1)) else access_at a accesses f.tokens (n - 1) (i - 1)
@@ -147,7 +147,7 @@ abbrev pub behind_minus : tree ExprTree → ExprTree → List Token → ℕ → 
 behind_minus (tree.Number t) a ts i = None
 behind_minus _ a ts i = one_at a ts i
 
--- The negation of another comparison has one operand, which the same form is written for.
+-- The negation of another comparison has one operand, which is written as the same form.
 abbrev pub is_negated : Comparison → Bool
 is_negated is.Less = false
 is_negated is.LessOrEqual = false
@@ -157,7 +157,7 @@ is_negated is.Equal = false
 is_negated is.NotEqual = true
 is_negated is.In = false
 
--- `is_outer p` holds of all parts but `Inner`.
+-- `is_outer p` tests for all parts except `Inner`.
 abbrev pub is_outer : Part → Bool
 is_outer part.Whole = true
 is_outer (part.First n) = true
@@ -210,12 +210,12 @@ operand_step (tree.If a b c) f i =
     let second = drop 1 (drop (tree_count a) (drop 1 f.tokens)) in
     three_at (whole a (drop 1 f.tokens)) (whole b second) (whole c (drop 1 (drop (tree_count b) second))) i
 
--- `operand f i` is the form of operand i of the core node of f; None where the node has no such operand.
+-- `operand f i` is the form of operand i of the core node of f; None if the node has no such operand.
 abbrev pub operand : Form → ℕ → Option Form
 operand f i = operand_step (out-ExprTree f.tree) f i
 
 -- `node_at f path` is the form of the core node that the path leads to from the core node of f, without parentheses
--- round it.
+-- around it.
 abbrev pub node_at : Form → List ℕ → Option Form
 node_at f [] = Some f
 node_at f (i ∷ path) = option_and_then (λ g. node_at (unwrapped g) path) (operand f i)
@@ -228,7 +228,7 @@ behind_test _ f a path b = drop (tree_count f.tree) f.tokens
 abbrev pub up_to : List Token → List Token → List Token
 up_to ts rest = take (length ts - length rest) ts
 
--- `behind_step` is the tokens behind a form, from those that it begins.
+-- `behind_step` is the tokens after a form, from those that it begins.
 abbrev pub behind_step : tree ExprTree → Form → List Token
 behind_step (tree.Member a accesses) f =
     drop (total (map access_tree_count (take (kept f.part (length accesses)) accesses))) (drop (tree_count a) f.tokens)

@@ -1,3 +1,4 @@
+pub mod TokenCounts
 pub mod Counted
 pub mod Forms
 pub mod Names

@@ -1,7 +1,7 @@
--- Defines which tokens the name is written with that a core node of a policy's expression has itself: the uid of a
--- literal, and the type behind `is`.
+-- Defines the tokens of the name that a core node of a policy's expression itself has: the uid of a literal, and the
+-- type after `is`.
 -- Source: Cedar reference guide 4.0, "Grammar specification for Cedar policy syntax" (Path, Uid).
--- Rules of this product: of a part of the scope, the operands are those of the expression that it stands for.
+-- Rules of this product: of a part of the scope, the operands are those of the expression that it abbreviates.
 use Rattle.std.specs.Prelude.{ℕ, List, [], ◌∷◌, map, take, drop, Option, Some, None, option_and_then, slice_get}
 use Rattle.grammar_trees.specs.grammar_tokens.declared.token.Token.{Token}
 use Rattle.grammar_trees.specs.grammar_tokens.declared.tree.PathTree.{PathTree}
@@ -14,7 +14,7 @@ use Rattle.grammar_policies.specs.declared.tree.PartTree.TheVariants as part
 use Rattle.grammar_policies.specs.declared.tree.ActionTree.{ActionTree}
 use Rattle.grammar_policies.specs.declared.tree.ActionTree.TheVariants as action
 use Rattle.grammar_policies.specs.declared.tree.PolicyTree.{PolicyTree}
-use Rattle.token_counts.specs.TokenCounts.{path_count, uid_count, tree_count, each_count}
+use Rattle.written_forms.specs.TokenCounts.{path_count, uid_count, tree_count, each_count}
 use Rattle.written_forms.specs.declared.forms.Part.{Part}
 use Rattle.written_forms.specs.declared.forms.Part.TheVariants as node
 use Rattle.written_forms.specs.Forms.{Form, whole, unwrapped, node_at, up_to}
@@ -58,7 +58,7 @@ name_in x ts path = option_and_then own_name (node_at (unwrapped (whole x ts)) p
 
 -- ## In the scope
 
--- `at_end t name` is the name where a path ends, and `at_second t name` where its second operand is the end.
+-- `at_end t name` is the name if the path ends here, and `at_second t name` if it ends at the second operand.
 abbrev pub at_end : Turn → Option (List Token) → Option (List Token)
 at_end stop name = name
 at_end (left path) name = None
@@ -71,7 +71,7 @@ at_second (left path) name = None
 at_second (right path) name = at_end (turn path) name
 at_second off name = None
 
--- `in_both t name uid`: `x is T in uid` asks `x is T && x in uid`.
+-- `in_both t name uid`: `x is T in uid` means `x is T && x in uid`.
 abbrev pub in_both : Turn → Option (List Token) → Option (List Token) → Option (List Token)
 in_both stop name uid = None
 in_both (left path) name uid = at_end (turn path) name
@@ -88,7 +88,7 @@ entity_name (part.IsIn name uid) ts path =
     in_both (turn path) (Some (path_tokens name (drop 2 ts)))
     (Some (uid_tokens uid (drop 1 (drop (path_count name) (drop 2 ts)))))
 
--- `uid_at uids ts i` is the tokens of uid i of a list, whose opening bracket stands before the tokens ts.
+-- `uid_at uids ts i` is the tokens of uid `i` of a list, whose opening bracket precedes the tokens `ts`.
 abbrev pub uid_at : List UidTree → List Token → ℕ → Option (List Token)
 uid_at uids ts i =
     option_and_then (λ uid. Some (uid_tokens uid (drop (each_count (map uid_count (take i uids))) ts)))

@@ -1,4 +1,4 @@
--- Defines where in a policy a core node of its whole expression stands, and which tokens it is written with.
+-- Defines the place in a policy of a core node of its whole expression, and the tokens that it is written with.
 -- Source: Cedar reference guide 4.0, "Basic policy construction" (scope, conditions).
 -- Rules of this product: the expression is principal && (action && (resource && conditions)), and conditions are joined
 -- to the right. A node of a part of the scope is written with that part, and a conjunction of parts or conditions with
@@ -15,7 +15,7 @@ use Rattle.grammar_policies.specs.declared.tree.ConditionWord.{ConditionWord}
 use Rattle.grammar_policies.specs.declared.tree.ConditionWord.TheVariants as word
 use Rattle.grammar_policies.specs.declared.tree.PolicyTree.{PolicyTree}
 use Rattle.grammar_trees.specs.declared.tree.ExprTree.{ExprTree}
-use Rattle.token_counts.specs.TokenCounts.{path_count, uid_count, tree_count, row_count}
+use Rattle.written_forms.specs.TokenCounts.{path_count, uid_count, tree_count, row_count}
 use Rattle.written_forms.specs.declared.turns.Turn as code
 use Rattle.written_forms.specs.declared.turns.Turn.TheVariants as coded
 use Rattle.written_forms.specs.declared.places.Place as code_place
@@ -24,8 +24,8 @@ use Rattle.written_forms.specs.Forms.{tokens_at, up_to}
 
 -- ## Turns
 
--- What a path does first at a form with two operands: it ends, goes to the first or the second and on so, or to
--- another.
+-- The first step of a path at a form with two operands: it ends, leads to the first or the second operand or into it,
+-- or to another.
 pub data Turn : Type 0 where
   stop : Turn
   left : List ℕ → Turn
@@ -68,22 +68,22 @@ condition_count c = 2 + tree_count c.expression + 1
 
 -- ## Places
 
--- Where a core node of a policy's expression stands.
+-- The place of a core node of a policy's expression.
 pub data Place : Type 0 where
-  -- it joins parts or conditions of the policy, which is these tokens from its effect on
+  -- it joins parts or conditions of the policy, whose tokens from its effect on are these
   whole_policy : List Token → Place
-  -- at a path of what the scope demands of the principal or the resource, which the tokens begin with
+  -- at a path of the scope's constraint on the principal or the resource, which the tokens begin with
   in_entity : PartTree → List Token → List ℕ → Place
-  -- at a path of what it demands of the action
+  -- at a path of the scope's constraint on the action
   in_action : ActionTree → List Token → List ℕ → Place
   -- it is the negation of an `unless`, which the tokens begin with
   in_unless : Condition → List Token → Place
   -- at a path of an expression, which the tokens begin with
   in_expression : ExprTree → List Token → List ℕ → Place
-  -- there is none
+  -- the policy has no such node
   nowhere : Place
 
--- `place_of` is what the code's place stands for.
+-- `place_of` is the abstract place of the code's place.
 abbrev pub place_of : code_place.Place → Place
 place_of (coded_place.Policy ts) = whole_policy ts.now
 place_of (coded_place.Entity part ts path) = in_entity part.now ts.now path.now
@@ -92,7 +92,7 @@ place_of (coded_place.Unless c ts) = in_unless c.now ts.now
 place_of (coded_place.Expression x ts path) = in_expression x.now ts.now path.now
 place_of coded_place.Nowhere = nowhere
 
--- `joint_at t policy here there` is the policy where a path ends, and else what the operand gives that it goes to.
+-- `joint_at t policy here there` is the policy if the path ends here, else the result for the operand that it leads to.
 abbrev pub joint_at : Turn → List Token → (List ℕ → Place) → (List ℕ → Place) → Place
 joint_at stop policy here there = whole_policy policy
 joint_at (left path) policy here there = here path
@@ -101,7 +101,7 @@ joint_at off policy here there = nowhere
 
 -- ## Conditions
 
--- `unless { e }` asks `!e`: that negation is written with the whole condition.
+-- `unless { e }` means `!e`: that negation is written with the whole condition.
 abbrev pub unless_at : Turn → Condition → List Token → Place
 unless_at stop c ts = in_unless c ts
 unless_at (left path) c ts = in_expression c.expression (drop 2 ts) path
@@ -112,11 +112,12 @@ abbrev pub by_word : ConditionWord → Condition → List Token → List ℕ →
 by_word word.When c ts path = in_expression c.expression (drop 2 ts) path
 by_word word.Unless c ts path = unless_at (turn path) c ts
 
--- `at_condition c ts path` is the place of the node at a path of what the condition c asks; the tokens ts begin with c.
+-- `at_condition c ts path` is the place of the node at a path of the expression of the condition c; the tokens ts
+-- begin with c.
 abbrev pub at_condition : Condition → List Token → List ℕ → Place
 at_condition c ts path = by_word c.word c ts path
 
--- `if_stop t policy` is the policy where a path ends, and nothing where it goes on.
+-- `if_stop t policy` is the policy if the path ends here, and nothing if it goes on.
 abbrev pub if_stop : Turn → List Token → Place
 if_stop stop policy = whole_policy policy
 if_stop (left path) policy = nowhere
@@ -144,23 +145,23 @@ from_action policy tree ts path =
     (from_resource policy tree (drop 1 (drop (action_count tree.action) ts)))
 
 -- `from_effect policy tree path` is the place of the node at a path of a policy's expression; the policy is the tokens
--- that begin with its effect: behind this and a parenthesis comes `principal`.
+-- that begin with its effect: `principal` follows this and a parenthesis.
 abbrev pub from_effect : List Token → PolicyTree → List ℕ → Place
 from_effect policy tree path =
     joint_at (turn path) policy (in_entity tree.principal (drop 2 policy))
     (from_action policy tree (drop 1 (drop (part_count tree.principal) (drop 2 policy))))
 
--- `from_byte at ts` is the tokens from the one on that starts at a byte.
+-- `from_byte at ts` is the tokens from the one that starts at a byte.
 abbrev pub from_byte : ℕ → List Token → List Token
 from_byte at ts = drop (unwrap_or (position (λ t. t.start == at) ts) (length ts)) ts
 
--- `place_at ts tree path` is the same, from all tokens of the policy's text: annotations stand before its effect.
+-- `place_at ts tree path` is the same, from all tokens of the policy's text: annotations precede its effect.
 abbrev pub place_at : List Token → PolicyTree → List ℕ → Place
 place_at ts tree path = from_effect (from_byte tree.effect.start ts) tree path
 
 -- ## What is written there
 
--- `written place` is the tokens of the least written form round the node at a place.
+-- `written place` is the tokens of the least written form around the node at a place.
 abbrev pub written : Place → Option (List Token)
 written (whole_policy ts) = Some ts
 written (in_entity part ts path) = Some (up_to ts (drop (part_count part) ts))

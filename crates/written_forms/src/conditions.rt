@@ -2,12 +2,13 @@
 ghost use Rattle.std.specs.Prelude.{◌≡◌, drop};
 ghost use Rattle.written_forms.specs.Places as spec;
 
+use crate::behind::behind_tree;
+use crate::leaves::skip;
 use crate::places::Place;
 use crate::turns::{Turn, first_turn};
 use grammar_policies::{Condition, ConditionWord, Token};
-use token_counts::{behind_tree, skip};
 
-/// Returns the tokens behind a condition that they begin with.
+/// Returns the tokens after a condition that they begin with.
 pub(crate) fn behind_condition<'t>(condition: &Condition, tokens: &'t [Token]) -> &'t [Token]
     ensures { result.now ≡ drop (spec.condition_count condition.now) tokens.entry.now }
 {

@@ -1,22 +1,21 @@
 //! Written forms, and the way down in one.
 ghost use Rattle.std.specs.Prelude.{◌≡◌, List, drop, take, map, length, option_map};
-ghost use Rattle.token_counts.specs.TokenCounts.{path_count, tree_count, each_count};
+ghost use Rattle.written_forms.specs.TokenCounts.{path_count, tree_count, each_count};
 ghost use Rattle.grammar_trees.specs.declared.tree.ExprTree.{ExprTree};
 ghost use Rattle.grammar_trees.specs.declared.tree.ExprTree.TheViews.{out-ExprTree};
 ghost use Rattle.written_forms.specs.Forms as spec;
 
+use crate::behind::{behind_accesses, behind_each, behind_entries, behind_terms, behind_tree};
+use crate::leaves::{behind_path, skip};
 use grammar_trees::{Access, Comparison, ExprTree, PathTree, RecordEntry, Term, Token};
 use plain::Items;
-use token_counts::{
-    behind_accesses, behind_each, behind_entries, behind_path, behind_terms, behind_tree, skip,
-};
 
 /// Which core node of a written form is meant.
 #[derive(Clone, Copy)]
 pub(crate) enum Part {
     /// That of the form itself.
     Whole,
-    /// Of a chain, that of its first operand with so many further pieces.
+    /// Of a chain, that of its first operand with this many further pieces.
     First(usize),
     /// `e is T` of `e is T in f`.
     Test,
@@ -33,7 +32,7 @@ pub(crate) struct Form<'a> {
     pub(crate) tokens: &'a [Token],
 }
 
-/// Returns the first `count` items, all of them where there are fewer.
+/// Returns the first `count` items, all of them if there are fewer.
 #[tactic(auto, using(std::proofs::lemmas::List::take_all))]
 pub(crate) fn front<T>(items: &[T], count: usize) -> &[T]
     ensures { result.now ≡ take count items.now }
@@ -251,7 +250,7 @@ fn one_operand<'a>(tree: &'a ExprTree, tokens: &'a [Token], index: usize) -> Opt
     None
 }
 
-/// Returns the operand of a minus: none where it joins a number.
+/// Returns the operand of a minus: none if it joins a number.
 fn negated_operand<'a>(tree: &'a ExprTree, tokens: &'a [Token], index: usize) -> Option<Form<'a>>
     ensures { option_map spec.form_of result
         ≡ spec.behind_minus (out-ExprTree tree.entry.now) tree.entry.now tokens.entry.now index }
@@ -339,7 +338,7 @@ fn compared_operand<'a>(
     None
 }
 
-/// Returns the tokens behind `operand is path`.
+/// Returns the tokens after `operand is path`.
 fn behind_test<'a>(operand: &ExprTree, path: &PathTree, tokens: &'a [Token]) -> &'a [Token]
     ensures { result.now ≡ drop (path_count path.now) (drop 1 (drop (tree_count operand.now) tokens.entry.now)) }
 {
@@ -458,7 +457,7 @@ pub(crate) fn node_at<'a>(form: &Form<'a>, path: &[usize]) -> Option<Form<'a>>
     Some(here)
 }
 
-/// Returns the tokens behind a chain of operands, of which so many further ones belong to a part.
+/// Returns the tokens after a chain of operands, of which only some further ones belong to the part of the form.
 fn behind_chain<'a>(form: &Form<'a>, first: &ExprTree, more: &[ExprTree]) -> &'a [Token]
     ensures { let pieces = take (spec.kept form.now.part (length more.now)) more.now in
         result.now ≡ drop (each_count (map tree_count pieces)) (drop (tree_count first.now) form.now.tokens.now) }
@@ -467,7 +466,7 @@ fn behind_chain<'a>(form: &Form<'a>, first: &ExprTree, more: &[ExprTree]) -> &'a
     behind_each(pieces, behind_tree(first, form.tokens))
 }
 
-/// Returns the tokens behind a node of `operand is path in ancestor`.
+/// Returns the tokens after a node of `operand is path in ancestor`.
 fn behind_in_test<'a>(form: &Form<'a>, operand: &ExprTree, path: &PathTree) -> &'a [Token]
     ensures { (b : ExprTree) → result.now
         ≡ spec.behind_test form.now.part (spec.form_of form.now) operand.now path.now b }
@@ -480,7 +479,7 @@ fn behind_in_test<'a>(form: &Form<'a>, operand: &ExprTree, path: &PathTree) -> &
     }
 }
 
-/// Returns the tokens behind a form.
+/// Returns the tokens after a form.
 fn behind_form<'a>(form: &Form<'a>) -> &'a [Token]
     ensures { result.now ≡ spec.behind_step (out-ExprTree form.now.tree.now) (spec.form_of form.now) }
 {
@@ -509,7 +508,7 @@ pub(crate) fn up_to<'a>(tokens: &'a [Token], rest: &[Token]) -> &'a [Token]
 }
 
 /// Returns the tokens of the form to which the core node at a path of an expression belongs; `tokens` begin with the
-/// expression. None where the core expression has no such node.
+/// expression. None if the core expression has no such node.
 pub(crate) fn tokens_at<'a>(
     tree: &'a ExprTree,
     tokens: &'a [Token],

@@ -1,8 +1,8 @@
-//! Laws of the definitions.
+//! A theorem on the definitions. The function is a no-op.
 ghost use Rattle.std.specs.Prelude.{ℕ};
 ghost use Rattle.grammar_trees.specs.grammar_tokens.Grammar.{path, uid};
 ghost use Rattle.grammar_policies.specs.grammar_expressions.Expressions.{expr};
-ghost use Rattle.token_counts.specs.TokenCounts.{path_count, uid_count, tree_count};
+ghost use Rattle.written_forms.specs.TokenCounts.{path_count, uid_count, tree_count};
 ghost use Rattle.written_forms.specs.Counted.{IsCounted};
 
 /// Proves that names and expressions, however deep they nest, count the tokens that derive them. No-op.

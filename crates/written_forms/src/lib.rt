@@ -1,12 +1,15 @@
-//! Where a core node of a policy is written: which of the policy's tokens.
+//! The tokens of a policy that a core node is written with.
 //!
-//! A core expression keeps no places, and of a tree only names, keys, numbers and strings keep their tokens. But a tree
-//! settles how many tokens it is written with, so the way down to a core node finds the tokens of its written form.
+//! A core expression has no positions, and in a tree only names, keys, numbers and strings have their tokens. But a
+//! tree determines how many tokens it is written with: `behind` skips these, so the path to a core node leads to the
+//! tokens of its written form.
 #![tactic(auto)]
 
+mod behind;
 mod conditions;
 mod forms;
 mod laws;
+mod leaves;
 mod names;
 mod parts;
 mod places;

@@ -1,12 +1,13 @@
-//! The names of expressions: uids, and types behind `is`.
+//! The names of expressions: uids, and types after `is`.
 ghost use Rattle.std.specs.Prelude.{◌≡◌, option_map};
 ghost use Rattle.written_forms.specs.Forms as forms;
 ghost use Rattle.written_forms.specs.Names as spec;
 
+use crate::behind::behind_tree;
 use crate::forms::{Form, Part, node_at, unwrapped, up_to, whole};
+use crate::leaves::{behind_path, skip};
 use crate::parts::behind_uid;
 use grammar_trees::{ExprTree, PathTree, Token, UidTree};
-use token_counts::{behind_path, behind_tree, skip};
 
 /// Returns the tokens of a Path that these begin with.
 pub(crate) fn path_tokens<'t>(path: &PathTree, tokens: &'t [Token]) -> &'t [Token]
@@ -22,14 +23,14 @@ pub(crate) fn uid_tokens<'t>(uid: &UidTree, tokens: &'t [Token]) -> &'t [Token]
     up_to(tokens, behind_uid(uid, tokens))
 }
 
-/// Returns the tokens of the type behind `operand is`.
+/// Returns the tokens of the type after `operand is`.
 fn tested<'t>(operand: &ExprTree, path: &PathTree, tokens: &'t [Token]) -> &'t [Token]
     ensures { result.now ≡ spec.tested operand.now path.now tokens.entry.now }
 {
     path_tokens(path, skip(behind_tree(operand, tokens), 1))
 }
 
-/// Returns the tokens of the type in `operand is path in ancestor`, where the test is meant.
+/// Returns the tokens of the type in `operand is path in ancestor`, if `part` is the test.
 fn in_test<'t>(part: Part, tokens: &'t [Token]) -> Option<&'t [Token]>
     ensures { option_map (λ ts. ts.now) result ≡ spec.in_test part tokens.entry.now }
 {
@@ -41,7 +42,7 @@ fn in_test<'t>(part: Part, tokens: &'t [Token]) -> Option<&'t [Token]>
     }
 }
 
-/// Returns the tokens of the name that a form's core node has itself.
+/// Returns the tokens of the name that a form's core node itself has.
 fn own_name<'a>(form: &Form<'a>) -> Option<&'a [Token]>
     ensures { option_map (λ ts. ts.now) result ≡ spec.own_name (forms.form_of form.now) }
 {

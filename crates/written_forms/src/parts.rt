@@ -1,19 +1,19 @@
 //! The parts of a policy's scope.
 ghost use Rattle.std.specs.Prelude.{◌≡◌, drop, map, length};
 ghost use Rattle.written_forms.specs.Places as spec;
-ghost use Rattle.token_counts.specs.TokenCounts.{uid_count, each_count};
+ghost use Rattle.written_forms.specs.TokenCounts.{uid_count, each_count};
 
+use crate::leaves::{behind_opened, behind_path, skip};
 use grammar_policies::{ActionTree, PartTree, Token, UidTree};
-use token_counts::{behind_opened, behind_path, skip};
 
-/// Returns the tokens behind a uid that they begin with.
+/// Returns the tokens after a uid that they begin with.
 pub(crate) fn behind_uid<'t>(uid: &UidTree, tokens: &'t [Token]) -> &'t [Token]
     ensures { result.now ≡ drop (uid_count uid.now) tokens.entry.now }
 {
     skip(behind_path(&uid.path, tokens), 2)
 }
 
-/// Returns the tokens behind uids, each with a comma or bracket behind it.
+/// Returns the tokens after uids, each with a comma or bracket after it.
 pub(crate) fn behind_uids<'t>(uids: &[UidTree], tokens: &'t [Token]) -> &'t [Token]
     ensures { result.now ≡ drop (each_count (map uid_count uids.now)) tokens.entry.now }
 {
@@ -24,7 +24,7 @@ pub(crate) fn behind_uids<'t>(uids: &[UidTree], tokens: &'t [Token]) -> &'t [Tok
     rest
 }
 
-/// Returns the tokens behind what a scope demands of the principal or the resource, which they begin with.
+/// Returns the tokens after what a scope demands of the principal or the resource, which they begin with.
 pub(crate) fn behind_part<'t>(part: &PartTree, tokens: &'t [Token]) -> &'t [Token]
     ensures { result.now ≡ drop (spec.part_count part.now) tokens.entry.now }
 {
@@ -39,7 +39,7 @@ pub(crate) fn behind_part<'t>(part: &PartTree, tokens: &'t [Token]) -> &'t [Toke
     }
 }
 
-/// Returns the tokens behind what a scope demands of the action, which they begin with.
+/// Returns the tokens after what a scope demands of the action, which they begin with.
 pub(crate) fn behind_action<'t>(part: &ActionTree, tokens: &'t [Token]) -> &'t [Token]
     ensures { result.now ≡ drop (spec.action_count part.now) tokens.entry.now }
 {

@@ -1,15 +1,15 @@
-//! Where a core node of a policy's expression stands.
+//! The place of a core node of a policy's expression.
 ghost use Rattle.std.specs.Prelude.{◌≡◌, ◌==◌, position};
 ghost use Rattle.written_forms.specs.Places as spec;
 
 use crate::conditions::at_conditions;
+use crate::leaves::skip;
 use crate::parts::{behind_action, behind_part};
 use crate::turns::{Turn, first_turn};
 use grammar_policies::{ActionTree, Condition, PartTree, PolicyTree, Token};
 use grammar_trees::ExprTree;
-use token_counts::skip;
 
-/// Where a core node stands: in which piece of the policy, which its tokens begin with, and at which path of it.
+/// The place of a core node: the piece of the policy, the tokens that begin with the piece, and the path in the piece.
 #[derive(Clone, Copy)]
 pub(crate) enum Place<'t, 'p> {
     /// It joins parts or conditions of the policy.
@@ -26,7 +26,7 @@ pub(crate) enum Place<'t, 'p> {
     Nowhere,
 }
 
-/// Returns the place behind the scope's first two parts.
+/// Returns the place after the scope's first two parts.
 fn from_resource<'t, 'p>(
     policy: &'t [Token],
     tree: &'t PolicyTree,
@@ -47,7 +47,7 @@ fn from_resource<'t, 'p>(
     }
 }
 
-/// Returns the place behind the scope's first part.
+/// Returns the place after the scope's first part.
 fn from_action<'t, 'p>(
     policy: &'t [Token],
     tree: &'t PolicyTree,
@@ -88,14 +88,14 @@ fn from_effect<'t, 'p>(
     }
 }
 
-/// Returns how many tokens stand before the one that starts at a byte.
+/// Returns how many tokens precede the one that starts at a byte.
 fn tokens_before(tokens: &[Token], at: usize) -> Option<usize>
     ensures { result ≡ position (λ t. t.start == at) tokens.now }
 {
     tokens.iter().position(|token| token.start == at)
 }
 
-/// Returns the tokens from the one on that starts at a byte, none where no token does.
+/// Returns the tokens from the one that starts at a byte; an empty list if no token does.
 fn from_byte(tokens: &[Token], at: usize) -> &[Token]
     ensures { result.now ≡ spec.from_byte at tokens.now }
 {

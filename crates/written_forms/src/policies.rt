@@ -11,8 +11,8 @@ use crate::places::{Place, place_at};
 use crate::scopes::{action_name, entity_name};
 use grammar_policies::{PolicyTree, Token};
 
-/// Returns the tokens of the least written form round the core node at a path of a policy's expression, from all tokens
-/// of its text; `None` where there is no such node.
+/// Returns the tokens of the least written form around the core node at a path of a policy's expression, from all
+/// tokens of its text; `None` if there is no such node.
 ///
 /// O(length of `tokens` and `path`). Does not allocate.
 pub fn written_at<'t>(
@@ -33,7 +33,7 @@ pub fn written_at<'t>(
 }
 
 /// Returns the tokens of the name that the core node at a path of a policy's expression has itself: a uid, or the type
-/// behind `is`; `None` where it has none.
+/// after `is`; `None` if it has none.
 ///
 /// O(length of `tokens` and `path`). Does not allocate.
 pub fn named_at<'t>(

@@ -4,13 +4,13 @@ ghost use Rattle.written_forms.specs.Names as spec;
 ghost use Rattle.written_forms.specs.Places.{turn};
 
 use crate::forms::front;
+use crate::leaves::{behind_path, skip};
 use crate::names::{path_tokens, uid_tokens};
 use crate::parts::behind_uids;
 use crate::turns::{Turn, first_turn};
 use grammar_policies::{ActionTree, PartTree, Token, UidTree};
-use token_counts::{behind_path, skip};
 
-/// Returns a name where a path ends.
+/// Returns a name if a path ends here.
 fn at_end<'t>(path: &[usize], name: Option<&'t [Token]>) -> Option<&'t [Token]>
     ensures { option_map (λ ts. ts.now) result
         ≡ spec.at_end (turn path.now) (option_map (λ ts. ts.now) name.entry) }
@@ -23,7 +23,7 @@ fn at_end<'t>(path: &[usize], name: Option<&'t [Token]>) -> Option<&'t [Token]>
     }
 }
 
-/// Returns a name where a path goes to the second operand and ends.
+/// Returns a name if a path leads to the second operand and ends there.
 fn at_second<'t>(path: &[usize], name: Option<&'t [Token]>) -> Option<&'t [Token]>
     ensures { option_map (λ ts. ts.now) result
         ≡ spec.at_second (turn path.now) (option_map (λ ts. ts.now) name.entry) }
@@ -80,7 +80,7 @@ pub(crate) fn entity_name<'t>(
     }
 }
 
-/// Returns the tokens of a uid of a list, whose opening bracket stands before `tokens`.
+/// Returns the tokens of a uid of a list, whose opening bracket precedes `tokens`.
 fn uid_at<'t>(uids: &[UidTree], tokens: &'t [Token], index: usize) -> Option<&'t [Token]>
     ensures { option_map (λ ts. ts.now) result ≡ spec.uid_at uids.now tokens.entry.now index }
 {

@@ -2,16 +2,16 @@
 ghost use Rattle.std.specs.Prelude.{◌≡◌};
 ghost use Rattle.written_forms.specs.Places as spec;
 
-/// What a path does first at a conjunction.
+/// The first step of a path at a conjunction.
 #[derive(Clone, Copy)]
 pub(crate) enum Turn<'p> {
-    /// It ends.
+    /// The path ends.
     Stop,
-    /// It goes to the first operand, and on so.
+    /// It leads to the first operand, or into it.
     Left(&'p [usize]),
-    /// It goes to the second operand, and on so.
+    /// It leads to the second operand, or into it.
     Right(&'p [usize]),
-    /// It goes to an operand that is not there.
+    /// It leads to an operand that does not exist.
     Off,
 }
 

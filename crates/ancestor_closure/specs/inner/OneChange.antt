@@ -5,7 +5,7 @@ use Rattle.std.specs.Ordering.{is_eq}
 use Rattle.values.specs.declared.entity_uid.EntityUid.{EntityUid}
 use Rattle.values.specs.Names.{uid_cmp}
 use Rattle.ancestor_search.specs.Hierarchy.{Parents, IsAncestor, IsAscending}
-use Rattle.ancestor_closure.specs.Lists.{IsListOf}
+use Rattle.ancestor_closure.specs.Lists.{IsListOf, AgreeBut}
 use Rattle.ancestor_closure.specs.declared.changing.Change.{Change}
 
 -- `TakesChild xs ps child before after` holds if `child` was removed from those of `xs` that are not in `ps`, and
@@ -62,3 +62,12 @@ pub record IsPlanned (parents : Parents) (uid : EntityUid) (ancestors children :
   pub lists_of : firsts change.lists.items ≡ change.entities.items
   pub right : (q : EntityUid) (list : Vec EntityUid Global) → Contains change.lists.items (q, list) →
       IsListOf parents q list.items
+
+-- `AreListsBut uid after ancestors children` holds if these were the ancestors of each entity and its children before
+-- the parents of `uid` changed.
+pub record AreListsBut (uid : EntityUid) (after : Parents)
+    (ancestors children : EntityUid → List EntityUid) : Type 0 where
+  pub before : Parents
+  pub above : (b : EntityUid) → IsListOf before b (ancestors b)
+  pub below : (a b : EntityUid) → Contains (children a) b ↔ Contains (before b) a
+  pub others : AgreeBut uid before after

@@ -94,7 +94,7 @@ pub record IsLeastAt (ps : List EntityUid) (dist : EntityUid → Option ℕ) (d 
   pub at : dist y ≡ Some d
   pub least : (e : EntityUid) → Contains ps e → dist e ≡ Some d → is_gt (uid_cmp y e) ≡ false
 
--- `IsLeastOf ps dist d o` holds if `o` is the least such parent, or `None` if there is none.
+-- `IsLeastOf ps dist d o` holds if `o` is the least such parent, or `None` if no parent is such.
 abbrev pub IsLeastOf : List EntityUid → (EntityUid → Option ℕ) → ℕ → Option EntityUid → Type 0
 IsLeastOf ps dist d None = (e : EntityUid) → Contains ps e → dist e ≡ Some d → ⊥
 IsLeastOf ps dist d (Some y) = IsLeastAt ps dist d y

@@ -131,7 +131,7 @@ apply_binary E Contains v w = and_then (demanded (members_in v)) (λ x. truth (h
 apply_binary E ContainsAll v w = sets (λ x y. list_all (has_member x) y) v w
 apply_binary E ContainsAny v w = sets (λ x y. list_any (has_member x) y) v w
 
--- `found_or e o` is the value, or the error `e` if there is none.
+-- `found_or e o` is the value of `o`, or the error `e` if `o` is `None`.
 abbrev pub found_or : EvalFault → Option PlainValue → EvaluationResult
 found_or e None = Err e
 found_or e (Some v) = Ok v

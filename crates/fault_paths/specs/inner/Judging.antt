@@ -1,4 +1,4 @@
--- What is told of one environment.
+-- Defines the report on one environment.
 use Rattle.std.specs.Prelude.{◌≡◌, ◌≢◌, ℕ, [], Option, Some, None, Result, Ok, Err, MatchOption}
 use Rattle.grammar_core.specs.declared.expr.Expr.{Expr}
 use Rattle.validator.specs.declared.fault.TypeFault.{TypeFault}
@@ -17,7 +17,7 @@ use Rattle.fault_paths.specs.declared.blaming.TypeBlame.{TypeBlame}
 abbrev pub IsFault : Environment → Expr → TypeFault → Type 0
 IsFault env x f = (n : ExpressionFault) × (f ≡ of_typing n) × Faults env [] x n
 
--- the fault of an expression, or that it has a type
+-- the error of an expression, or that it has a type
 abbrev pub IsFaultyIn : Environment → Expr → Option TypeFault → Type 0
 IsFaultyIn env x o = MatchOption o ((t : StaticType) × HasType x t env) (IsFault env x)
 
@@ -28,7 +28,7 @@ IsBlamedAt env i x b = (b.environment ≡ i) × IsFault env x b.fault
 abbrev pub IsBlamedIn : Environment → ℕ → Expr → Option TypeBlame → Type 0
 IsBlamedIn env i x o = MatchOption o ((t : StaticType) × HasType x t env) (IsBlamedAt env i x)
 
--- the fault that is told, or that there is a type
+-- the reported error, or `None` if the expression has a type
 abbrev pub IsToldIn : {B : Type 0} → Result Typed at_hand.ExpressionFault → Result (Option TypeFault) B → Type 0
 IsToldIn judged (Ok None) = (t : Typed) × (judged ≡ Ok t)
 IsToldIn judged (Ok (Some g)) = (f : at_hand.ExpressionFault) × (f ≢ NoMemory) × (judged ≡ Err f) × (g ≡ of_types f)

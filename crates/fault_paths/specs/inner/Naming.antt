@@ -1,4 +1,4 @@
--- What is found of names on the way.
+-- Defines the results of the search for the first undeclared name.
 use Rattle.std.specs.Prelude.{◌≡◌, ℕ, List, [], ◌∷◌, ◌++◌, All, Option, MatchOption}
 use Rattle.grammar_core.specs.declared.expr.Expr.{Expr}
 use Rattle.grammar_core.specs.declared.expr.Expr.TheViews.{out-Expr}
@@ -8,7 +8,7 @@ use Rattle.validator.specs.Unknown.{IsUnknown, IsKnown, FirstUnknown}
 use Rattle.fault_paths.specs.NamesAt.{names_at, name_view, FirstUnknownAt}
 use Rattle.fault_paths.specs.declared.names.NameFault.{NameFault}
 
--- of one name at most: it is unknown, or known if there is one
+-- for at most one name: it is undeclared; or it is declared, if there is one
 abbrev pub AreNames : StatedSchema → List Name → Option NameFault → Type 0
 AreNames s ns o = MatchOption o (All (IsKnown s) ns)
     (λ f. (ns ≡ name_view f.name ∷ []) × IsUnknown s (name_view f.name) f.fault)

@@ -1,4 +1,4 @@
--- What a step down towards the blamed expression does, and what is judged on the way.
+-- Defines a step down the path to the blamed expression, and the types that are found on it.
 use Rattle.std.specs.Prelude.{◌≡◌, ◌≢◌, ℕ, ◌<◌, List, [], ◌∷◌, ◌++◌, map, length, Option, Some, None, MatchOption}
 use Rattle.std.specs.Prelude.{Result, Ok, Err, Bool, true, false}
 use Rattle.grammar_core.specs.Size.{height}
@@ -19,7 +19,7 @@ use Rattle.fault_paths.specs.declared.steps.Step.TheVariants as step
 use Rattle.expression_paths.specs.Blamed.{Blame, under, blamed}
 use Rattle.expression_paths.specs.Places.{operands_of}
 
--- a type with what is learned, or that there is none
+-- a type with its capabilities, or `None` if the expression has no type
 abbrev pub IsFound : Environment → Pairs → Expr → Option Typed → Type 0
 IsFound env K x o = MatchOption o ((n : ExpressionFault) × Faults env K x n)
     (λ t. Types env K x (static_view t.kind) (pairs t.learns.items))
@@ -32,14 +32,14 @@ last_of (Some i) = i ∷ []
 abbrev pub stopped : Expr → Option ℕ → List StaticType → Blame
 stopped x o ts = record { path = last_of o; form = x; types = map static_view ts }
 
--- The step goes from x, where the pairs of K are known, down to its operand of this index, where those of J are; or it
--- stops, as each derivation of a fault says.
+-- The step leads from x, with the capabilities K, to its operand of this index, with the capabilities J; or it stops,
+-- as each derivation of an error says.
 abbrev pub IsStep : Environment → Pairs → Expr → Pairs → Step → Type 0
 IsStep env K x J (step.Down i y) = (height y.now < height x)
     × ((n : ExpressionFault) (h : Faults env K x n) → (g : Faults env J y.now n) × (blamed h ≡ under i (blamed g)))
 IsStep env K x J (step.Stop o ts) = (n : ExpressionFault) (h : Faults env K x n) → blamed h ≡ stopped x o ts.items
 
--- Among the operands of x, one after the other: down to the first that has no type, or all of them have these types.
+-- Among the operands of x, one after another: the step leads to the first without a type, or all have these types.
 abbrev pub IsStepAmong : Environment → Pairs → Expr → Option ℕ → Step → Type 0
 IsStepAmong env K x o (step.Down i y) = (before : List Expr) × (rest : List Expr) × (ts : List types.StaticType)
     × (n : ExpressionFault)
@@ -54,23 +54,23 @@ abbrev pub StopsAtItself : StaticType → StaticType → Step → Type 0
 StopsAtItself s t (step.Down j y) = ⊥
 StopsAtItself s t (step.Stop o ts) = (o ≡ None) × (ts.items ≡ s ∷ t ∷ [])
 
--- the type that was found, or that there is none
+-- the type that was found, or `None` if the expression has no type
 abbrev pub IsFoundIn : {B : Type 0} → Result Typed ExpressionFaultAtHand → Result (Option Typed) B → Type 0
 IsFoundIn judged (Ok (Some t)) = judged ≡ Ok t
 IsFoundIn judged (Ok None) = (f : ExpressionFaultAtHand) × (f ≢ NoMemory) × (judged ≡ Err f)
 IsFoundIn judged (Err e) = Unit {0}
 
--- what is blamed below the expression to which the path leads
+-- what is blamed in the expression to which the path leads
 abbrev pub below : List ℕ → Blame → Blame
 below p b = record { path = p ++ b.path; form = b.form; types = b.types }
 
--- The path leads from the whole, where nothing is known, to x, where the pairs of K are: each derivation of a fault
--- goes there.
+-- The path leads from the whole, without capabilities, to x, with the capabilities K, as each derivation of an error
+-- does.
 abbrev pub Reaches : Environment → Expr → List ℕ → Pairs → Expr → Type 0
 Reaches env whole p K x = (n : ExpressionFault) (h : Faults env [] whole n)
     → (g : Faults env K x n) × (blamed h ≡ below p (blamed g))
 
--- the type that was found is put behind the others, if there is one
+-- the found type, if there is one, is appended to the others
 abbrev pub KeepsType : Option Typed → List StaticType → List StaticType → Bool → Type 0
 KeepsType None ts us b = (b ≡ false) × (us ≡ ts)
 KeepsType (Some t) ts us b = (b ≡ true) × (us ≡ ts ++ t.kind ∷ [])

@@ -1,4 +1,4 @@
--- Defines a closure that parses expressions of at most so many levels of nesting.
+-- Defines a closure that parses expressions of at most a given number of levels of nesting.
 use Rattle.std.specs.Prelude.{ℕ, Result}
 use Rattle.std.specs.declared.alloc.Global.{Global}
 use denote.Ref.{MutBor}

@@ -35,7 +35,7 @@ abbrev pub sized : ℕ → Option TokenKind → Option ScannedToken
 sized n None = None
 sized n (Some k) = Some (record { kind = k; len = n })
 
--- `first_found o other` is the token `o`, or `other` if there is none.
+-- `first_found o other` is the token `o`, or `other` if `o` is `None`.
 abbrev pub first_found : Option ScannedToken → Option ScannedToken → Option ScannedToken
 first_found None other = other
 first_found (Some f) other = Some f
@@ -57,13 +57,13 @@ pub record IsGapOf (len : ℕ) (text : List ℕ) : Type 0 where
   pub long : length w ≡ len
 
 -- `ReportsGap text o` holds if `o` is the length of the whitespace or comment at the front of `text`, or `None` if
--- there is none.
+-- the text begins with neither.
 abbrev pub ReportsGap : List ℕ → Option ℕ → Type 0
 ReportsGap text None = NoGap text
 ReportsGap text (Some len) = IsGapOf len text
 
 -- `ReportsBlank text o` holds if `o` is the length of the whitespace character at the front of `text`, or `None` if
--- there is none.
+-- the text does not begin with one.
 abbrev pub ReportsBlank : List ℕ → Option ℕ → Type 0
 ReportsBlank text None = (c : ℕ) (more : List ℕ) → is_whitespace c ≡ true → text ≡ encode_utf8 c ++ more → ⊥
 ReportsBlank text (Some len) = (c : ℕ) × (more : List ℕ) × (is_whitespace c ≡ true) × (text ≡ encode_utf8 c ++ more)
@@ -83,7 +83,7 @@ pub record IsFirstEscape (found : Escape) (text : List ℕ) : Type 0 where
   pub is : IsEscape found.piece w
   pub long : length w ≡ found.len
 
--- `ReportsEscape text o` holds if `o` is the escape at the front of `text`, or `None` if there is none.
+-- `ReportsEscape text o` holds if `o` is the escape at the front of `text`, or `None` if `text` begins with no escape.
 abbrev pub ReportsEscape : List ℕ → Option Escape → Type 0
 ReportsEscape text None = NoEscape text
 ReportsEscape text (Some found) = IsFirstEscape found text
@@ -94,7 +94,7 @@ kind_with k (Byte b) = k
 kind_with k (Char c) = k
 kind_with k Star = StarText
 
--- `is_plain in_pattern c` tests whether the byte `c` between quotes stands for itself; a star does not in a pattern.
+-- `is_plain in_pattern c` tests whether the byte `c` between quotes denotes itself; a star does not in a pattern.
 unfoldable pub is_plain : Bool → ℕ → Bool
 is_plain in_pattern c = not ((c == backslash) || (in_pattern && (c == code "*")))
 

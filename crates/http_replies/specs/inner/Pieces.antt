@@ -1,4 +1,4 @@
--- Pieces of lines.
+-- Defines pieces of lines.
 use Rattle.std.specs.Prelude.{ℕ, List, ◌++◌, Bool, Option, Some, None, codes, decimal, if◌then◌else◌}
 
 abbrev pub boolean_word : Bool → List ℕ
@@ -8,6 +8,6 @@ abbrev pub number_or_null : Option ℕ → List ℕ
 number_or_null None = codes "null"
 number_or_null (Some n) = decimal n
 
--- the end of a line that tells a stamp: ,"site":"00001"}
+-- the end of a line with a stamp: ,"site":"00001"}
 abbrev pub site_end : List ℕ → List ℕ
 site_end site = codes ",\"site\":\"" ++ site ++ codes "\"}"

@@ -1,6 +1,6 @@
--- Defines what has gone out where a device failed before a reply was out.
+-- Defines what was sent if a device failed before a whole reply was.
 -- Source: docs/formats.md, the log.
--- Rules of this product: the line goes out before the reply.
+-- Rules of this product: the line is written before the reply.
 use Rattle.std.specs.Prelude.{◌≡◌, ℕ, Option, List}
 use Rattle.std.specs.Io.KnownBytes.{Appends}
 use Rattle.http_streams.specs.Logs.{IsFront}
@@ -9,13 +9,13 @@ use Rattle.http_streams.specs.declared.serve.Broken.TheVariants.{Log, Write}
 use Rattle.http_streams.specs.declared.serve.StreamFault.{StreamFault}
 use Rattle.http_streams.specs.declared.serve.StreamFault.TheVariants as fault
 
--- `fault_of broken` is how the stream ends then.
+-- `fault_of broken` is the error with which the stream then ends.
 abbrev pub fault_of : Broken → StreamFault
 fault_of Log = fault.Log
 fault_of Write = fault.Write
 
--- `IsSentInPart broken .. line reply ..` holds if the log failed, got the line but for its end, and the writer nothing;
--- or the writer failed, the log got the line, and the writer the reply but for its end.
+-- `IsSentInPart broken .. line reply ..` holds if the log failed and got a proper prefix of the line, and the writer
+-- nothing; or the writer failed and got a proper prefix of the reply, and the log got the whole line.
 abbrev pub IsSentInPart : {L W : Type 0} → Broken → (L → Option (List ℕ)) → (W → Option (List ℕ)) → List ℕ → List ℕ
     → L → L → W → W → Type 0
 IsSentInPart Log logged holds line reply old new before after =

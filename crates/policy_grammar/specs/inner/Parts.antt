@@ -66,7 +66,7 @@ pub record ReportsFile (text : List ℕ) (trees : List PolicyTree) (verdict : Ve
   pub small : IsTrue verdict.small ↔ AllByRecursion (IsSmallTree text) trees
 
 -- `IsWrittenPlainly text name id` holds if `text` is `name::"id"` with nothing between its tokens, and each byte of
--- `id` stands for itself.
+-- `id` denotes itself.
 pub record IsWrittenPlainly (text name id : List ℕ) : Type 0 where
   pub whole : text ≡ name ++ codes "::\"" ++ id ++ codes "\""
   pub plain : AllByRecursion (λ b. (b ≢ quote) × (b ≢ backslash)) id

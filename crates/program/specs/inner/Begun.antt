@@ -1,4 +1,4 @@
--- A site that takes a message before it serves.
+-- Defines that a site applies the updates of a message before it serves.
 use Rattle.std.specs.Prelude.{◌≡◌, ℕ, List, ◌++◌}
 use Rattle.program_drills.specs.http_service.policy_grammar.declared.policy.Policy.{Policy}
 use Rattle.program_drills.specs.http_service.entity_data.declared.entity.Entity.{Entity}
@@ -8,7 +8,7 @@ use Rattle.state_exchanges.specs.message_format.Updates.{plain_updates}
 use Rattle.site_loading.specs.site_steps.SiteViews.{SiteView, schema_of, store_in, IsSameSite}
 use Rattle.program_drills.specs.http_service.site_steps.sync_messages.Messages.{IsMessageOf}
 
--- all updates of the message are taken
+-- `TakesState old bytes new` holds if all updates of the message are applied.
 abbrev pub TakesState : SiteView → List ℕ → SiteView → Type 0
 TakesState before bytes after = (us : List (SentUpdate Policy Entity)) × IsMessageOf (schema_of before) bytes us
     × (store_in after ≡ store_of (updates (store_in before) ++ plain_updates us)) × IsSameSite before after

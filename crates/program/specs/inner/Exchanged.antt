@@ -1,4 +1,4 @@
--- Defines what is done of an exchange where it goes on.
+-- Defines the events of an exchange that goes on.
 use Rattle.std.specs.Prelude.{◌≡◌, ℕ, ◌+◌, ◌++◌, List, [], ◌∷◌, Some, true}
 use Rattle.std.specs.Borrow.{Bor}
 use Rattle.state_exchanges.specs.http_devices.declared.devices.Source.{Ghosts as Source}
@@ -13,7 +13,7 @@ use Rattle.program.specs.Courses.{Course}
 use Rattle.state_exchanges.specs.Counts.{IsTakenLine}
 use Rattle.program.specs.Exchanging.{IsCalled}
 
--- no run goes on so: what ends a run holds of a course that never goes on
+-- `Never`: no run goes on with this course, so a relation that holds with it ends the run.
 abbrev pub Never : {A L : Type 0} → A → Course L
 Never any events end = ⊥
 
@@ -21,17 +21,17 @@ abbrev pub NoCourse : {L : Type 0} → Course L
 NoCourse events end = ⊥
 
 module _ {R W : Type 0} (reader : Source R) (writer : Sink W) where
-  -- a call brought this reply over a connection that stood, which was let go
+  -- a call got this reply over an open connection, which was closed
   abbrev pub IsRepliedOver : RoundCall → List ℕ → Link R W → List ℕ → List (Event (Link R W)) → Type 0
   IsRepliedOver at body link reply events = (left : Link R W) × IsCalled reader writer at body link reply left
       × (events ≡ closed left ∷ [])
 
-  -- and over one that was opened for it
+  -- the same over a connection that was opened for it
   abbrev pub IsReplied : RoundCall → List ℕ → List ℕ → List (Event (Link R W)) → Type 0
   IsReplied at body reply events = (link left : Link R W) × IsCalled reader writer at body link reply left
       × (events ≡ connected at.address.now (Some link) ∷ closed left ∷ [])
 
-  -- the three calls of a direction, and the line of its count
+  -- the three calls of one direction, and the line with its count
   pub record WasExchanged (first : ℕ) (to from : Bor (List ℕ)) (events : List (Event (Link R W))) : Type 0 where
     pub summary : List ℕ
     pub delta : List ℕ

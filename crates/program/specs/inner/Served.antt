@@ -1,4 +1,4 @@
--- What each step of a run that serves comes to.
+-- Defines the outcome of each step of a run of `serve`.
 use Rattle.std.specs.Prelude.{◌≡◌, ℕ, zero, suc, Bool, true, false, List, [], ◌∷◌, ◌++◌, Some, Result, Ok, Err}
 use Rattle.state_exchanges.specs.http_devices.declared.devices.Source.{Ghosts as Source}
 use Rattle.state_exchanges.specs.http_devices.declared.devices.Sink.{Ghosts as Sink}
@@ -11,36 +11,36 @@ use Rattle.program.specs.Serving.{Serving, failing_line, pause_after, IsFailure,
 use Rattle.program.specs.Serving.{AreServed, AreCutShort}
 
 module _ {L : Type 0} where
-  -- what a failure brings, with so many right before: a warning of the first, and a pause
+  -- a failure that directly follows this number of others: a warning for the first, and a pause
   abbrev pub IsFailureNoted : List ℕ → ℕ → List (Event L) → Type 0
   IsFailureNoted address zero events = (done : Bool)
       × (events ≡ wrote Faults (ended (failing_line address)) done ∷ paused (pause_after zero) ∷ [])
   IsFailureNoted address (suc before) events = events ≡ paused (pause_after (suc before)) ∷ []
 
-  -- a connection came, or none could be accepted, with so many failures right before
+  -- a connection was accepted, or accepting failed, directly after this number of failures
   abbrev pub IsTried : List ℕ → ℕ → Result L NetworkFailed → List (Event L) → Type 0
   IsTried address before (Ok link) events = events ≡ accepted (Some link) ∷ []
   IsTried address before (Err failed) events = IsFailure address before events
 
-  -- a connection came, behind as many failures as there were, or it was given up
+  -- a connection was accepted after any number of failures, or the run gave up
   abbrev pub IsAwaited : List ℕ → Result L NetworkFailed → List (Event L) → Type 0
   IsAwaited address (Ok link) events = (number : ℕ) × (failures : List (Event L)) × AreFailures address number failures
       × (events ≡ failures ++ accepted (Some link) ∷ [])
   IsAwaited address (Err failed) events = IsGivenUp address events
 
-  -- where it is due, a warning is written, whether or not the stream takes it
+  -- if the boolean is true, a warning is written, whether or not the stream fails
   abbrev pub IsWarned : Bool → List ℕ → List (Event L) → Type 0
   IsWarned false line events = events ≡ []
   IsWarned true line events = (done : Bool) × (events ≡ wrote Faults (ended line) done ∷ [])
 
 module _ {R W G : Type 0} (reader : Source R) (writer : Sink W) (log : Sink G) where
-  -- a connection was served, or none came
+  -- a connection was served, or not accepted
   abbrev pub IsNextOrNone : List ℕ → Serving G → Result (Unit {0}) NetworkFailed → List (Event (Link R W))
       → Serving G → Type 0
   IsNextOrNone address old (Ok done) events new = IsNextServed reader writer log address old events new
   IsNextOrNone address old (Err failed) events new = IsGivenUp address events × (new ≡ old)
 
-  -- so many were served, or fewer came
+  -- this number of connections was served, or fewer were accepted
   abbrev pub AreServedOrFewer : List ℕ → ℕ → Serving G → Result (Unit {0}) NetworkFailed → List (Event (Link R W))
       → Serving G → Type 0
   AreServedOrFewer address most old (Ok done) events new = AreServed reader writer log address most old events new

@@ -1,4 +1,4 @@
--- Steps of a run, as they are taken: a file that was read, or was not, and what is told of it.
+-- Defines the steps of a run that reads a file: it was read, or was not, which is reported.
 use Rattle.std.specs.Prelude.{◌≡◌, ℕ, List, ◌∷◌, Option, None, Some, Result, Ok, Err}
 use Rattle.program.specs.declared.device.FileFault.{FileFault}
 use Rattle.program.specs.declared.device.FileFault.TheVariants.{Missing}
@@ -6,29 +6,29 @@ use Rattle.program.specs.Events.{Event, read}
 use Rattle.program.specs.Reports.{IsFileReported}
 use Rattle.program.specs.Courses.{Course}
 
--- what came of a file that need not be there
+-- the result of reading a file that may be missing
 abbrev pub found_as : Option (List ℕ) → Result (List ℕ) FileFault
 found_as None = Err Missing
 found_as (Some bytes) = Ok bytes
 
--- a file was read, if one is named
+-- the file was read, if it is named
 abbrev pub IsFound : {L H : Type 0} → (H → Event L → H → Type 0) → Option (List ℕ) → Option (List ℕ) → H → H → Type 0
 IsFound does None None old new = new ≡ old
 IsFound does (Some name) (Some bytes) old new = does old (read name (Ok bytes)) new
 IsFound does _ _ old new = ⊥
 
 module _ {L : Type 0} where
-  -- a file was not read, which is told
+  -- the file was not read, which is reported
   abbrev pub IsUnread : List ℕ → Course L
   IsUnread name events end = (fault : FileFault) × (rest : List (Event L)) × (events ≡ read name (Err fault) ∷ rest)
       × IsFileReported name fault rest end
 
-  -- it is there, and was not read
+  -- it exists and was not read, which is reported
   abbrev pub IsUnreadThere : List ℕ → Course L
   IsUnreadThere name events end = (fault : FileFault) × (rest : List (Event L)) × (fault ≡ Missing → ⊥)
       × (events ≡ read name (Err fault) ∷ rest) × IsFileReported name fault rest end
 
-  -- one is named, and was not read, which is told
+  -- it is named and was not read, which is reported
   abbrev pub IsUnreadIfNamed : Option (List ℕ) → Course L
   IsUnreadIfNamed None events end = ⊥
   IsUnreadIfNamed (Some name) events end = IsUnread name events end

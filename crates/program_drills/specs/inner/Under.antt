@@ -1,4 +1,4 @@
--- A script that is played under a schema that was read.
+-- Defines the execution of a script under a parsed schema.
 use Rattle.std.specs.Prelude.{ℕ, List}
 use Rattle.schema_decisions.specs.schema.Schemas.{StatedSchema}
 use Rattle.http_service.specs.site.declared.event.Event.{Event}

@@ -1,4 +1,4 @@
--- What an error of clap's is told as, and what a command lacks.
+-- Defines the error that an error of clap is reported as, and what a command lacks.
 use Rattle.std.specs.Prelude.{List, Option, if◌then◌else◌}
 use Rattle.clap.specs.Words.{Row, Text, kind_of}
 use Rattle.clap.specs.declared.error.Error.{Error}
@@ -11,7 +11,7 @@ abbrev pub sorted : Error → LineFault
 sorted error = if is_help (kind_of error) then Help error
     else if is_memory (kind_of error) then NoMemory else Words error
 
--- a command that was named lacks a site's name, or something else
+-- the named command lacks a valid site name, or something else
 abbrev pub IsLackOf : Option (Text × List Row) → LineFault → Type 0
 IsLackOf named (Help error) = ⊥
 IsLackOf named (Words error) = ⊥

@@ -116,7 +116,7 @@ AddsNames at us old new = AddsEach (NameMay at) (NameMust at) (λ u. ⊤) us old
 abbrev pub AreNames : Numbers → List EntityUid → BTreeMap (List ℕ) ℕ → Type 0
 AreNames at us named = AddsNames at us (λ n. None) (get text_cmp named)
 
--- `type_points es` are the uids that stand for these entity types.
+-- `type_points es` are the uids that represent the entity types `es`.
 abbrev pub type_points : List ResolvedEntityType → List EntityUid
 type_points es = map (λ e. type_uid e.name) es
 

@@ -13,7 +13,7 @@ use Rattle.schema_names.specs.inner.Adding.{has_name}
 use Rattle.schema_types.specs.declared.fault.SchemaFault.{SchemaFault}
 use Rattle.schema_types.specs.declared.fault.SchemaFault.TheVariants.{BadShape, NoMemory}
 
--- `means_by o known otherwise` is what `known` says of a name, or `otherwise` if there is none.
+-- `means_by o known otherwise` is what `known` says of the name `o`, or `otherwise` if `o` is `None`.
 abbrev pub means_by : Option (List ℕ) → (List ℕ → Bool) → Bool → Bool
 means_by (Some q) known otherwise = known q
 means_by None known otherwise = otherwise

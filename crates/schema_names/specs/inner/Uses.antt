@@ -27,7 +27,7 @@ abbrev pub place_meant : (List ℕ → Option ℕ) → Option (List ℕ) → Opt
 place_meant place None = None
 place_meant place (Some q) = place q
 
--- `in_list o` is the list of an index, empty if there is none.
+-- `in_list o` is the list of the index `o`, empty if `o` is `None`.
 abbrev pub in_list : Option ℕ → List ℕ
 in_list None = []
 in_list (Some a) = a ∷ []

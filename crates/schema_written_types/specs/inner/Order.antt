@@ -6,7 +6,7 @@ use Rattle.schema_types.specs.Qualified.{Qualified, QualifiedFields}
 use Rattle.schema_types.specs.WrittenOut.{Declarations}
 use Rattle.schema_written_types.specs.Orders.{Graph}
 
--- `listed o` is the list of an index, empty if there is none.
+-- `listed o` is the list of the index `o`, empty if `o` is `None`.
 abbrev pub listed : Option ℕ → List ℕ
 listed None = []
 listed (Some a) = a ∷ []

@@ -1,4 +1,4 @@
--- The faults of a fetch among those of a pull.
+-- Defines the errors of a fetch as errors of a pull.
 use Rattle.schema_decisions.specs.answer_lines.Refusals.{no_memory}
 use Rattle.http_streams.specs.declared.fetch.FetchFault.{FetchFault}
 use Rattle.http_streams.specs.declared.fetch.FetchFault.TheVariants as fetch

@@ -1,4 +1,4 @@
--- Two messages merged under a schema that is read already.
+-- Defines the merge of two messages under a parsed schema.
 use Rattle.std.specs.Prelude.{◌≡◌, ℕ, List, Result, Ok}
 use Rattle.schema_decisions.specs.answer_lines.declared.refusal.Refusal.{Refusal}
 use Rattle.sync_messages.specs.schema.Schemas.{StatedSchema}

@@ -24,7 +24,7 @@ use Rattle.type_checker.specs.declared.typed.Then.TheVariants as then
 use Rattle.type_capabilities.specs.Pairs.{pairs}
 use Rattle.std.specs.declared.alloc.Global.{Global}
 
--- `Judged env K x r after` holds if `r` is the judgement on `x`, where the capabilities `K` are known.
+-- `Judged env K x r after` holds if `r` is the type of `x` or its error, where the capabilities `K` are known.
 abbrev pub Judged : Environment → Pairs → Expr → Result Typed ExpressionFault → Pairs → Type 0
 Judged env K x r after =
     MatchResult r (λ t. (after ≡ K) × Types env K x (static_view t.kind) (pairs t.learns.items))

@@ -20,13 +20,13 @@ use Rattle.value_paths.specs.inner.FoundPaths.{under, record_path}
 abbrev pub Names : Option Data → EntityUid → Type 0
 Names o uid = MatchOption o ⊥ (λ d. NamesEntity d uid)
 
--- `IsNamed o yes` holds if `yes` tells whether `o` names an entity.
+-- `IsNamed o yes` holds if `yes` is whether `o` names an entity.
 abbrev pub IsNamed : Option Data → Bool → Type 0
 IsNamed o true = (uid : EntityUid) × Names o uid
 IsNamed o false = ((uid : EntityUid) × Names o uid) → ⊥
 
 -- `request_demands d principal action resource` are the demands on the form of a request, in order, where the three
--- tests tell which names are given.
+-- booleans say which names are given.
 abbrev pub request_demands : Data → Bool → Bool → Bool → List Demand
 request_demands d principal action resource =
     (is_some (as_object d), [])

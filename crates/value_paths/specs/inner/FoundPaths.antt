@@ -11,7 +11,7 @@ use Rattle.entity_values.specs.Typing.{typed_value, with_or}
 use Rattle.value_paths.specs.declared.steps.Step.{Step}
 use Rattle.value_paths.specs.declared.steps.Step.TheVariants.{Key, Index}
 
--- `or_else o p` is `o`, or `p` if there is none.
+-- `or_else o p` is `o`, or `p` if `o` is `None`.
 abbrev pub or_else : {A : Type 0} → Option A → Option A → Option A
 or_else (Some a) p = Some a
 or_else None p = p

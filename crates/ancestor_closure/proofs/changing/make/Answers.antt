@@ -7,6 +7,11 @@ use Rattle.ancestor_closure.proofs.Following.{lists_right, whose, made, taken_ba
 use Rattle.ancestor_closure.proofs.Updates.{is_there}
 use Rattle.ancestor_closure.proofs.changing.make.Goals as goal
 
+pub planned-requires-clause-known : goal.planned-requires-clause-known
+planned-requires-clause-known g c =
+    let but = c.requires.kept in
+    record { before = but.before; above = but.kept.above; below = but.kept.below; others = but.others }
+
 pub begin-requires-clause-ascend : goal.begin-requires-clause-ascend
 begin-requires-clause-ascend g c = λ x list h. (c.in_ok-change.ensures.right x list h).1
 

@@ -15,4 +15,4 @@ loop-token-preserved c =
 
 pub returns : goal.returns
 returns c =
-    (c.loop-token.open, all_tokens c.args.tokens.now c.loop-token.token-index c.loop-token.pieces.items c.loop-token.open c.loop-token-test.false c.loop-token.invariant)
+    (c.loop-token.pieces.items, c.loop-token.open, all_tokens c.args.tokens.now c.loop-token.token-index c.loop-token.pieces.items c.loop-token.open c.loop-token-test.false c.loop-token.invariant, c.in_ok-push_open.ensures)

@@ -1,6 +1,7 @@
 use Rattle.std.proofs.Common.{string_bytes}
 use Rattle.schema_decisions.specs.schema.Views.{schema_view}
 use Rattle.std.proofs.Common.{◌∙◌, refl}
+use Rattle.explanations.specs.Policies.{large_note}
 use Rattle.schema_decisions.specs.validator.Faults.{code_of}
 use Rattle.schema_decisions.specs.validator.Passing.{Passes, IsCheckRefused}
 use Rattle.explanations.proofs.Joining.{some_so, none_so, policy_passes, policy_large, source_is}
@@ -14,8 +15,8 @@ returns-in_ok-push_at-in-Some c = λ large.
     let new = string_bytes c.push_at.new.out in
     policy_large s c.args.file.now c.args.text.now c.args.piece p old new c.in-Some.fault large
     (some_so (Passes s p) (IsCheckRefused s p) c.in-Some.is c.in_ok-rejection_of.ensures)
-    (source_is c.args.file.now c.args.text.now old new c.from.result (code_of c.in-Some.fault) c.args.piece.start c.args.piece.start
-    (c.from.ensures ∙ c.code.ensures) refl c.in_ok-push_at-in-Some.ensures)
+    (source_is c.args.file.now c.args.text.now large_note large_note old new c.from.result (code_of c.in-Some.fault) c.args.piece.start c.args.piece.start
+    refl (c.from.ensures ∙ c.code.ensures) refl c.in_ok-push_at-in-Some.ensures)
 
 pub returns-in-None : goal.returns-in-None
 returns-in-None c = λ large.

@@ -14,6 +14,7 @@ returns c =
         end = c.spot_of-spot.ensures.end;
         cause = c.as_str.ensures.value;
         detail = c.as_str-2.ensures.value;
+        note = c.spot_of-spot.ensures.note;
         is_text = e.1;
       },
       e.2,

@@ -20,7 +20,7 @@ step_smaller : (text rest : List ℕ) (at len : ℕ) → at < length text → Cu
 step_smaller text rest at len h k = omega (arith, k.some)
 
 pub loop-at-init : goal.loop-at-init
-loop-at-init c = record { within = omega arith; cut = IsCharBoundary-start c.args.text.now c.utf8.text; lexed = rw c.new-tokens.ensures.items finish }
+loop-at-init c = record { within = omega arith; cut = IsCharBoundary-start c.args.text.now c.utf8.text; lexed = rw c.in_ok-tokens.ensures.items finish }
 
 pub loop-at-smaller-in-Some : goal.loop-at-smaller-in-Some
 loop-at-smaller-in-Some c =

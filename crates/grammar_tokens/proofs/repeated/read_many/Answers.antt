@@ -15,5 +15,5 @@ after_none ks p ts rest none r empty =
 
 pub returns : goal.returns
 returns g c = λ p reads.
-    after_none (g.S.KindSet.included c.args.set) p c.args.tokens.now.rest.now c.read_on.new.tokens.rest.now c.new.result
-    c.read_on.result c.new.ensures (c.read_on.ensures p reads)
+    after_none (g.S.KindSet.included c.args.set) p c.args.tokens.now.rest.now c.read_on.new.tokens.rest.now c.in_ok-none.none
+    c.read_on.result c.in_ok-none.ensures (c.read_on.ensures p reads)

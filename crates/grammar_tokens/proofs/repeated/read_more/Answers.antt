@@ -14,5 +14,5 @@ after_one ks p ts rest first none one r empty begun =
 
 pub returns : goal.returns
 returns g c = λ p reads.
-    after_one (g.S.KindSet.included c.args.set) p c.args.tokens.now.rest.now c.read_on.new.tokens.rest.now c.args.first c.new-found.result c.push.new.self
-    c.read_on.result c.new-found.ensures c.in_ok-push.ensures.ok (c.read_on.ensures p reads)
+    after_one (g.S.KindSet.included c.args.set) p c.args.tokens.now.rest.now c.read_on.new.tokens.rest.now c.args.first c.in_ok-found.found c.push.new.self
+    c.read_on.result c.in_ok-found.ensures c.in_ok-push.ensures.ok (c.read_on.ensures p reads)

@@ -1,30 +1,25 @@
-use Rattle.std.proofs.Common.{ℕ, List, Option, option_map, inl, subst}
+use Rattle.std.proofs.Common.{ℕ, List, option_map, inl, inr, subst}
 use Rattle.std.specs.Process.{exit_status}
 use Rattle.explanations.specs.Files.{Files}
+use Rattle.program.specs.Beginning.{IsNotBegun}
 use Rattle.program.specs.Events.{Runs}
-use Rattle.program.specs.Explained.{IsRefusalText, IsRefusalTold, Explains}
-use Rattle.program.specs.Loading.{IsLoaded, IsLoadRefused, load_files}
+use Rattle.program.specs.Explained.{schema_files, IsRefusalText, IsRefusalTold, Explains}
 use Rattle.program.proofs.EventLemmas.{runs_as}
-use Rattle.program.proofs.RefusalLemmas.{line_refused_with}
+use Rattle.program.proofs.RefusalLemmas.{refused_with}
 use Rattle.program.proofs.loads.load_held.Goals as goal
 
 pub returns-in-Ok : goal.returns-in-Ok
 returns-in-Ok g c =
-    runs_as g.H.Host.does _ _ _ _ (λ events told. inl (c.in-Ok.line.items, c.in-Ok.ensures.loaded, told))
-    (rw (c.deref.ensures.value) at c.report_answer.ensures)
+    runs_as g.H.Host.does _ _ _ _ (λ events told. inl (c.in-Ok.site, c.in-Ok.ensures.begun, told)) c.put_held.ensures
 
 pub returns-in-Err : goal.returns-in-Err
 returns-in-Err g c =
     let options = c.args.options.now in
     let schema = c.args.schema.now in
     let state = option_map (λ s. s.now) c.args.state in
-    let policies = option_map (λ p. p.now) c.args.policies in
-    let entities = option_map (λ e. e.now) c.args.entities in
-    let files = load_files options schema policies entities in
     let end = exit_status c.report_rejected.result in
     let refusal = c.in-Err.refusal in
     let told = subst (λ (f : Files). Runs g.H.Host.does c.args.host.now c.report_rejected.new.host (λ events. Explains options.explain (IsRefusalText f refusal.code) (IsRefusalTold refusal) events end))
-    c.load_given-given.ensures c.report_rejected.ensures in
-    runs_as g.H.Host.does _ _ _ _ (
-    line_refused_with (IsLoadRefused schema options.site state policies entities) (IsLoaded schema options.site state policies entities) options.explain files refusal end
-    c.in-Err.ensures.refused) told
+    c.schema_given-given.ensures c.report_rejected.ensures in
+    runs_as g.H.Host.does _ _ _ _ (λ events told. inr (refused_with (IsNotBegun schema state) options.explain (schema_files options.schema.now schema) refusal end c.in-Err.ensures.refused events told))
+    told

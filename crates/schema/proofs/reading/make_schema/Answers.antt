@@ -8,10 +8,10 @@ pub invariant_of-result : goal.invariant_of-result
 invariant_of-result c =
     let s = found_view c.args.found.now in
     let sound = is_sound s (knowledge c.args.table.now) c.requires.written c.requires.whole (records_written s c.in_ok-types.types c.in_ok-types.ensures) c.requires.edges.no_cycle in
-    (c.args.bytes.now, made_schema c.args.bytes.now s c.requires.states (c.files_name_their_entity_types.ensures c.args.bytes.now s c.requires.states) sound c.in_ok-label.label c.in_ok-label.ensures c.in_ok-types.types c.in_ok-hierarchies.hierarchies c.in_ok-types.ensures c.in_ok-hierarchies.ensures)
+    (c.args.bytes.now, ((c.schemas_are_read_as_stated.ensures c.args.bytes.now).states _).0 (made_schema c.args.bytes.now s c.requires.states (c.files_name_their_entity_types.ensures c.args.bytes.now s c.requires.states) sound c.in_ok-label.label c.in_ok-label.ensures c.in_ok-types.types c.in_ok-hierarchies.hierarchies c.in_ok-types.ensures c.in_ok-hierarchies.ensures))
 
 pub returns : goal.returns
 returns c =
     let s = found_view c.args.found.now in
     let sound = is_sound s (knowledge c.args.table.now) c.requires.written c.requires.whole (records_written s c.in_ok-types.types c.in_ok-types.ensures) c.requires.edges.no_cycle in
-    made_schema c.args.bytes.now s c.requires.states (c.files_name_their_entity_types.ensures c.args.bytes.now s c.requires.states) sound c.in_ok-label.label c.in_ok-label.ensures c.in_ok-types.types c.in_ok-hierarchies.hierarchies c.in_ok-types.ensures c.in_ok-hierarchies.ensures
+    ((c.schemas_are_read_as_stated.ensures c.args.bytes.now).states _).0 (made_schema c.args.bytes.now s c.requires.states (c.files_name_their_entity_types.ensures c.args.bytes.now s c.requires.states) sound c.in_ok-label.label c.in_ok-label.ensures c.in_ok-types.types c.in_ok-hierarchies.hierarchies c.in_ok-types.ensures c.in_ok-hierarchies.ensures)

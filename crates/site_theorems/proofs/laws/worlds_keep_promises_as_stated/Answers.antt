@@ -7,4 +7,4 @@ returns c bytes schema stated =
     let v = schema_view schema in
     promises_as_stated c.steps_are_as_stated.ensures c.entities_are_read_as_stated.ensures.read
     c.updates_are_read_as_stated.ensures.read v
-    (c.worlds_keep_promises.ensures schema (bytes, ((c.schemas_are_read_as_stated.ensures.read bytes).states v).1 stated))
+    (c.worlds_keep_promises.ensures schema (bytes, stated))

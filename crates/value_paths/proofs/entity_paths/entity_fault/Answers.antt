@@ -13,9 +13,9 @@ returns-in-Some c =
     let s = schema_view c.args.schema.now in
     let d = view c.args.value.now in
     if_ok c.placed_fault.result (λ o. entity_stated_in s d ≡ Err c.in-Some.fault → IsEntityFault s d o) (IsEntityFault s d)
-    (λ o h. h (entity_refused s d c.read_entity-read.result c.in-Some.fault c.read_entity-read.ensures (subst (IsFaultOf c.read_entity-read.result) c.in-Some.is c.in_ok-fault.ensures)))
+    (λ o h. h (entity_refused s d c.read_entity-read.result c.in-Some.fault c.read_entity-read.ensures.read (subst (IsFaultOf c.read_entity-read.result) c.in-Some.is c.in_ok-fault.ensures)))
     c.placed_fault.ensures
 
 pub returns-in-None : goal.returns-in-None
 returns-in-None c =
-    entity_read (schema_view c.args.schema.now) (view c.args.value.now) c.read_entity-read.result c.read_entity-read.ensures (subst (IsFaultOf c.read_entity-read.result) c.in-None.is c.in_ok-fault.ensures)
+    entity_read (schema_view c.args.schema.now) (view c.args.value.now) c.read_entity-read.result c.read_entity-read.ensures.read (subst (IsFaultOf c.read_entity-read.result) c.in-None.is c.in_ok-fault.ensures)

@@ -1,6 +1,6 @@
 use Rattle.std.proofs.Common.{◌+◌}
-use Rattle.token_counts.specs.TokenCounts.{tree_count}
-use Rattle.token_counts.proofs.Dropping.{twice}
+use Rattle.written_forms.specs.TokenCounts.{tree_count}
+use Rattle.written_forms.proofs.Dropping.{twice}
 use Rattle.written_forms.proofs.conditions.behind_condition.Goals as goal
 
 pub returns : goal.returns

@@ -1,7 +1,7 @@
 use Rattle.std.proofs.Common.{ap, ◌∙◌, drop, take, map, length}
 use Rattle.grammar_trees.specs.declared.tree.ExprTree.TheVariants as t
 use Rattle.grammar_trees.specs.declared.tree.ExprTree.TheOpen.{ExprTree-F as tree}
-use Rattle.token_counts.specs.TokenCounts.{tree_count, term_count, access_tree_count, each_count, total}
+use Rattle.written_forms.specs.TokenCounts.{tree_count, term_count, access_tree_count, each_count, total}
 use Rattle.written_forms.specs.Forms.{form_of, kept, behind_test}
 use Rattle.written_forms.proofs.Opening.{seen_behind, behind-other}
 use Rattle.written_forms.proofs.forms.behind_form.Goals as goal

@@ -2,7 +2,7 @@ use Rattle.std.proofs.Common.{ap, ◌∙◌, drop, length}
 use Rattle.grammar_trees.specs.declared.tree.ExprTree.{out-ExprTree}
 use Rattle.grammar_trees.specs.declared.tree.ExprTree.TheVariants as t
 use Rattle.grammar_trees.specs.declared.tree.ExprTree.TheOpen.{ExprTree-F as tree}
-use Rattle.token_counts.specs.TokenCounts.{tree_count}
+use Rattle.written_forms.specs.TokenCounts.{tree_count}
 use Rattle.written_forms.specs.Forms.{form_of, whole, row_at, entry_at, member_at, one_at, behind_minus, chain_at, piece_at, term_at, kept, compared_at, both, is_outer, is_negated, in_test_at, three_at}
 use Rattle.written_forms.proofs.Opening.{seen}
 use Rattle.written_forms.proofs.forms.operand.Goals as goal

@@ -1,8 +1,8 @@
 use Rattle.std.proofs.Common.{◌≡◌, ◌+◌, sym, ap, ◌∙◌, drop, length, List, map, arith}
 use Rattle.grammar_trees.specs.grammar_tokens.declared.tree.UidTree.{UidTree}
 use Rattle.grammar_policies.specs.declared.tree.ActionTree.TheVariants.{InList}
-use Rattle.token_counts.specs.TokenCounts.{uid_count, each_count, lone_count}
-use Rattle.token_counts.proofs.Dropping.{twice, length-mapped}
+use Rattle.written_forms.specs.TokenCounts.{uid_count, each_count, lone_count}
+use Rattle.written_forms.proofs.Dropping.{twice, length-mapped}
 use Rattle.written_forms.specs.Places.{action_count}
 use Rattle.written_forms.proofs.parts.behind_action.Goals as goal
 

@@ -1,6 +1,6 @@
 use Rattle.std.proofs.Common.{◌+◌, sym, ap, ◌∙◌, drop}
-use Rattle.token_counts.specs.TokenCounts.{path_count, uid_count}
-use Rattle.token_counts.proofs.Dropping.{twice}
+use Rattle.written_forms.specs.TokenCounts.{path_count, uid_count}
+use Rattle.written_forms.proofs.Dropping.{twice}
 use Rattle.written_forms.specs.Places.{part_count}
 use Rattle.written_forms.proofs.parts.behind_part.Goals as goal
 

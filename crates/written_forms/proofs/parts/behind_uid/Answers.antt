@@ -1,5 +1,5 @@
-use Rattle.token_counts.specs.TokenCounts.{path_count}
-use Rattle.token_counts.proofs.Dropping.{twice}
+use Rattle.written_forms.specs.TokenCounts.{path_count}
+use Rattle.written_forms.proofs.Dropping.{twice}
 use Rattle.written_forms.proofs.parts.behind_uid.Goals as goal
 
 pub returns : goal.returns

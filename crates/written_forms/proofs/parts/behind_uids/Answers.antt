@@ -1,6 +1,6 @@
 use Rattle.std.proofs.Common.{refl, ◌∙◌, ◌+◌}
-use Rattle.token_counts.specs.TokenCounts.{each_count, uid_count}
-use Rattle.token_counts.proofs.Dropping.{twice, turned}
+use Rattle.written_forms.specs.TokenCounts.{each_count, uid_count}
+use Rattle.written_forms.proofs.Dropping.{twice, turned}
 use Rattle.written_forms.proofs.parts.behind_uids.Goals as goal
 
 pub loop-uid-preserved : goal.loop-uid-preserved

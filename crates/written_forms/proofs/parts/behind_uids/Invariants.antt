@@ -1,5 +1,5 @@
 use Rattle.std.proofs.Common.{◌≡◌, drop, map}
-use Rattle.token_counts.specs.TokenCounts.{uid_count, each_count}
+use Rattle.written_forms.specs.TokenCounts.{uid_count, each_count}
 use Rattle.written_forms.proofs.parts.behind_uids.Given as goal
 
 abbrev pub invariant-loop-uid : goal.invariant-loop-uid

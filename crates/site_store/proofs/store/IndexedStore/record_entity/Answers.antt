@@ -11,18 +11,18 @@ pub stand-requires : goal.stand-requires
 stand-requires c = as_lent c.self.inside.schema c.get.result.now c.get.ensures c.self.inside.store c.self.inside.index
     c.self.inside.ancestors c.self.invariant
 
-pub take_entity-requires : goal.take_entity-requires
-take_entity-requires c = ancestors_as_lent c.self.inside.schema c.get-2.result.now c.get-2.ensures c.self.inside.store.entities
+pub record_entity-requires : goal.record_entity-requires
+record_entity-requires c = ancestors_as_lent c.self.inside.schema c.get-2.result.now c.get-2.ensures c.self.inside.store.entities
     c.stand.new.ancestors (as_held c.self.inside.schema c.get.result.now c.get.ensures c.self.inside.store c.stand.new.index c.stand.new.ancestors c.stand.ensures).ancestors_are
 
 pub invariant_of-self : goal.invariant_of-self
 invariant_of-self c =
     let old = c.self.inside.store in
-    beside_entity c.self.inside.schema c.get-2.result.now c.get-2.ensures c.take_entity.result c.take_entity.new.store old
-    (taken uid_cmp greater old.entities c.args.uid c.args.entry) c.take_entity.ensures.kept c.take_entity.ensures.err
-    c.stand.new.index c.stand.ensures.index_is c.take_entity.new.ancestors c.take_entity.ensures.followed
+    beside_entity c.self.inside.schema c.get-2.result.now c.get-2.ensures c.record_entity.result c.record_entity.new.store old
+    (taken uid_cmp greater old.entities c.args.uid c.args.entry) c.record_entity.ensures.kept c.record_entity.ensures.err
+    c.stand.new.index c.stand.ensures.index_is c.record_entity.new.ancestors c.record_entity.ensures.followed
 
 pub returns-clause-others : goal.returns-clause-others
 returns-clause-others c =
-    subst (λ (v : StoreView). OnOk c.take_entity.result (KeepsOtherNames (entity_name c.args.uid) (abstract_store v.kept)
-    (abstract_store c.take_entity.new.store))) c.self.view_is c.take_entity.ensures.others
+    subst (λ (v : StoreView). OnOk c.record_entity.result (KeepsOtherNames (entity_name c.args.uid) (abstract_store v.kept)
+    (abstract_store c.record_entity.new.store))) c.self.view_is c.record_entity.ensures.others

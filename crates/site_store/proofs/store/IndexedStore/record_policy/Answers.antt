@@ -14,12 +14,12 @@ stand-requires c = as_lent c.self.inside.schema c.get.result.now c.get.ensures c
 pub invariant_of-self : goal.invariant_of-self
 invariant_of-self c =
     let old = c.self.inside.store in
-    beside_policy c.self.inside.schema c.take_policy.result c.take_policy.new.store old
-    (taken string_cmp greater old.policies c.args.id c.args.entry) c.take_policy.ensures.kept c.take_policy.ensures.err
-    c.take_policy.new.index c.take_policy.ensures.indexed c.stand.new.ancestors
+    beside_policy c.self.inside.schema c.record_policy.result c.record_policy.new.store old
+    (taken string_cmp greater old.policies c.args.id c.args.entry) c.record_policy.ensures.kept c.record_policy.ensures.err
+    c.record_policy.new.index c.record_policy.ensures.indexed c.stand.new.ancestors
     (as_held c.self.inside.schema c.get.result.now c.get.ensures c.self.inside.store c.stand.new.index c.stand.new.ancestors c.stand.ensures).ancestors_are
 
 pub returns-clause-others : goal.returns-clause-others
 returns-clause-others c =
-    subst (λ (v : StoreView). OnOk c.take_policy.result (KeepsOtherNames (policy_name (string_bytes c.args.id)) (abstract_store v.kept)
-    (abstract_store c.take_policy.new.store))) c.self.view_is c.take_policy.ensures.others
+    subst (λ (v : StoreView). OnOk c.record_policy.result (KeepsOtherNames (policy_name (string_bytes c.args.id)) (abstract_store v.kept)
+    (abstract_store c.record_policy.new.store))) c.self.view_is c.record_policy.ensures.others

@@ -1,0 +1,92 @@
+-- Defines which JSON states which context and which request, and the error of all other JSON.
+-- Source: Cedar reference guide 4.0, "Authorization request".
+-- Rules of this product: principal, action and resource are each a uid as an entity's, or its string; an absent
+-- context is empty, and null is not absent; other keys are ignored; the order of the errors.
+use Rattle.std.specs.Prelude.{◌≡◌, List, ◌∷◌, codes}
+use Rattle.serde_json.specs.Data.{Data, Members, object}
+use Rattle.values.specs.Fields.{Field}
+use Rattle.values.specs.Values.{record_of, fields_of}
+use Rattle.values.specs.declared.entity_uid.EntityUid.{EntityUid}
+use Rattle.values.specs.declared.request.Request.{Request}
+use Rattle.entity_values.specs.declared.fault.ValueFault.{ValueFault}
+use Rattle.schema_types.specs.Cedar.{Cedar}
+use Rattle.schema.specs.declared.parts.Place.{Place}
+use Rattle.schema.specs.Schemas.{EnvironmentOf, StatedSchema}
+use Rattle.entities.specs.declared.fault.EntityFault.{EntityFault}
+use Rattle.entities.specs.declared.fault.EntityFault.TheVariants.{BadShape, NotApplicable}
+use Rattle.entities.specs.declared.requests.Asked.{Asked}
+use Rattle.entities.specs.Requests.{NamesAt, asked_by}
+use Rattle.entities.specs.StatedValues.{Reads, RefusesRecord}
+use Rattle.entities.specs.StatedEntities.{ObjectAt, IsToldAs}
+
+-- ---- the context of an action
+
+-- `IsOfAction action place` holds if `place` is one of `action`.
+abbrev pub IsOfAction : EntityUid → Place → Type 0
+IsOfAction action place = place.action ≡ action
+
+-- `AppliesTo asked place` holds if `place` has the action of `asked`, and the types of its principal and resource.
+pub record AppliesTo (asked : Asked) (place : Place) : Type 0 where
+  pub same_action : place.action ≡ asked.action
+  pub same_principal : place.principal ≡ asked.principal.type_name
+  pub same_resource : place.resource ≡ asked.resource.type_name
+
+-- `HasContext IsPlace environments t` holds if `t` is the context's type in the first of `environments` whose place
+-- `IsPlace` holds of. (All environments of an action have one context.)
+pub data HasContext (IsPlace : Place → Type 0) : List EnvironmentOf → Cedar → Type 0 where
+  first_place : (e : EnvironmentOf) (more : List EnvironmentOf) → IsPlace e.place
+      → HasContext IsPlace (e ∷ more) e.context
+  later_place : (e : EnvironmentOf) (more : List EnvironmentOf) (t : Cedar) → (IsPlace e.place → ⊥)
+      → HasContext IsPlace more t → HasContext IsPlace (e ∷ more) t
+
+-- `ReadsContext IsPlace s ms fields` holds if the object with the members `ms` states the context `fields` of an
+-- environment of the schema `s` whose place `IsPlace` holds of.
+pub record ReadsContext (IsPlace : Place → Type 0) (s : StatedSchema) (ms : Members) (fields : List Field)
+    : Type 0 where
+  pub shape : Cedar
+  pub applies : HasContext IsPlace s.environments shape
+  pub reads : Reads shape (object ms) (record_of (fields_of fields))
+
+-- `FailsContext IsPlace s ms fault` holds if the object with the members `ms` states none, and `fault` is the first
+-- error: no environment has such a place, or the object is not a record of the context's type.
+pub data FailsContext (IsPlace : Place → Type 0) (s : StatedSchema) (ms : Members) : EntityFault → Type 0 where
+  not_applicable : ((t : Cedar) → HasContext IsPlace s.environments t → ⊥) → FailsContext IsPlace s ms NotApplicable
+  bad_fields : (t : Cedar) (f : ValueFault) (fault : EntityFault) → HasContext IsPlace s.environments t
+      → RefusesRecord t ms f → IsToldAs f fault → FailsContext IsPlace s ms fault
+
+-- `StatesContext s action d fields` holds if `d` is an object that states the context `fields` of `action` under `s`.
+pub record StatesContext (s : StatedSchema) (action : EntityUid) (d : Data) (fields : List Field) : Type 0 where
+  pub members : Members
+  pub is_object : d ≡ object members
+  pub reads : ReadsContext (IsOfAction action) s members fields
+
+-- `RefusesContext s action d fault` holds if `d` states no context of `action` under `s`, and `fault` is the first
+-- error.
+pub data RefusesContext (s : StatedSchema) (action : EntityUid) (d : Data) : EntityFault → Type 0 where
+  other_json : ((ms : Members) → d ≡ object ms → ⊥) → RefusesContext s action d BadShape
+  bad_context : (ms : Members) (fault : EntityFault) → d ≡ object ms → FailsContext (IsOfAction action) s ms fault
+      → RefusesContext s action d fault
+
+-- ---- requests
+
+-- `Asks d asked ms` holds if `d` has the form of a request: it names the principal, the action and the resource
+-- `asked`, and its context is absent or an object, with the members `ms`.
+pub record Asks (d : Data) (asked : Asked) (ms : Members) : Type 0 where
+  pub principal : NamesAt (codes "principal") d asked.principal
+  pub action : NamesAt (codes "action") d asked.action
+  pub resource : NamesAt (codes "resource") d asked.resource
+  pub has_context : ObjectAt (codes "context") d ms
+
+-- `DescribesRequest s d q` holds if `d` states the request `q` under the schema `s`: the action applies to the types
+-- of principal and resource, and the context is the record that `d` states by the context's type.
+pub record DescribesRequest (s : StatedSchema) (d : Data) (q : Request) : Type 0 where
+  pub members : Members
+  pub asks : Asks d (asked_by q) members
+  pub reads : ReadsContext (AppliesTo (asked_by q)) s members q.context
+
+-- `RefusesRequest s d fault` holds if `d` states no request under `s`, and `fault` is the first error: its form, that
+-- the action does not apply, and its context.
+pub data RefusesRequest (s : StatedSchema) (d : Data) : EntityFault → Type 0 where
+  no_request : ((asked : Asked) (ms : Members) → Asks d asked ms → ⊥) → RefusesRequest s d BadShape
+  bad_request : (asked : Asked) (ms : Members) (fault : EntityFault) → Asks d asked ms
+      → FailsContext (AppliesTo asked) s ms fault → RefusesRequest s d fault

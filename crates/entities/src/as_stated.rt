@@ -1,0 +1,58 @@
+//! Theorems: parsing gives what the relations on JSON say. The functions are no-ops.
+ghost use Rattle.entities.specs.AsStated.{ValuesAreRead, OneValue, OtherJsonIsOfWrongType};
+ghost use Rattle.entities.specs.AsStated.{RecordsAreRead, RecordsAreRefused};
+ghost use Rattle.entities.specs.AsStated.{EntitiesAreRead, EntitiesHaveOneOutcome};
+ghost use Rattle.entities.specs.AsStated.{ContextsAreRead, ContextsHaveOneOutcome};
+ghost use Rattle.entities.specs.AsStated.{RequestsAreRead, RequestsHaveOneOutcome};
+
+use crate::laws::{action_types_are_told, requests_have_one_outcome};
+use entity_data::ascending_lists_are_one;
+use entity_values::names_read_back;
+
+/// Proves that parsing by a type gives the value that JSON states, or the error if it states none. No-op.
+///
+/// JSON states at most one value of a type; if it states none, the error is `WrongType`. Parsing a record gives the
+/// fields that an object states, or the first error.
+pub fn values_are_read_as_stated()
+    ensures values { ValuesAreRead }
+    ensures one { OneValue }
+    ensures other { OtherJsonIsOfWrongType }
+    ensures records { RecordsAreRead }
+    ensures refused { RecordsAreRefused }
+{
+    names_read_back();
+}
+
+/// Proves that parsing an entity under a schema gives the entity that JSON states, or the first error. No-op.
+///
+/// JSON states exactly one entity or is rejected with exactly one error, never both.
+pub fn entities_are_read_as_stated()
+    ensures read { EntitiesAreRead }
+    ensures one { EntitiesHaveOneOutcome }
+{
+    names_read_back();
+    action_types_are_told();
+    ascending_lists_are_one();
+}
+
+/// Proves that parsing the context of an action under a schema gives the context that JSON states, or the first
+/// error. No-op.
+///
+/// JSON states exactly one context or is rejected with exactly one error, never both.
+pub fn contexts_are_read_as_stated()
+    ensures read { ContextsAreRead }
+    ensures one { ContextsHaveOneOutcome }
+{
+    names_read_back();
+}
+
+/// Proves that parsing a request under a schema gives the request that JSON states, or the first error. No-op.
+///
+/// JSON states exactly one request or is rejected with exactly one error, never both.
+pub fn requests_are_read_as_stated()
+    ensures read { RequestsAreRead }
+    ensures one { RequestsHaveOneOutcome }
+{
+    names_read_back();
+    requests_have_one_outcome();
+}

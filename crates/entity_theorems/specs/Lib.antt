@@ -1,5 +1,0 @@
-pub mod Values
-pub mod Entities
-pub mod Requests
-pub mod Outcomes
-pub mod Laws

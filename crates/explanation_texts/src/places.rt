@@ -1,0 +1,78 @@
+//! Lines and columns.
+ghost use Rattle.std.specs.Prelude.{◌≡◌, ◌+◌, ◌-◌, ◌==◌, if◌then◌else◌, take, chars, count_by, slice_index_or, []};
+ghost use Rattle.std.specs.Str.Lines.{lines};
+ghost use Rattle.explanation_texts.specs.LineAndColumn.{is_line_feed, column_behind, IsStartAt};
+
+/// A place in a text, by line and column.
+#[derive(Clone, Copy)]
+pub struct Place {
+    /// The line, counted from 1.
+    pub line: usize,
+    /// The column, counted from 1 in characters.
+    pub column: usize,
+    /// The byte at which the character at the place begins, counted from 0; the text's length at its end.
+    pub start: usize,
+}
+
+impl Place {
+    /// Returns the number of characters from this place up to `end`, a place of the same text and not before it; the
+    /// greatest number if `end` is on another line, since then the whole rest of this line is meant.
+    pub fn span_to(&self, end: &Place) -> usize
+        ensures { result ≡ (if self.now.line == end.now.line then end.now.column - self.now.column else usize.MAX) }
+    {
+        if self.line == end.line {
+            end.column.saturating_sub(self.column)
+        } else {
+            usize::MAX
+        }
+    }
+}
+
+fn count_line_feeds(before: &str) -> usize
+    ensures { result ≡ count_by is_line_feed before.now }
+{
+    before.bytes().filter(|byte| *byte == b'\n').count()
+}
+
+fn column_of(before: &str) -> usize
+    ensures { result ≡ column_behind (chars before.now) }
+{
+    let mut column = 1;
+    for c in before.chars() {
+        if c == '\n' {
+            column = 1;
+        } else {
+            column += 1;
+        }
+    }
+    column
+}
+
+/// Returns the place of the byte `at`: of the character that contains it, or of the text's end if none does.
+///
+/// The line feed at a line's end, and a carriage return before it, are characters of that line.
+///
+/// O(`at`). Does not allocate.
+pub fn place_of(text: &str, at: usize) -> Place
+    ensures start { IsStartAt text.now at result.start }
+    ensures line { result.line ≡ 1 + count_by is_line_feed (take result.start text.now) }
+    ensures column { result.column ≡ column_behind (chars (take result.start text.now)) }
+{
+    let start = text.floor_char_boundary(at);
+    let (before, _) = text.split_at(start);
+    Place {
+        line: 1 + count_line_feeds(before),
+        column: column_of(before),
+        start,
+    }
+}
+
+/// Returns a line of a text, counted from 1, without its end: a line feed, or a carriage return and a line feed. It
+/// is empty if the text has no such line.
+///
+/// O(length of `text`). Does not allocate.
+pub fn line_at(text: &str, line: usize) -> &str
+    ensures { result.now ≡ slice_index_or (lines text.now) (line - 1) [] }
+{
+    text.lines().nth(line.saturating_sub(1)).unwrap_or("")
+}

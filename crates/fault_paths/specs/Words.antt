@@ -1,0 +1,104 @@
+-- Defines the words for types, names and environments in an explanation of a policy that does not pass validation.
+-- Source: docs/language.md for names of entities; docs/formats.md for names of types.
+-- Rules of this product: a type has the name that a schema has for it, a set and a record without their parts; an
+-- environment is named by the type of its principal, its action and the type of its resource.
+use Rattle.std.specs.Prelude.{ℕ, Bool, true, false, if◌then◌else◌, List, [], ◌∷◌, ◌++◌, map, codes}
+use Rattle.std.specs.Prelude.{Option, None, Some, is_ok, slice_get}
+use Rattle.grammar_core.specs.declared.expr.Expr.{Expr}
+use Rattle.grammar_core.specs.declared.expr.Expr.TheOpen.{Expr-F}
+use Rattle.grammar_core.specs.declared.expr.Expr.TheViews.{out-Expr}
+use Rattle.values.specs.declared.entity_uid.EntityUid.{EntityUid}
+use Rattle.type_checker.specs.schema.Schemas.{EnvironmentOf, StatedSchema}
+use Rattle.type_checker.specs.FromSchemas.{typing_environment_of}
+use Rattle.type_checker.specs.Views.{static_view}
+use Rattle.validator.specs.typing.Types as types
+use Rattle.validator.specs.typing.Types.{StaticType}
+use Rattle.validator.specs.typing.Environment.{Environment}
+use Rattle.validator.specs.typing.Rows.{field_type_of}
+use Rattle.validator.specs.Names as names
+use Rattle.validator.specs.declared.fault.TypeFault.{TypeFault}
+use Rattle.validator.specs.declared.fault.TypeFault.TheVariants as fault
+use Rattle.fault_paths.specs.declared.blaming.TypeBlame.{TypeBlame}
+
+-- `type_word t` is the word for the type `t`.
+abbrev pub type_word : StaticType → List ℕ
+type_word types.true_type = codes "Boolean"
+type_word types.false_type = codes "Boolean"
+type_word types.boolean_type = codes "Boolean"
+type_word types.long_type = codes "Long"
+type_word types.text_type = codes "String"
+type_word (types.entity_type name) = name
+type_word (types.set_type t) = codes "Set"
+type_word (types.record_type fields) = codes "Record"
+type_word types.decimal_type = codes "decimal"
+type_word types.ipaddr_type = codes "ipaddr"
+
+-- `more_words ts` are the words for `ts`, each after a comma.
+abbrev pub more_words : List StaticType → List ℕ
+more_words [] = []
+more_words (t ∷ ts) = codes ", " ++ type_word t ++ more_words ts
+
+-- `types_words ts` are the words for `ts`; empty if `ts` is.
+abbrev pub types_words : List StaticType → List ℕ
+types_words [] = []
+types_words (t ∷ ts) = codes ": " ++ type_word t ++ more_words ts
+
+-- `uid_words u` is the entity uid `u` as a policy has it.
+abbrev pub uid_words : EntityUid → List ℕ
+uid_words u = u.type_name ++ codes "::\"" ++ u.id ++ codes "\""
+
+-- `name_words n` is the name `n` of a type or of an entity.
+abbrev pub name_words : names.Name → List ℕ
+name_words (names.tested_type n) = n
+name_words (names.entity u) = uid_words u
+
+-- `environment_words e` names the environment `e`.
+abbrev pub environment_words : EnvironmentOf → List ℕ
+environment_words e = codes "in " ++ e.place.principal ++ codes ", " ++ uid_words e.place.action ++ codes ", "
+    ++ e.place.resource
+
+-- ---- attributes
+
+-- `is_missing f` tests for the error of an attribute that may be missing (44).
+abbrev pub is_missing : TypeFault → Bool
+is_missing fault.AttributeMayBeMissing = true
+is_missing f = false
+
+-- `attribute_in y` is the name of the attribute that the form `y` reads; nothing for other forms. `attribute_of x` is
+-- that of the expression `x`.
+abbrev pub attribute_in : Expr-F Expr → List ℕ
+attribute_in (Expr-F.Field a k) = k
+attribute_in y = []
+
+abbrev pub attribute_of : Expr → List ℕ
+attribute_of x = attribute_in (out-Expr x)
+
+-- `declaration_words declared t` says whether the type `t` declares the attribute.
+abbrev pub declaration_words : Bool → StaticType → List ℕ
+declaration_words true t = codes ": optional in " ++ type_word t
+declaration_words false t = codes ": not declared in " ++ type_word t
+
+-- `declared_words env k ts` says whether the first of the types declares the attribute `k`.
+abbrev pub declared_words : Environment → List ℕ → List StaticType → List ℕ
+declared_words env k [] = []
+declared_words env k (t ∷ ts) = declaration_words (is_ok (field_type_of env true k t)) t
+
+-- ---- errors of typing
+
+-- `typing_cause f x` is the named cause of the error `f` of the form `x`.
+abbrev pub typing_cause : TypeFault → Expr → List ℕ
+typing_cause f x = if is_missing f then attribute_of x else []
+
+-- `what_words env f x ts` are the details of this error, if the operands have the types `ts`.
+abbrev pub what_words : Environment → TypeFault → Expr → List StaticType → List ℕ
+what_words env f x ts = if is_missing f then declared_words env (attribute_of x) ts else types_words ts
+
+-- `detail_in s o f x ts` is the environment `o`, with the details there.
+abbrev pub detail_in : StatedSchema → Option EnvironmentOf → TypeFault → Expr → List StaticType → List ℕ
+detail_in s None f x ts = []
+detail_in s (Some e) f x ts = environment_words e ++ what_words (typing_environment_of s e) f x ts
+
+-- `typing_detail s b` are the details of the blame `b` of a typing error, without its cause.
+abbrev pub typing_detail : StatedSchema → TypeBlame → List ℕ
+typing_detail s b =
+    detail_in s (slice_get s.environments b.environment) b.fault b.place.form.now (map static_view b.place.types.items)

@@ -1,0 +1,150 @@
+//! The report on a policy that does not pass validation, in words.
+ghost use Rattle.std.specs.Prelude.{◌≡◌, IfOk, MatchOption, string_bytes};
+ghost use Rattle.type_checker.specs.policy_grammar.Whole.{expression_of};
+ghost use Rattle.type_checker.specs.schema.Views.{schema_view};
+ghost use Rattle.fault_paths.specs.NamesAt.{name_view};
+ghost use Rattle.validator.specs.Passing.{Passes};
+ghost use Rattle.fault_paths.specs.Words.{name_words, typing_cause, typing_detail};
+ghost use Rattle.fault_paths.specs.Worded.{IsPolicyFault, IsWordedAs};
+
+use crate::blaming::TypeBlame;
+use crate::causes::push_cause;
+use crate::details::push_detail;
+use crate::names::{NameBlame, UnknownName};
+use crate::refusing::{PolicyBlame, blame};
+use crate::wording::push_name;
+use grammar_core::Expr;
+use plain::NoMemory;
+use std::alloc::Global;
+use type_checker::{Policy, Schema};
+use validator::{TypeFault, expression_of};
+
+/// Why a policy does not pass validation, in words.
+#[derive(Drop)]
+pub struct PolicyFault {
+    /// The error, as [`check`](validator::check) returns it.
+    pub fault: TypeFault,
+    /// The indexes of operands that lead from the policy's whole expression to the form at fault.
+    pub path: Vec<usize>,
+    /// The undeclared name, or the attribute that may be missing; empty if there is neither.
+    pub cause: String,
+    /// The first environment that has the error, and the types there; empty for an undeclared name.
+    pub detail: String,
+}
+
+/// Returns the text of an undeclared name.
+fn name_cause(alloc: Global, name: &UnknownName<'_>) -> Result<String, NoMemory>
+    ensures { IfOk result (λ t. string_bytes t ≡ name_words (name_view name.now)) }
+{
+    let mut text = String::new(alloc);
+    push_name(&mut text, name)?;
+    Ok(text)
+}
+
+/// Returns the cause of a typing error.
+fn cause_of(alloc: Global, blame: &TypeBlame<'_>) -> Result<String, NoMemory>
+    ensures { IfOk result (λ t. string_bytes t ≡ typing_cause blame.now.fault blame.now.place.form.now) }
+{
+    let mut text = String::new(alloc);
+    push_cause(&mut text, blame.fault, blame.place.form)?;
+    Ok(text)
+}
+
+/// Returns the details of a typing error.
+fn detail_of<'a>(
+    alloc: Global,
+    schema: &'a Schema,
+    blame: &TypeBlame<'a>,
+) -> Result<String, NoMemory>
+    ensures { IfOk result (λ t. string_bytes t ≡ typing_detail (schema_view schema.entry.now) blame.now) }
+{
+    let mut text = String::new(alloc);
+    push_detail(&mut text, schema, blame)?;
+    Ok(text)
+}
+
+/// Returns the explanation of an undeclared name: its cause, and no detail.
+fn tell_name(alloc: Global, schema: &Schema, blame: NameBlame<'_>) -> Result<PolicyFault, NoMemory>
+    ensures { IfOk result (IsWordedAs (schema_view schema.now) (PolicyBlame.Name blame.entry)) }
+{
+    let _ = schema;
+    let cause = name_cause(alloc, &blame.name)?;
+    Ok(PolicyFault {
+        fault: blame.fault,
+        path: blame.path,
+        cause,
+        detail: String::new(alloc),
+    })
+}
+
+/// Puts a typing error into words.
+fn tell_typing<'a>(
+    alloc: Global,
+    schema: &'a Schema,
+    blame: TypeBlame<'a>,
+) -> Result<PolicyFault, NoMemory>
+    ensures { IfOk result (IsWordedAs (schema_view schema.entry.now) (PolicyBlame.Typing blame.entry)) }
+{
+    let cause = cause_of(alloc, &blame)?;
+    let detail = detail_of(alloc, schema, &blame)?;
+    Ok(PolicyFault {
+        fault: blame.fault,
+        path: blame.place.path,
+        cause,
+        detail,
+    })
+}
+
+/// Puts the error of a policy into words.
+fn tell<'a>(
+    alloc: Global,
+    schema: &'a Schema,
+    blame: PolicyBlame<'a>,
+) -> Result<PolicyFault, NoMemory>
+    ensures { IfOk result (IsWordedAs (schema_view schema.entry.now) blame.entry) }
+{
+    match blame {
+        PolicyBlame::Name(blame) => tell_name(alloc, schema, blame),
+        PolicyBlame::Typing(blame) => tell_typing(alloc, schema, blame),
+    }
+}
+
+/// Returns why a policy of this expression does not pass, in words.
+fn explain_whole<'a>(
+    alloc: Global,
+    schema: &'a Schema,
+    policy: &Policy,
+    whole: &'a Expr,
+) -> Result<Option<PolicyFault>, NoMemory>
+    requires { whole.now ≡ expression_of policy.now }
+    ensures { let s = schema_view schema.entry.now in IfOk result (λ o. MatchOption o
+        (Passes s policy.now) (IsPolicyFault s policy.now)) }
+{
+    match blame(alloc, schema, policy, whole)? {
+        Some(blame) => {
+            let fault = tell(alloc, schema, blame)?;
+            Ok(Some(fault))
+        }
+        None => Ok(None),
+    }
+}
+
+/// Returns why a policy does not pass validation, in words, or `None` if it passes.
+///
+/// The error is the one that [`check`](validator::check) returns, the environment the first that has it. Types the
+/// policy once more for each level of the expression at fault.
+///
+/// # Errors
+///
+/// - `NoMemory`: an allocation failed.
+pub fn explain_fault(
+    alloc: Global,
+    schema: &Schema,
+    policy: &Policy,
+) -> Result<Option<PolicyFault>, NoMemory>
+    ensures { let s = schema_view schema.now in IfOk result (λ o. MatchOption o
+        (Passes s policy.now) (IsPolicyFault s policy.now)) }
+{
+    let whole = expression_of(alloc, policy)?;
+    explain_whole(alloc, schema, policy, &whole)
+}

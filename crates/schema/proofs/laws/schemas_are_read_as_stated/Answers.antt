@@ -1,0 +1,12 @@
+use Rattle.schema.proofs.SchemasRead.{schemas_are_read}
+use Rattle.schema.proofs.laws.schemas_are_read_as_stated.Goals as goal
+
+pub returns : goal.returns
+returns c =
+    schemas_are_read (record { idents = c.paths_are_told.ensures.idents; paths = c.paths_are_told.ensures.paths })
+    (record {
+      cycles = c.cycles_stand_for_none.ensures;
+      back = c.what_stands_for_none_leads_back.ensures;
+      own = c.files_name_their_own.ensures;
+      once = c.files_are_in_order.ensures.once;
+    })

@@ -1,0 +1,50 @@
+-- Defines the theorems that parsing agrees with the relations on JSON: each relation holds of the result of the parsing
+-- function, only of that, and of one result.
+use Rattle.std.specs.Prelude.{◌↔◌, ℕ, List, Bool}
+use Rattle.serde_json.specs.Data.{Data}
+use Rattle.schema_types.specs.TypeShape.{type_of}
+use Rattle.schema_names.specs.schema_file.FileForm.{NamespaceOf, stated}
+use Rattle.schema_names.specs.Qualifying.{ResolvedSchema, qualified}
+use Rattle.schema_names.specs.Naming.{StatesNamed}
+use Rattle.schema.specs.Agreement.{Gives, HasOneOutcome}
+use Rattle.schema.specs.StatedTypes.{StatesType, RefusesType}
+use Rattle.schema.specs.StatedFiles.{StatesFile, RefusesFile}
+use Rattle.schema.specs.NamesResolved.{ResolvesFile, RefusesNames}
+use Rattle.schema.specs.Schemas.{HasDeclarations}
+
+-- ---- types
+
+-- `TypesAreRead`: the function gives the type that `d` states, or the error if it states none.
+abbrev pub TypesAreRead : Type 0
+TypesAreRead = (is_attribute : Bool) (d : Data)
+    → Gives (type_of is_attribute d) (StatesType is_attribute d) (RefusesType is_attribute d)
+
+-- `TypesHaveOneOutcome`: JSON states exactly one type, or is rejected with exactly one error, and never both.
+abbrev pub TypesHaveOneOutcome : Type 0
+TypesHaveOneOutcome = (is_attribute : Bool) (d : Data)
+    → HasOneOutcome (StatesType is_attribute d) (RefusesType is_attribute d)
+
+-- ---- files
+
+-- `FilesAreRead`: the function gives the namespaces that `d` states, or the error if it states no file.
+abbrev pub FilesAreRead : Type 0
+FilesAreRead = (d : Data) → Gives (stated d) (StatesFile d) (RefusesFile d)
+
+-- `FilesHaveOneOutcome`: JSON states exactly one file, or is rejected with exactly one error, and never both.
+abbrev pub FilesHaveOneOutcome : Type 0
+FilesHaveOneOutcome = (d : Data) → HasOneOutcome (StatesFile d) (RefusesFile d)
+
+-- ---- names
+
+-- `NamesAreResolved`: the function gives the declarations of `ns` with their names resolved, or the error if a name
+-- means nothing.
+abbrev pub NamesAreResolved : Type 0
+NamesAreResolved = (ns : List NamespaceOf) → Gives (qualified ns) (ResolvesFile ns) (RefusesNames ns)
+
+-- `NamesHaveOneOutcome`: each name means one declaration, or some name means none, and never both.
+abbrev pub NamesHaveOneOutcome : Type 0
+NamesHaveOneOutcome = (ns : List NamespaceOf) → HasOneOutcome (ResolvesFile ns) (RefusesNames ns)
+
+-- `DeclarationsAreRead`: the declarations that are parsed of `bytes` are those that they state.
+abbrev pub DeclarationsAreRead : Type 0
+DeclarationsAreRead = (bytes : List ℕ) (s : ResolvedSchema) → StatesNamed bytes s ↔ HasDeclarations bytes s

@@ -1,0 +1,84 @@
+-- Defines the content at a key of an object, in an array and in an object, by what each part states, and why it states
+-- nothing.
+-- Source: RFC 8259, sections 4 and 5.
+-- Rules of this product: null at an optional key counts as missing.
+use Rattle.std.specs.Prelude.{◌≡◌, ℕ, List, [], ◌∷◌, Option, Some, None, Contains}
+use Rattle.std.specs.List.{AllZip}
+use Rattle.serde_json.specs.Data.{Data, null, array, object, Items, Members, no_members, member}
+use Rattle.serde_json.specs.Find.{get}
+use Rattle.json_words.specs.Each.{list_of}
+use Rattle.schema.specs.ObjectKeys.{IsAbsent}
+
+-- ---- at a key
+
+-- `HasAt key d found` holds if `d` has `found` at `key`, other than null.
+pub record HasAt (key : List ℕ) (d found : Data) : Type 0 where
+  pub stands : get key d ≡ Some found
+  pub counts : found ≡ null → ⊥
+
+-- `GivenAt States key d x` holds if `d` has at the required key `key` what states `x`.
+pub record GivenAt {A : Type 0} (States : Data → A → Type 0) (key : List ℕ) (d : Data) (x : A) : Type 0 where
+  pub found : Data
+  pub stands : get key d ≡ Some found
+  pub states : States found x
+
+-- `NotGivenAt IsNone key d` holds if `d` has nothing at `key`, or what states nothing.
+pub data NotGivenAt (IsNone : Data → Type 0) (key : List ℕ) (d : Data) : Type 0 where
+  nothing : get key d ≡ None → NotGivenAt IsNone key d
+  wrong : (found : Data) → get key d ≡ Some found → IsNone found → NotGivenAt IsNone key d
+
+-- `MaybeAt States key d o` holds if `o` is what `d` states at the optional key `key`.
+pub data MaybeAt {A : Type 0} (States : Data → A → Type 0) (key : List ℕ) (d : Data) : Option A → Type 0 where
+  stands : (found : Data) (x : A) → HasAt key d found → States found x → MaybeAt States key d (Some x)
+  absent : IsAbsent key d → MaybeAt States key d None
+
+-- `ListAt States key d xs` holds if `xs` is the list that `d` states at the optional key `key`; absent is empty.
+pub data ListAt {A : Type 0} (States : Data → List A → Type 0) (key : List ℕ) (d : Data) : List A → Type 0 where
+  stands : (found : Data) (xs : List A) → HasAt key d found → States found xs → ListAt States key d xs
+  absent : IsAbsent key d → ListAt States key d []
+
+-- `WrongAt IsNone key d` holds if `d` has at the optional key `key` what states nothing.
+pub record WrongAt (IsNone : Data → Type 0) (key : List ℕ) (d : Data) : Type 0 where
+  pub found : Data
+  pub has : HasAt key d found
+  pub wrong : IsNone found
+
+-- ---- arrays
+
+-- `IsArrayOf States d xs` holds if `d` is an array whose items state `xs`, index by index.
+pub record IsArrayOf {A : Type 0} (States : Data → A → Type 0) (d : Data) (xs : List A) : Type 0 where
+  pub items : Items
+  pub is_array : d ≡ array items
+  pub state : AllZip States (list_of items) xs
+
+-- `IsNoArrayOf IsNone d` holds if `d` is not an array, or one of its items states nothing.
+pub data IsNoArrayOf (IsNone : Data → Type 0) (d : Data) : Type 0 where
+  no_array : ((items : Items) → d ≡ array items → ⊥) → IsNoArrayOf IsNone d
+  wrong_item : (items : Items) (found : Data) → d ≡ array items → Contains (list_of items) found → IsNone found
+      → IsNoArrayOf IsNone d
+
+-- ---- objects
+
+-- `StateEach States ms xs` holds if the members `ms` state `xs`, each under its key.
+pub data StateEach {A : Type 0} (States : List ℕ → Data → A → Type 0) : Members → List A → Type 0 where
+  no_member : StateEach States no_members []
+  next_member : (key : List ℕ) (d : Data) (ms : Members) (x : A) (xs : List A) → States key d x → StateEach States ms xs
+      → StateEach States (member key d ms) (x ∷ xs)
+
+-- `HasMember ms key d` holds if one of `ms` is `d`, under `key`.
+pub data HasMember : Members → List ℕ → Data → Type 0 where
+  first_member : (key : List ℕ) (d : Data) (ms : Members) → HasMember (member key d ms) key d
+  later_member : (other : List ℕ) (e : Data) (ms : Members) (key : List ℕ) (d : Data) → HasMember ms key d
+      → HasMember (member other e ms) key d
+
+-- `IsObjectOf States d xs` holds if `d` is an object whose members state `xs`.
+pub record IsObjectOf {A : Type 0} (States : List ℕ → Data → A → Type 0) (d : Data) (xs : List A) : Type 0 where
+  pub members : Members
+  pub is_object : d ≡ object members
+  pub state : StateEach States members xs
+
+-- `IsNoObjectOf IsNone d` holds if `d` is not an object, or one of its members states nothing.
+pub data IsNoObjectOf (IsNone : List ℕ → Data → Type 0) (d : Data) : Type 0 where
+  no_object : ((ms : Members) → d ≡ object ms → ⊥) → IsNoObjectOf IsNone d
+  wrong_member : (ms : Members) (key : List ℕ) (found : Data) → d ≡ object ms → HasMember ms key found
+      → IsNone key found → IsNoObjectOf IsNone d

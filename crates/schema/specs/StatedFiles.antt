@@ -1,0 +1,160 @@
+-- Defines which JSON states which content of a schema file, before names are resolved, and why other JSON does not.
+-- Source: Cedar reference guide 4.0, "Schema JSON format": namespaces, `commonTypes`, `entityTypes`, `actions`.
+-- Rules of this product: a namespace may lack each of the three; null at an optional key counts as missing;
+-- `annotations` has any value; an action's `attributes` is an object without keys; other keys are rejected; the error.
+use Rattle.std.specs.Prelude.{◌≡◌, ℕ, List, [], ◌∷◌, Option, Some, None, Contains, codes, false}
+use Rattle.serde_json.specs.Data.{Data, string, object, no_members}
+use Rattle.serde_json.specs.Find.{get}
+use Rattle.json_words.specs.Json.{text_at}
+use Rattle.values.specs.extensions.plain.Words.{IsIdent, IsPath}
+use Rattle.schema_types.specs.Raw.{Raw}
+use Rattle.schema_types.specs.declared.fault.SchemaFault.{SchemaFault}
+use Rattle.schema_types.specs.declared.fault.SchemaFault.TheVariants.{BadShape}
+use Rattle.schema_names.specs.schema_file.FileForm.{EntityTypeOf, UseOf, ActionOf, NamespaceOf}
+use Rattle.schema_names.specs.schema_file.declared.stated.StatedParent.{StatedParent}
+use Rattle.schema.specs.ObjectKeys.{HasOnly, HasOther, IsAbsent}
+use Rattle.schema.specs.ObjectParts.{GivenAt, NotGivenAt, MaybeAt, ListAt, WrongAt, IsArrayOf, IsNoArrayOf}
+use Rattle.schema.specs.ObjectParts.{IsObjectOf, IsNoObjectOf}
+use Rattle.schema.specs.StatedTypes.{form_words, StatesType, IsNoType}
+
+-- ---- names
+
+-- `IsName d name` holds if `d` is the string `name`, a Path.
+pub record IsName (d : Data) (name : List ℕ) : Type 0 where
+  pub is_string : d ≡ string name
+  pub path : IsPath name
+
+-- `IsNoName d` holds if `d` is not a string that is a Path.
+abbrev pub IsNoName : Data → Type 0
+IsNoName d = (name : List ℕ) → IsName d name → ⊥
+
+-- `IsNamespace key name` holds if `key` is the namespace `name`; the empty string is the empty namespace.
+pub data IsNamespace : List ℕ → Option (List ℕ) → Type 0 where
+  empty_namespace : IsNamespace [] None
+  named : (key : List ℕ) → IsPath key → IsNamespace key (Some key)
+
+-- ---- keys
+
+-- The keys of an entity type, of a member of `memberOf`, of `appliesTo`, of an action and of a namespace.
+abbrev pub entity_type_keys : List (List ℕ)
+entity_type_keys = codes "memberOfTypes" ∷ codes "shape" ∷ codes "annotations" ∷ []
+
+abbrev pub parent_keys : List (List ℕ)
+parent_keys = codes "id" ∷ codes "type" ∷ codes "annotations" ∷ []
+
+abbrev pub use_keys : List (List ℕ)
+use_keys = codes "principalTypes" ∷ codes "resourceTypes" ∷ codes "context" ∷ codes "annotations" ∷ []
+
+abbrev pub action_keys : List (List ℕ)
+action_keys = codes "memberOf" ∷ codes "appliesTo" ∷ codes "attributes" ∷ codes "annotations" ∷ []
+
+abbrev pub namespace_keys : List (List ℕ)
+namespace_keys = codes "commonTypes" ∷ codes "entityTypes" ∷ codes "actions" ∷ codes "annotations" ∷ []
+
+-- ---- declarations
+
+-- `StatesCommon key d c` holds if `d` states under `key` the common type `c`, a name with its type.
+pub record StatesCommon (key : List ℕ) (d : Data) (c : List ℕ × Raw) : Type 0 where
+  pub name : c.0 ≡ key
+  pub ident : IsIdent key
+  pub no_form : Contains form_words key → ⊥
+  pub type : StatesType false d c.1
+
+-- `StatesEntityType key d e` holds if `d` states under `key` the entity type `e`.
+pub record StatesEntityType (key : List ℕ) (d : Data) (e : EntityTypeOf) : Type 0 where
+  pub name : e.name ≡ key
+  pub ident : IsIdent key
+  pub no_action : key ≡ codes "Action" → ⊥
+  pub only : HasOnly entity_type_keys d
+  pub parents : ListAt (IsArrayOf IsName) (codes "memberOfTypes") d e.parents
+  pub shape : MaybeAt (StatesType false) (codes "shape") d e.shape
+
+-- `StatesParent d p` holds if `d`, in `memberOf`, states the parent `p` of an action.
+pub record StatesParent (d : Data) (p : StatedParent) : Type 0 where
+  pub only : HasOnly parent_keys d
+  pub id : text_at (codes "id") d ≡ Some p.id
+  pub type_name : MaybeAt IsName (codes "type") d p.type_name
+
+-- `StatesUse d u` holds if `d`, at `appliesTo`, states what an action applies to.
+pub record StatesUse (d : Data) (u : UseOf) : Type 0 where
+  pub only : HasOnly use_keys d
+  pub principals : GivenAt (IsArrayOf IsName) (codes "principalTypes") d u.principals
+  pub resources : GivenAt (IsArrayOf IsName) (codes "resourceTypes") d u.resources
+  pub context : MaybeAt (StatesType false) (codes "context") d u.context
+
+-- `HasNoAttributes d` holds if `d` has no `attributes`, or an object without members.
+pub data HasNoAttributes (d : Data) : Type 0 where
+  unsaid : IsAbsent (codes "attributes") d → HasNoAttributes d
+  none_said : get (codes "attributes") d ≡ Some (object no_members) → HasNoAttributes d
+
+-- `StatesAction key d a` holds if `d` states under `key`, which is its id, the action `a`.
+pub record StatesAction (key : List ℕ) (d : Data) (a : ActionOf) : Type 0 where
+  pub id : a.id ≡ key
+  pub only : HasOnly action_keys d
+  pub no_attributes : HasNoAttributes d
+  pub parents : ListAt (IsArrayOf StatesParent) (codes "memberOf") d a.parents
+  pub applies_to : MaybeAt StatesUse (codes "appliesTo") d a.applies_to
+
+-- `StatesNamespace key d n` holds if `d` states under `key` the namespace `n`.
+pub record StatesNamespace (key : List ℕ) (d : Data) (n : NamespaceOf) : Type 0 where
+  pub name : IsNamespace key n.name
+  pub only : HasOnly namespace_keys d
+  pub commons : ListAt (IsObjectOf StatesCommon) (codes "commonTypes") d n.commons
+  pub entity_types : ListAt (IsObjectOf StatesEntityType) (codes "entityTypes") d n.entity_types
+  pub actions : ListAt (IsObjectOf StatesAction) (codes "actions") d n.actions
+
+-- `StatesFile d ns` holds if `d` is an object of the namespaces `ns`.
+abbrev pub StatesFile : Data → List NamespaceOf → Type 0
+StatesFile d ns = IsObjectOf StatesNamespace d ns
+
+-- ---- JSON that states no file, by the cause
+
+-- `IsNoCommon key d` holds if `d` states no common type under `key`.
+pub data IsNoCommon (key : List ℕ) (d : Data) : Type 0 where
+  no_ident : (IsIdent key → ⊥) → IsNoCommon key d
+  form_word : Contains form_words key → IsNoCommon key d
+  no_type : IsNoType false d → IsNoCommon key d
+
+-- `IsNoEntityType key d` holds if `d` states no entity type under `key`.
+pub data IsNoEntityType (key : List ℕ) (d : Data) : Type 0 where
+  no_ident : (IsIdent key → ⊥) → IsNoEntityType key d
+  called_action : key ≡ codes "Action" → IsNoEntityType key d
+  other_key : HasOther entity_type_keys d → IsNoEntityType key d
+  wrong_parents : WrongAt (IsNoArrayOf IsNoName) (codes "memberOfTypes") d → IsNoEntityType key d
+  wrong_shape : WrongAt (IsNoType false) (codes "shape") d → IsNoEntityType key d
+
+-- `IsNoParent d` holds if `d` states no parent of an action.
+pub data IsNoParent (d : Data) : Type 0 where
+  other_key : HasOther parent_keys d → IsNoParent d
+  no_id : text_at (codes "id") d ≡ None → IsNoParent d
+  wrong_type : WrongAt IsNoName (codes "type") d → IsNoParent d
+
+-- `IsNoUse d` holds if `d` does not state what an action applies to.
+pub data IsNoUse (d : Data) : Type 0 where
+  other_key : HasOther use_keys d → IsNoUse d
+  wrong_principals : NotGivenAt (IsNoArrayOf IsNoName) (codes "principalTypes") d → IsNoUse d
+  wrong_resources : NotGivenAt (IsNoArrayOf IsNoName) (codes "resourceTypes") d → IsNoUse d
+  wrong_context : WrongAt (IsNoType false) (codes "context") d → IsNoUse d
+
+-- `IsNoAction d` holds if `d` states no action.
+pub data IsNoAction (d : Data) : Type 0 where
+  other_key : HasOther action_keys d → IsNoAction d
+  has_attributes : (HasNoAttributes d → ⊥) → IsNoAction d
+  wrong_parents : WrongAt (IsNoArrayOf IsNoParent) (codes "memberOf") d → IsNoAction d
+  wrong_use : WrongAt IsNoUse (codes "appliesTo") d → IsNoAction d
+
+-- `IsNoNamespace key d` holds if `d` states no namespace under `key`.
+pub data IsNoNamespace (key : List ℕ) (d : Data) : Type 0 where
+  no_name : ((name : Option (List ℕ)) → IsNamespace key name → ⊥) → IsNoNamespace key d
+  other_key : HasOther namespace_keys d → IsNoNamespace key d
+  wrong_commons : WrongAt (IsNoObjectOf IsNoCommon) (codes "commonTypes") d → IsNoNamespace key d
+  wrong_entity_types : WrongAt (IsNoObjectOf IsNoEntityType) (codes "entityTypes") d → IsNoNamespace key d
+  wrong_actions : WrongAt (IsNoObjectOf (λ id. IsNoAction)) (codes "actions") d → IsNoNamespace key d
+
+-- `IsNoFile d` holds if `d` is not an object, or has a member that states no namespace.
+abbrev pub IsNoFile : Data → Type 0
+IsNoFile d = IsNoObjectOf IsNoNamespace d
+
+-- `RefusesFile d fault` holds if `d` states no file; the error is `BadShape`, whatever the cause.
+abbrev pub RefusesFile : Data → SchemaFault → Type 0
+RefusesFile d fault = (fault ≡ BadShape) × IsNoFile d

@@ -1,0 +1,63 @@
+-- Defines the schema that bytes state, and the error if they state none, by the functions that parse a file and resolve
+-- its names. They agree with the relations of Schemas.
+use Rattle.std.specs.Prelude.{◌≡◌, ◌↔◌, ℕ, List}
+use Rattle.sha2.specs.Sha256.{sha256}
+use Rattle.hex.specs.Hex.{encode_lower}
+use Rattle.schema_types.specs.Outcome.{SomeStandsForNone}
+use Rattle.schema_types.specs.declared.fault.SchemaFault.{SchemaFault}
+use Rattle.schema_types.specs.declared.fault.SchemaFault.TheVariants.{TypeCycle, ActionCycle, TypeTooLarge}
+use Rattle.schema_names.specs.Qualifying.{ResolvedSchema}
+use Rattle.schema_names.specs.Naming.{StatesNamed, NamingRefused}
+use Rattle.schema.specs.Schemas.{StatedSchema, IsSound, Answers, SomeActionIsOnCycle, SomeTypeIsTooLarge}
+use Rattle.schema.specs.Schemas.{IsSchemaOf, RefusedFor}
+use Rattle.schema.specs.WellFormed.{IsWellFormed}
+
+-- `IsUnsound s f` holds if `f` is the first of three errors of `s`.
+pub data IsUnsound (s : ResolvedSchema) : SchemaFault → Type 0 where
+  type_cycle : SomeStandsForNone s.commons → IsUnsound s TypeCycle
+  action_cycle : (SomeStandsForNone s.commons → ⊥) → SomeActionIsOnCycle s → IsUnsound s ActionCycle
+  too_large : (SomeStandsForNone s.commons → ⊥) → (SomeActionIsOnCycle s → ⊥) → SomeTypeIsTooLarge s
+      → IsUnsound s TypeTooLarge
+
+-- `IsParsedAs bytes v` holds if the functions give a file for `bytes` of which `v` is the schema.
+pub record IsParsedAs (bytes : List ℕ) (v : StatedSchema) : Type 0 where
+  pub named : ResolvedSchema
+  pub states : StatesNamed bytes named
+  pub sound : IsSound named
+  pub label : v.label ≡ encode_lower (sha256 bytes)
+  pub answers : Answers named v
+
+-- `IsNotParsed bytes f` holds if the functions give the error `f` for `bytes`, or a file with the error `f`.
+pub data IsNotParsed (bytes : List ℕ) : SchemaFault → Type 0 where
+  naming : (f : SchemaFault) → NamingRefused bytes f → IsNotParsed bytes f
+  unsound : (s : ResolvedSchema) (f : SchemaFault) → StatesNamed bytes s → IsUnsound s f → IsNotParsed bytes f
+
+-- `ParsedOrNot bytes` holds if `bytes` are parsed as a schema, or rejected.
+pub data ParsedOrNot (bytes : List ℕ) : Type 0 where
+  parsed : (v : StatedSchema) → IsParsedAs bytes v → ParsedOrNot bytes
+  not_parsed : (f : SchemaFault) → IsNotParsed bytes f → ParsedOrNot bytes
+
+-- The theorems of Outcomes and of WellFormed, of what is parsed.
+abbrev pub SomeParsed : Type 0
+SomeParsed = (bytes : List ℕ) → ParsedOrNot bytes
+
+abbrev pub OneParsed : Type 0
+OneParsed = (bytes : List ℕ) (v w : StatedSchema) → IsParsedAs bytes v → IsParsedAs bytes w → v ≡ w
+
+abbrev pub NotBothParsed : Type 0
+NotBothParsed = (bytes : List ℕ) (v : StatedSchema) (f : SchemaFault) → IsParsedAs bytes v → IsNotParsed bytes f → ⊥
+
+abbrev pub OneNotParsed : Type 0
+OneNotParsed = (bytes : List ℕ) (f g : SchemaFault) → IsNotParsed bytes f → IsNotParsed bytes g → f ≡ g
+
+abbrev pub ParsedSchemasAreWellFormed : Type 0
+ParsedSchemasAreWellFormed = (bytes : List ℕ) (v : StatedSchema) → IsParsedAs bytes v → IsWellFormed v
+
+-- `SchemaIsRead bytes` holds if the schema that the parser gives for `bytes`, or its error, is the one that they state.
+pub record SchemaIsRead (bytes : List ℕ) : Type 0 where
+  pub states : (v : StatedSchema) → IsParsedAs bytes v ↔ IsSchemaOf bytes v
+  pub refuses : (f : SchemaFault) → IsNotParsed bytes f ↔ RefusedFor bytes f
+
+-- `SchemasAreRead`: parsing gives the schema that bytes state, or their error, whatever the bytes.
+abbrev pub SchemasAreRead : Type 0
+SchemasAreRead = (bytes : List ℕ) → SchemaIsRead bytes

@@ -1,9 +1,0 @@
-pub mod Outcomes
-pub mod Keys
-pub mod Types
-pub mod Parts
-pub mod Files
-pub mod Names
-pub mod Records
-pub mod Schemas
-pub mod Laws

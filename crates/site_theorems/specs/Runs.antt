@@ -1,0 +1,100 @@
+-- Defines the runs of a site by what JSON and bytes state, the updates that they apply, and the stores that they leave.
+-- Source: docs/formats.md, "Messages between sites".
+-- Rules of this product: a command applies an update if its reply is a stamp; a message applies its updates in their
+-- order, all or the first k, including those that lose to a greater entry; other inputs and replies apply none.
+use Rattle.std.specs.Prelude.{◌≡◌, ◌↔◌, ℕ, List, [], ◌∷◌, ◌++◌, take, Some, None, Ok, Contains}
+use Rattle.json_words.specs.Json.{json_of}
+use Rattle.site.specs.site_steps.schema.Schemas.{StatedSchema, IsSchemaOf}
+use Rattle.site.specs.site_steps.entity_data.declared.entity.Entity.{Entity}
+use Rattle.site.specs.site_steps.entities.Canonical.{canonical_text}
+use Rattle.site.specs.site_steps.stamped_store.Store.{Store, Update, updates, store_of, IsStoreOf, issued}
+use Rattle.site.specs.site_steps.stamped_store.Store.{policy_name, entity_name}
+use Rattle.site.specs.site_steps.declared.outcome.Taken.TheVariants.{All, Short}
+use Rattle.site.specs.site_steps.Inputs.{Input}
+use Rattle.site.specs.site_steps.Inputs as input
+use Rattle.site.specs.site_steps.declared.reply.Reply.{Reply}
+use Rattle.site.specs.site_steps.declared.reply.Reply.TheVariants as reply
+use Rattle.site.specs.site_steps.Permitted.{AreHarmlessReplies}
+use Rattle.site.specs.site_steps.entities.StatedEntities.{StatesEntity}
+use Rattle.message_theorems.specs.Updates.{StatesUpdates}
+use Rattle.site_theorems.specs.Steps.{JsonStates, IsStep}
+
+-- ---- runs
+
+-- `IsRun schema n s is rs t` holds if a chain of steps, one for each of the inputs `is` with its reply of `rs`, leads
+-- the site named `n` from the store `s` to `t`. An example: site `east`, empty at first, puts a text for the policy
+-- `a`, with the stamp (1, `east`); applies a message in which site `west` has put another text for `a`, with the stamp
+-- (3, `west`); and deletes `a`, with the stamp (4, `east`). These three inputs with their replies applied three
+-- updates; in the store at the end, `a` was deleted at (4, `east`).
+abbrev pub IsRun : StatedSchema → List ℕ → Store → List Input → List Reply → Store → Type 0
+IsRun schema n s [] [] t = t ≡ s
+IsRun schema n s [] (r ∷ rs) t = ⊥
+IsRun schema n s (i ∷ is) [] t = ⊥
+IsRun schema n s (i ∷ is) (r ∷ rs) t = (m : Store) × IsStep schema n s i r m × IsRun schema n m is rs t
+
+-- ---- what they apply
+
+-- `Applies schema i r us` holds if `us` are the updates that the input `i` with the reply `r` applied.
+abbrev pub Applies : StatedSchema → Input → Reply → List Update → Type 0
+Applies schema (input.PutPolicy id text) (reply.Put (Ok put)) us =
+    us ≡ (policy_name id, issued put.stamp (Some text)) ∷ []
+Applies schema (input.DeletePolicy id) (reply.Stamped (Ok stamp)) us = us ≡ (policy_name id, issued stamp None) ∷ []
+Applies schema (input.PutEntity bytes) (reply.Stamped (Ok stamp)) us =
+    (e : Entity) × JsonStates (StatesEntity schema) (json_of bytes) e
+    × (us ≡ (entity_name e.uid, issued stamp (Some (canonical_text e))) ∷ [])
+Applies schema (input.DeleteEntity uid) (reply.Stamped (Ok stamp)) us = us ≡ (entity_name uid, issued stamp None) ∷ []
+Applies schema (input.Take bytes) (reply.Taken (Ok (All k))) us = StatesUpdates schema.label bytes us
+Applies schema (input.Take bytes) (reply.Taken (Ok (Short k))) us =
+    (all : List Update) × StatesUpdates schema.label bytes all × (us ≡ take k all)
+Applies schema _ _ us = us ≡ []
+
+-- `Applied schema is rs us` holds if `us` are the updates that the inputs `is` with the replies `rs` applied, in their
+-- order.
+abbrev pub Applied : StatedSchema → List Input → List Reply → List Update → Type 0
+Applied schema [] [] us = us ≡ []
+Applied schema [] (r ∷ rs) us = ⊥
+Applied schema (i ∷ is) [] us = ⊥
+Applied schema (i ∷ is) (r ∷ rs) us =
+    (first : List Update) × (more : List Update) × Applies schema i r first × Applied schema is rs more
+    × (us ≡ first ++ more)
+
+-- ---- what they leave
+
+-- `LeavesApplied schema s is rs t` holds if exactly one list of updates was applied by the inputs `is` with the
+-- replies `rs`, and `t` is the join of the updates of `s` and of these: at each name the greatest entry among them.
+pub record LeavesApplied (schema : StatedSchema) (s : Store) (is : List Input) (rs : List Reply) (t : Store) : Type 0
+  where
+    pub us : List Update
+    pub applied : Applied schema is rs us
+    pub only : (vs : List Update) → Applied schema is rs vs → vs ≡ us
+    pub greatest : IsStoreOf (updates s ++ us) t
+    pub store : t ≡ store_of (updates s ++ us)
+
+-- Each run of each site leaves the join of the updates that it had and of those that it applied.
+abbrev pub RunsLeaveApplied : Type 0
+RunsLeaveApplied = (schema : StatedSchema) (n : List ℕ) (s : Store) (is : List Input) (rs : List Reply) (t : Store)
+    → IsRun schema n s is rs t → LeavesApplied schema s is rs t
+
+-- `Holds schema us t` holds if some run of some site of `schema` leaves the store `t`, and `us` are the updates that
+-- the site had and those that it applied, for any name, first store, inputs and replies.
+pub record Holds (schema : StatedSchema) (us : List Update) (t : Store) : Type 0 where
+  pub name : List ℕ
+  pub first : Store
+  pub inputs : List Input
+  pub replies : List Reply
+  pub run : IsRun schema name first inputs replies t
+  pub more : List Update
+  pub applied : Applied schema inputs replies more
+  pub all : us ≡ updates first ++ more
+
+-- Sites of one schema that had and applied equal sets of updates hold equal stores, whatever the order, the repeats
+-- and the grouping of the updates.
+abbrev pub EqualUpdatesLeaveEqualStores : Type 0
+EqualUpdatesLeaveEqualStores = (schema : StatedSchema) (us vs : List Update) (s t : Store) → Holds schema us s
+    → Holds schema vs t → ((u : Update) → Contains us u ↔ Contains vs u) → s ≡ t
+
+-- Under a schema that bytes state, no reply of a run has an error of type, of an attribute or of an extension
+-- function.
+abbrev pub RunsReplyHarmlessly : Type 0
+RunsReplyHarmlessly = (bytes : List ℕ) (schema : StatedSchema) → IsSchemaOf bytes schema → (n : List ℕ) (s : Store)
+    (is : List Input) (rs : List Reply) (t : Store) → IsRun schema n s is rs t → AreHarmlessReplies rs

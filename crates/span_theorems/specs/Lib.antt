@@ -1,2 +1,0 @@
-pub mod NameWritten
-pub mod Written

@@ -1,2 +1,0 @@
-pub mod LineAndColumn
-pub mod Excerpt
