@@ -14,7 +14,7 @@ use Rattle.ancestor_search.specs.Deciding.{decided, same_uid, Contains-here, Con
 abbrev pub closed_entries : List (EntityUid × Vec EntityUid Global) → List (EntityUid × List EntityUid)
 closed_entries es = map (λ e. (e.0, e.1.items)) es
 
--- `closed_parents xs uid` are the parents of `uid`; none if it is not stored.
+-- `closed_parents xs uid` are the parents of `uid`; `[]` if it is not stored.
 abbrev pub closed_parents : List (EntityUid × List EntityUid) → EntityUid → List EntityUid
 closed_parents xs uid = unwrap_or (lookup (is_at (uid_cmp uid)) xs) []
 

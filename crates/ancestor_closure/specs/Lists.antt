@@ -12,7 +12,8 @@ use Rattle.ancestor_closure.specs.declared.relatives.Relatives.{Relatives}
 abbrev pub IsListOf : Parents → EntityUid → List EntityUid → Type 0
 IsListOf parents b xs = IsAllAbove parents b xs × IsAscending xs
 
--- `ancestors_or_none o` and `children_or_none o` are those of an entry, none if it is missing.
+-- `ancestors_or_none o` and `children_or_none o` are the ancestors and children of the entry `o`; `[]` if it is
+-- missing.
 abbrev pub ancestors_or_none : Option Relatives → List EntityUid
 ancestors_or_none None = []
 ancestors_or_none (Some r) = r.ancestors.items
@@ -21,7 +22,8 @@ abbrev pub children_or_none : Option Relatives → List EntityUid
 children_or_none None = []
 children_or_none (Some r) = r.children.keys
 
--- `ancestors_in` and `children_in` are the ancestors and the children of an entity by a map; none if it has no entry.
+-- `ancestors_in` and `children_in` are the ancestors and the children that a map has for an entity; `[]` if it has no
+-- entry.
 abbrev pub ancestors_in : BTreeMap EntityUid Relatives → EntityUid → List EntityUid
 ancestors_in relatives x = ancestors_or_none (get uid_cmp relatives x)
 

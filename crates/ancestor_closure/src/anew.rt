@@ -18,7 +18,7 @@ use std::alloc::Global;
 use std::collections::{BTreeMap, BTreeSet};
 use values::EntityUid;
 
-// Adds an entity to the children of these.
+// Adds an entity to the children of each of these entities.
 fn add_to_parents(
     alloc: Global,
     relatives: &mut BTreeMap<EntityUid, Relatives>,

@@ -23,7 +23,7 @@ use values::EntityUid;
 /// An entity with the list of its ancestors.
 type Listed = (Shared<EntityUid>, Vec<Shared<EntityUid>>);
 
-// Adds an entity, if it comes before the next one of a list; returns whether it is then placed, or is the next one.
+// Appends `one` to `all` if it comes before `next`; returns whether it does, or equals `next`.
 fn place(
     all: &mut Vec<Shared<EntityUid>>,
     one: &Shared<EntityUid>,
@@ -43,7 +43,7 @@ fn place(
     }
 }
 
-// Adds an entity before the next one of a list, unless it is placed; returns whether it then is.
+// Like `place`, but appends nothing if `one` is placed already, and then returns `true`.
 fn place_once(
     all: &mut Vec<Shared<EntityUid>>,
     one: &Shared<EntityUid>,
@@ -60,7 +60,7 @@ fn place_once(
     place(all, one, next)
 }
 
-// Adds the next entity of a list, and before it the other one, if that is its place; returns whether it is placed.
+// Appends `next` to `all`, and before it `one`, if that is its position; returns whether `one` is placed.
 fn add_next(
     all: &mut Vec<Shared<EntityUid>>,
     one: &Shared<EntityUid>,
@@ -107,7 +107,7 @@ fn with_one(
     Ok(all)
 }
 
-// Returns the only parent of an entity that has no descendant and is not its own parent.
+// Returns the only parent of `uid`, if `uid` has no descendant and is not its own parent; else `None`.
 fn only_parent<'a>(
     uid: &Shared<EntityUid>,
     after: &'a [Shared<EntityUid>],
@@ -128,7 +128,8 @@ fn only_parent<'a>(
     Some(parent)
 }
 
-// Returns the list of one entity, by that of its only parent, if the budget allows it in place of the cached list.
+// Returns the new ancestors of `uid`: its only parent and the parent's ancestors. Fails if the budget does not allow
+// the list in place of the cached one.
 fn list_by_parent(
     alloc: Global,
     relatives: &BTreeMap<EntityUid, Relatives>,
@@ -143,7 +144,7 @@ fn list_by_parent(
     Ok(list)
 }
 
-// Returns an entity with its list, alone.
+// Returns a list with one item: the entity with its list.
 fn alone(
     alloc: Global,
     uid: &Shared<EntityUid>,

@@ -20,9 +20,9 @@ use values::EntityUid;
 
 /// A hierarchy: the parents of each stored entity, and an ancestor cache. Contracts see the parents.
 ///
-/// It is meant for single changes: each change rewrites the lists of all descendants of its entity, so filling it
-/// from the top downwards costs one search for each entity, and from the bottom upwards one for each descendant of
-/// each. [`AncestorCache::of_graph`] builds the cache of a whole graph at once.
+/// It is meant for single changes: each change rewrites the lists of all descendants of its entity, so filling it with
+/// parents before their children costs one search for each entity, and with children first one for each descendant of
+/// each entity. [`AncestorCache::of_graph`] builds the cache of a whole graph at once.
 #[derive(Drop)]
 pub struct Closed {
     alloc: Global,

@@ -23,8 +23,8 @@ use values::EntityUid;
 /// cyclic entities.
 ///
 /// The caller has the edges, and passes them when the cache is updated. The cache is right for a hierarchy if
-/// `IsCacheOf` says so, and its answers are then those of that hierarchy. A cached ancestor takes 8 bytes, or up to
-/// 16 while its list has spare capacity; its uid is stored twice, however many lists contain it.
+/// `IsCacheOf` holds; then its answers are those of that hierarchy. A cached ancestor takes 8 bytes, or up to 16 while
+/// its list has spare capacity; its uid is stored twice, however many lists contain it.
 #[derive(Drop)]
 pub struct AncestorCache {
     alloc: Global,

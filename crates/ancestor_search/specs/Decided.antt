@@ -18,9 +18,9 @@ HaveAllParents parents stored = (b a : EntityUid) → Contains (parents b) a →
 abbrev pub is_same : EntityUid → EntityUid → Bool
 is_same a b = is_eq (uid_cmp a b)
 
--- `reaches parents us a b` tests whether a path leads from `b` to `a` whose edges all begin at entities of the list.
--- For `u` and `us`, either it needs no edge of `u`, or it reaches `u`, takes an edge of `u`, and goes on to `a`. This
--- is Warshall's method: S. Warshall, "A theorem on Boolean matrices", Journal of the ACM 9 (1962).
+-- `reaches parents us a b` tests whether a path leads from `b` to `a` whose edges all begin at entities of `us`. With
+-- one more entity `u`, either it needs no edge of `u`, or it reaches `u`, takes an edge of `u`, and goes on to `a`.
+-- This is Warshall's method: S. Warshall, "A theorem on Boolean matrices", Journal of the ACM 9 (1962).
 unfoldable pub reaches : Parents → List EntityUid → EntityUid → EntityUid → Bool
 reaches parents [] a b = false
 reaches parents (u ∷ us) a b =

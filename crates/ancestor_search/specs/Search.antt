@@ -7,12 +7,12 @@ use Rattle.values.specs.declared.entity_uid.EntityUid.{EntityUid}
 use Rattle.values.specs.Names.{uid_cmp}
 use Rattle.ancestor_search.specs.Hierarchy.{Parents}
 
--- `items_or_none o` are the items of a list, none if it is missing.
+-- `items_or_none o` is the list `o`, or the empty list if `o` is missing.
 abbrev pub items_or_none : Option (Vec EntityUid Global) → List EntityUid
 items_or_none None = []
 items_or_none (Some v) = v.items
 
--- `parents_of edges` are the edges that a map from entities to their parents represents.
+-- `parents_of edges` is the parent relation that the map `edges` from entities to their parents represents.
 abbrev pub parents_of : BTreeMap EntityUid (Vec EntityUid Global) → Parents
 parents_of edges uid = items_or_none (get uid_cmp edges uid)
 

@@ -97,7 +97,7 @@ fn children_in<'a, G: Graph>(alloc: Global, graph: &'a G) -> Result<Children<'a>
     Ok(children)
 }
 
-// Those of these that were not reached are at distance `far`, and join the level.
+// Sets those of these entities that were not reached at distance `far`, and adds them to the level.
 fn reach<'a>(
     uids: &[&'a EntityUid],
     far: usize,
@@ -116,7 +116,7 @@ fn reach<'a>(
     Ok(())
 }
 
-// The same for the children of an entity.
+// Does so for the children of an entity.
 fn reach_children<'a>(
     children: &Children<'a>,
     uid: &'a EntityUid,

@@ -13,8 +13,7 @@ use plain::{NoMemory, Text};
 use std::alloc::Global;
 use values::EntityUid;
 
-/// The capacity that is reserved at once for the line of an answer, in bytes: most lines need less, and none of these
-/// grows.
+/// The capacity in bytes that is reserved at once for the line of an answer. Most lines need less, and so do not grow.
 const USUAL_LINE: usize = 256;
 
 fn decision_word(decision: Decision) -> &'static str
@@ -38,7 +37,7 @@ fn error_word(error: PolicyError) -> &'static str
     }
 }
 
-/// Writes `{"error":"typeError","policy":"policy0"}`.
+/// Writes the error of a policy, `{"error":"typeError","policy":"policy0"}`.
 fn write_erring(out: &mut Writer, erring: &ErringPolicy) -> Result<(), NoMemory>
     ensures { OnOk result (Adds out.old out.new (tokens_of (erring_json erring.now))) }
 {

@@ -1,5 +1,6 @@
--- Defines the theorems about answers that a reader of policies may rely on, for every world, request and policies. All
--- but `DefaultDeny`, `ListsAscend` and those of finite hierarchies assume that a test decides the ancestor relation.
+-- Defines the theorems about answers that a reader of policies may rely on, for all entity data, requests and policies.
+-- All but `DefaultDeny`, `ListsAscend` and those of finite hierarchies assume that a test decides the ancestor
+-- relation.
 -- Source: Cedar reference guide 4.0, "Authorization".
 -- Rules of this product: ids ascend by their bytes.
 use Rattle.std.specs.Prelude.{◌≡◌, ◌↔◌, ℕ, List, [], ◌∷◌, ◌++◌, map, Contains, Bool, false}
@@ -53,8 +54,8 @@ abbrev pub DefaultDeny : Type 0
 DefaultDeny = (W : Entities) (q : Request) (ps : List NamedPolicy) (a : Answer) → IsAnswer W q ps a →
     ((p : NamedPolicy) → Contains ps p → ¬ IsSatisfied W q Permit p) → a.decision ≡ Deny
 
--- `AreIdsOf P ps ids` holds if `ids` are those of the policies of `ps` for which `P` holds, in order, one for each
--- occurrence.
+-- `AreIdsOf P ps ids` holds if `ids` are the ids of the policies of `ps` for which `P` holds, in the order of `ps`, one
+-- for each occurrence.
 pub data AreIdsOf (P : NamedPolicy → Type 0) : List NamedPolicy → List (List ℕ) → Type 0 where
   no_id : AreIdsOf P [] []
   its_id : {p : NamedPolicy} {ps : List NamedPolicy} {ids : List (List ℕ)} → P p → AreIdsOf P ps ids

@@ -22,7 +22,7 @@ fn idle_policies_change_nothing()
     expressions_have_one_outcome();
 }
 
-/// Proves what a reader of policies may rely on, for every world, request and list of policies. No-op.
+/// Proves what a reader of policies may rely on, for all entity data, requests and lists of policies. No-op.
 ///
 /// All but `finite`, `default_deny` and `ascending` assume that a test decides the ancestor relation, as it does if
 /// finitely many entities have parents.

@@ -9,7 +9,8 @@ use crate::request_entities::{KnownEntity, RequestEntities};
 use scope_index::{ActionScope, EntityScope, Scope};
 use values::EntityUid;
 
-// So few ancestors are compared one by one, ids first, since ids differ early; a binary search compares types first.
+// At most this many ancestors are compared one by one, ids first, since ids differ early; a binary search compares
+// types first.
 const FEW: usize = 16;
 
 /// Returns whether an entity is one of these.
@@ -75,8 +76,8 @@ fn is_within_any(entities: &[EntityUid], known: &KnownEntity<'_>) -> bool
     false
 }
 
-/// Returns whether all three parts of a scope are true. The action is tested first: a candidate that names a principal
-/// is found by it, so that part is mostly true, and the action's decides.
+/// Returns whether all three parts of a scope are true. The action is tested first: a candidate was found by the
+/// principal or the resource that it names, so that part is mostly true, and the action decides.
 pub(crate) fn is_scope_true(scope: &Scope, entities: &RequestEntities<'_>) -> bool
     requires { AreAscending entities.now }
     ensures { IsTrue result ↔ IsTrueOf scope.now entities.now }

@@ -8,8 +8,8 @@ use Rattle.json_words.specs.Json.{json_of}
 use Rattle.json_words.specs.ReadsAs.{◌>>=◌, Fails, demand}
 use Rattle.json_words.specs.Each.{each}
 use Rattle.json_words.proofs.EachLemmas.{bind_ok}
-use Rattle.json_values.specs.Arrays.{array_of, each_of}
-use Rattle.json_values.proofs.Readings.{SoFar, before, items_read}
+use Rattle.json_words.specs.Arrays.{array_of, each_of}
+use Rattle.json_words.proofs.Readings.{SoFar, before, items_read}
 use Rattle.values.specs.declared.entity_uid.EntityUid.{EntityUid}
 use Rattle.entity_data.specs.declared.entity.Entity.{Entity}
 use Rattle.answer_lines.specs.declared.refusal.Refusal.{Refusal}

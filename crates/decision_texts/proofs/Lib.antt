@@ -11,4 +11,4 @@ pub mod PolicyTexts
 pub mod RequestLemmas
 pub mod StoreLemmas
 -- crates below, passed on to those above
-pub use Rattle.json_values.proofs as of_json_values
+pub use Rattle.json_words.proofs as of_json_words

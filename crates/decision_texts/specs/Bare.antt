@@ -28,7 +28,7 @@ is_absent_or_empty (Some d) = has_only [] d
 unfoldable pub uids_of : Items → Result (List EntityUid) ShapeFault
 uids_of ds = each (λ i d. stated_uid d) 0 (list_of ds)
 
--- `stated_parents o` are the parents that an entity states, none if they are absent.
+-- `stated_parents o` are the parents that the value `o` of the key `parents` states; `[]` if the key is absent.
 abbrev pub stated_parents : Option Data → Result (List EntityUid) ShapeFault
 stated_parents None = Ok []
 stated_parents (Some d) = do

@@ -13,4 +13,4 @@ pub use Rattle.answer_lines.specs.authoriser
 pub use Rattle.answer_lines.specs.entity_uids
 pub use Rattle.answer_lines.specs.policy_grammar
 pub use Rattle.entity_data.specs as entity_data
-pub use Rattle.json_values.specs as json_values
+pub use Rattle.json_words.specs as json_words

@@ -2,7 +2,7 @@
 ghost use Rattle.std.specs.Prelude.{◌≡◌, ◌<◌, ◌^◌, List, length, None, Ok, Err, IfErr, OnOk};
 ghost use Rattle.serde_json.specs.View.{view};
 ghost use Rattle.json_words.specs.ReadsAs.{ReadsAs};
-ghost use Rattle.json_values.specs.Arrays.{to_come, each_of, told};
+ghost use Rattle.json_words.specs.Arrays.{to_come, each_of, told};
 ghost use Rattle.entity_data.specs.declared.entity.Entity.{Entity as Stated};
 ghost use Rattle.plain.specs.Refused.{OrNoMemory};
 ghost use Rattle.answer_lines.specs.Refusals.{no_memory, bad_shape};
@@ -12,7 +12,7 @@ ghost use Rattle.decision_texts.specs.inner.Stores.{Holds, KeepsNext, ReadsStore
 use crate::setting::Setting;
 use answer_lines::Refusal;
 use entity_data::{Entity, EntityStore};
-use json_values::{Member, Members, Scratch, members_of};
+use json_words::{Member, Members, Scratch, members_of};
 use serde_json::Value;
 use std::alloc::Global;
 

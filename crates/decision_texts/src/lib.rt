@@ -17,7 +17,7 @@ pub use answer_lines::{
 };
 pub use deciding::{decide_in, decide_texts};
 pub use entity_array::judge_entities;
-pub use json_values::{Member, Members, Scratch, members_of};
+pub use json_words::{Member, Members, Scratch, members_of};
 pub use laws::texts_have_one_outcome;
 pub use policies::policies_in;
 pub use setting::Setting;

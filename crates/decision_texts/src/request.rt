@@ -1,4 +1,4 @@
-//! Requests, as JSON states them without a schema.
+//! Reads requests from JSON, without a schema.
 ghost use Rattle.std.specs.Prelude.{◌≡◌, IfOk, IfErr};
 ghost use Rattle.serde_json.specs.View.{view};
 ghost use Rattle.values.specs.declared.entity_uid.EntityUid.{EntityUid as PlainUid};
@@ -13,7 +13,12 @@ use serde_json::Value;
 use std::alloc::Global;
 use values::{EntityUid, Record, Request};
 
-/// Returns the entity that the value at a key names.
+/// Returns the uid that the value at a key states.
+///
+/// # Errors
+///
+/// - `BadShape`: there is no such key, or its value is not a uid.
+/// - `NoMemory`: an allocation failed.
 fn read_name_at(alloc: Global, value: &Value, key: &str) -> Result<EntityUid, ShapeFault>
     ensures read { IfOk result (NamesAt key.now (view value.now)) }
     ensures refused { IfErr result
@@ -28,7 +33,12 @@ fn read_name_at(alloc: Global, value: &Value, key: &str) -> Result<EntityUid, Sh
     }
 }
 
-/// Returns the request that a value states.
+/// Returns the request that a JSON value states.
+///
+/// # Errors
+///
+/// - `BadShape`: the value is not a request without a schema.
+/// - `NoMemory`: an allocation failed; possible at any point.
 #[tactic(auto, using(crate::proofs::RequestLemmas::no_principal, crate::proofs::RequestLemmas::no_action, crate::proofs::RequestLemmas::no_resource, crate::proofs::RequestLemmas::no_context))]
 pub(crate) fn read_request(alloc: Global, value: &Value) -> Result<Request, ShapeFault>
     ensures read { IfOk result (StatesRequest (view value.now)) }

@@ -7,10 +7,10 @@ use Rattle.serde_json.specs.Data.{Data, object, array, Members, no_members, memb
 use Rattle.serde_json.specs.View.{items_of}
 use Rattle.values.specs.Values.{fields_of}
 use Rattle.values.specs.declared.entity_uid.EntityUid.{EntityUid}
-use Rattle.entity_values.specs.entity_uids.Tokens.{Adds, tokens_of, AppendsValue}
-use Rattle.entity_values.specs.entity_uids.Uids.{uid_json}
-use Rattle.entity_values.proofs.of_entity_uids.Nested.{object_begun, member_next, member_written, object_ended}
-use Rattle.entity_values.specs.Canonical.{fields_json}
+use Rattle.entities.specs.entity_uids.Tokens.{Adds, tokens_of, AppendsValue}
+use Rattle.entities.specs.entity_uids.Uids.{uid_json}
+use Rattle.entities.proofs.of_entity_uids.Nested.{object_begun, member_next, member_written, object_ended}
+use Rattle.entities.specs.CanonicalValues.{fields_json}
 use Rattle.entity_data.specs.declared.entity.Entity.{Entity}
 use Rattle.entities.specs.Canonical.{canonical_json}
 

@@ -8,8 +8,8 @@ use Rattle.serde_json.specs.Find.{get}
 use Rattle.json_words.specs.ReadsAs.{◌>>=◌, or_fault}
 use Rattle.values.specs.declared.entity_uid.EntityUid.{EntityUid}
 use Rattle.values.specs.Fields.{Field}
-use Rattle.entity_values.specs.declared.fault.ValueFault.{ValueFault}
-use Rattle.entity_values.specs.Typing.{record_in}
+use Rattle.entities.specs.declared.value_fault.ValueFault.{ValueFault}
+use Rattle.entities.specs.Typing.{record_in}
 use Rattle.entity_data.specs.ancestor_search.Decided.{is_same}
 use Rattle.schema_types.specs.Cedar.{Cedar}
 use Rattle.schema.specs.declared.parts.Place.{Place}

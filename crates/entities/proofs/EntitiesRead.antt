@@ -7,8 +7,8 @@ use Rattle.values.specs.declared.entity_uid.EntityUid.{EntityUid}
 use Rattle.values.specs.Fields.{Field}
 use Rattle.values.specs.Values.{record_of, fields_of}
 use Rattle.values.specs.Uids.{uid_cmp-IsTotalOrder, uid_cmp-IsAntisymmetric, equal-is}
-use Rattle.entity_values.specs.declared.fault.ValueFault.{ValueFault}
-use Rattle.entity_values.specs.Typing.{record_in}
+use Rattle.entities.specs.declared.value_fault.ValueFault.{ValueFault}
+use Rattle.entities.specs.Typing.{record_in}
 use Rattle.entity_data.specs.ancestor_search.Hierarchy.{AscendingListsAreOne}
 use Rattle.entity_data.specs.ancestor_search.Decided.{is_same}
 use Rattle.entity_data.specs.ancestor_search.Deciding.{Contains-here, Contains-there, Contains-cases, Contains-none}

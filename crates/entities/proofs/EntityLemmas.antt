@@ -15,15 +15,15 @@ use Rattle.values.specs.declared.entity_uid.EntityUid.{EntityUid}
 use Rattle.values.specs.Values.{fields_of}
 use Rattle.values.specs.Fields.{Field}
 use Rattle.entity_data.specs.ancestor_search.Hierarchy.{IsAscending}
-use Rattle.entity_values.specs.entity_uids.Uids.{IsPlainUid, IsUid, IsUnderEntity, IsRead, uid_in, uid_json}
-use Rattle.entity_values.specs.entity_uids.Laws.{OneUid, UidsAreFound, WrittenIsRead}
+use Rattle.entities.specs.entity_uids.Uids.{IsPlainUid, IsUid, IsUnderEntity, IsRead, uid_in, uid_json}
+use Rattle.entities.specs.entity_uids.Laws.{OneUid, UidsAreFound, WrittenIsRead}
 use Rattle.schema_types.specs.Cedar.{Cedar, deep, IsTooLarge}
 use Rattle.schema.specs.Schemas.{StatedSchema}
 use Rattle.schema.specs.WellFormed.{IsWellFormed}
-use Rattle.entity_values.specs.declared.fault.ValueFault.{ValueFault}
-use Rattle.entity_values.specs.Typing.{record_in}
-use Rattle.entity_values.specs.Canonical.{fields_json}
-use Rattle.entity_values.specs.Laws.{RecordIsReadAgain, RecordNests}
+use Rattle.entities.specs.declared.value_fault.ValueFault.{ValueFault}
+use Rattle.entities.specs.Typing.{record_in}
+use Rattle.entities.specs.CanonicalValues.{fields_json}
+use Rattle.entities.specs.ValueLaws.{RecordIsReadAgain, RecordNests}
 use Rattle.entities.specs.declared.fault.EntityFault.{EntityFault}
 use Rattle.entities.specs.declared.fault.EntityFault.TheVariants.{BadShape, ActionEntity, UnknownType, TagsLeftOut}
 use Rattle.entities.specs.declared.stated.StatedEntity.{StatedEntity}

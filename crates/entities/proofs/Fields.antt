@@ -11,8 +11,8 @@ use Rattle.serde_json.specs.Data as json
 use Rattle.serde_json.specs.Find.{get_member}
 use Rattle.schema_types.specs.Cedar as type
 use Rattle.schema_types.specs.Cedar.{Cedar, CedarFields}
-use Rattle.entity_values.specs.Parts.{declared_at}
-use Rattle.entity_values.specs.Typing.{all_there}
+use Rattle.entities.specs.Parts.{declared_at}
+use Rattle.entities.specs.Typing.{all_there}
 use Rattle.entities.specs.StatedValues.{Declares, Requires, HasKey, HasRequired, LacksRequired}
 use Rattle.entities.specs.StatedValues as stated
 use Rattle.entities.proofs.ReadingSteps.{some_is, true_false, same_bytes, bytes_same, untrue}

@@ -22,13 +22,13 @@ use Rattle.values.proofs.of_extensions.CanonicalNetworks.{one_network}
 use Rattle.values.specs.declared.entity_uid.EntityUid.{EntityUid}
 use Rattle.values.specs.Values as value
 use Rattle.values.specs.Values.{PlainValue}
-use Rattle.entity_values.specs.entity_uids.Uids.{IsUid, IsRead, uid_in, plain_uid_in}
-use Rattle.entity_values.specs.entity_uids.Laws.{OneUid, UidsAreFound}
-use Rattle.entity_values.specs.declared.fault.ValueFault.TheVariants.{WrongType}
+use Rattle.entities.specs.entity_uids.Uids.{IsUid, IsRead, uid_in, plain_uid_in}
+use Rattle.entities.specs.entity_uids.Laws.{OneUid, UidsAreFound}
+use Rattle.entities.specs.declared.value_fault.ValueFault.TheVariants.{WrongType}
 use Rattle.schema_types.specs.Cedar as type
 use Rattle.schema_types.specs.Cedar.{Cedar}
-use Rattle.entity_values.specs.Typing.{under_key, plain_call, call_in, argument_in, boolean_in, is_long}
-use Rattle.entity_values.specs.Typing.{long_of, long_in, text_in, entity_in, decimal_in, ipaddr_in, leaf, typed_value}
+use Rattle.entities.specs.Typing.{under_key, plain_call, call_in, argument_in, boolean_in, is_long}
+use Rattle.entities.specs.Typing.{long_of, long_in, text_in, entity_in, decimal_in, ipaddr_in, leaf, typed_value}
 use Rattle.entities.specs.StatedValues.{IsCall, IsArgument, Reads}
 use Rattle.entities.specs.StatedValues as stated
 use Rattle.entities.proofs.ReadingSteps.{done, ok_is, some_of, passes, same_bytes, bytes_same, found_of, found_is, none_some}

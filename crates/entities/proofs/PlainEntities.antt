@@ -17,11 +17,11 @@ use Rattle.values.specs.declared.entity_uid.EntityUid.{EntityUid}
 use Rattle.values.specs.Fields.{Field}
 use Rattle.values.specs.Names.{uid_cmp}
 use Rattle.values.specs.Values.{fields_of}
-use Rattle.entity_values.specs.entity_uids.Uids.{uid_in, uid_json}
+use Rattle.entities.specs.entity_uids.Uids.{uid_in, uid_json}
 use Rattle.schema.specs.Schemas.{StatedSchema}
-use Rattle.entity_values.specs.declared.fault.ValueFault.{ValueFault}
-use Rattle.entity_values.specs.Typing.{record_in}
-use Rattle.entity_values.specs.Canonical.{fields_json}
+use Rattle.entities.specs.declared.value_fault.ValueFault.{ValueFault}
+use Rattle.entities.specs.Typing.{record_in}
+use Rattle.entities.specs.CanonicalValues.{fields_json}
 use Rattle.entity_data.specs.declared.entity.Entity.{Entity}
 use Rattle.entity_data.specs.UidSets.{put_uid, uid_set}
 use Rattle.entities.specs.declared.fault.EntityFault.TheVariants.{BadShape, TagsLeftOut}

@@ -22,16 +22,16 @@ use Rattle.values.specs.ValueOrder.{value_cmp}
 use Rattle.values.specs.Sets.{put_value, set_list}
 use Rattle.schema_types.specs.Cedar as cedar
 use Rattle.schema_types.specs.Cedar.{Cedar, CedarFields}
-use Rattle.entity_values.specs.entity_uids.Uids.{uid_in}
-use Rattle.entity_values.specs.declared.fault.ValueFault.{ValueFault}
-use Rattle.entity_values.specs.declared.fault.ValueFault.TheVariants.{WrongType, Undeclared, Missing}
-use Rattle.entity_values.specs.Parts.{element_of, fields_in, declared_at}
+use Rattle.entities.specs.entity_uids.Uids.{uid_in}
+use Rattle.entities.specs.declared.value_fault.ValueFault.{ValueFault}
+use Rattle.entities.specs.declared.value_fault.ValueFault.TheVariants.{WrongType, Undeclared, Missing}
+use Rattle.entities.specs.Parts.{element_of, fields_in, declared_at}
 use Rattle.values.specs.extensions.TextsDecided.{decimal_of, network_of}
-use Rattle.entity_values.specs.Typing.{argument_in, boolean_in, is_long, long_of, long_in, text_in, entity_in}
-use Rattle.entity_values.specs.Typing.{decimal_in, ipaddr_in, leaf, all_there, with_or, inside, typed_value}
-use Rattle.entity_values.specs.Typing.{typed_items}
-use Rattle.entity_values.specs.Typing.{typed_members, record_in}
-use Rattle.entity_values.specs.Canonical.{value_json, values_json, fields_json}
+use Rattle.entities.specs.Typing.{argument_in, boolean_in, is_long, long_of, long_in, text_in, entity_in}
+use Rattle.entities.specs.Typing.{decimal_in, ipaddr_in, leaf, all_there, with_or, inside, typed_value}
+use Rattle.entities.specs.Typing.{typed_items}
+use Rattle.entities.specs.Typing.{typed_members, record_in}
+use Rattle.entities.specs.CanonicalValues.{value_json, values_json, fields_json}
 use Rattle.entities.specs.Texts.{HaveUtf8, MembersHaveUtf8}
 use Rattle.entities.proofs.Steps.{carried, some_of, passes}
 use Rattle.entities.proofs.PlainParts.{IsClean, str_is_utf8, uid_is_utf8, entity_is_plain, long_is_whole}

@@ -14,15 +14,15 @@ use Rattle.values.specs.Values.{PlainValue, PlainFields, values_of, fields_of, p
 use Rattle.values.specs.Fields.{Field}
 use Rattle.values.specs.Sets.{set_list}
 use Rattle.values.specs.extensions.TextsDecided.{decimal_of, network_of}
-use Rattle.entity_values.specs.entity_uids.Uids.{uid_in}
-use Rattle.entity_values.specs.declared.fault.ValueFault.{ValueFault}
-use Rattle.entity_values.specs.declared.fault.ValueFault.TheVariants.{WrongType, Undeclared, Missing}
+use Rattle.entities.specs.entity_uids.Uids.{uid_in}
+use Rattle.entities.specs.declared.value_fault.ValueFault.{ValueFault}
+use Rattle.entities.specs.declared.value_fault.ValueFault.TheVariants.{WrongType, Undeclared, Missing}
 use Rattle.schema_types.specs.Cedar as type
 use Rattle.schema_types.specs.Cedar.{Cedar, CedarFields}
-use Rattle.entity_values.specs.Parts.{declared_at, element_of, fields_in}
-use Rattle.entity_values.specs.Typing.{all_there, inside, with_or, typed_value, typed_items, typed_members, record_in, leaf}
-use Rattle.entity_values.specs.Typing.{under_key, plain_call, call_in, argument_or_call, argument_in, boolean_in, is_long, long_of, long_in}
-use Rattle.entity_values.specs.Typing.{text_in, entity_in, decimal_in, ipaddr_in}
+use Rattle.entities.specs.Parts.{declared_at, element_of, fields_in}
+use Rattle.entities.specs.Typing.{all_there, inside, with_or, typed_value, typed_items, typed_members, record_in, leaf}
+use Rattle.entities.specs.Typing.{under_key, plain_call, call_in, argument_or_call, argument_in, boolean_in, is_long, long_of, long_in}
+use Rattle.entities.specs.Typing.{text_in, entity_in, decimal_in, ipaddr_in}
 use Rattle.entities.specs.StatedValues.{Declares, Reads, ReadMembers, FaultyMember, RefusesRecord}
 use Rattle.entities.specs.StatedValues as says
 use Rattle.entities.specs.AsStated.{ValuesAreRead, OneValue, OtherJsonIsOfWrongType, RecordsAreRead, RecordsAreRefused}

@@ -9,12 +9,12 @@ use Rattle.values.specs.Values.{PlainValue, values_of, fields_of}
 use Rattle.values.specs.Fields.{Field}
 use Rattle.values.specs.Sets.{set_list}
 use Rattle.values.proofs.Unique.{set_of, set_of_is}
-use Rattle.entity_values.specs.declared.fault.ValueFault.{ValueFault}
-use Rattle.entity_values.specs.declared.fault.ValueFault.TheVariants.{WrongType, Undeclared}
+use Rattle.entities.specs.declared.value_fault.ValueFault.{ValueFault}
+use Rattle.entities.specs.declared.value_fault.ValueFault.TheVariants.{WrongType, Undeclared}
 use Rattle.schema_types.specs.Cedar as type
 use Rattle.schema_types.specs.Cedar.{Cedar, CedarFields}
-use Rattle.entity_values.specs.Parts.{declared_at}
-use Rattle.entity_values.specs.Typing.{all_there, inside, typed_value, typed_items, typed_members, boolean_in, text_in}
+use Rattle.entities.specs.Parts.{declared_at}
+use Rattle.entities.specs.Typing.{all_there, inside, typed_value, typed_items, typed_members, boolean_in, text_in}
 use Rattle.entities.specs.StatedValues.{Reads, ReadItems, ReadMembers}
 use Rattle.entities.specs.StatedValues as says
 use Rattle.entities.proofs.ReadingSteps.{done, ok_is, some_of, passes}

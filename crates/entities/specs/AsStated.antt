@@ -4,9 +4,9 @@ use Rattle.serde_json.specs.Data.{Data, Members, object}
 use Rattle.values.specs.Values.{PlainValue, record_of, fields_of}
 use Rattle.values.specs.Fields.{Field}
 use Rattle.schema_types.specs.Cedar.{Cedar}
-use Rattle.entity_values.specs.declared.fault.ValueFault.{ValueFault}
-use Rattle.entity_values.specs.declared.fault.ValueFault.TheVariants.{WrongType}
-use Rattle.entity_values.specs.Typing.{typed_value, record_in}
+use Rattle.entities.specs.declared.value_fault.ValueFault.{ValueFault}
+use Rattle.entities.specs.declared.value_fault.ValueFault.TheVariants.{WrongType}
+use Rattle.entities.specs.Typing.{typed_value, record_in}
 use Rattle.schema.specs.Schemas.{StatedSchema}
 use Rattle.entities.specs.Entities.{entity_stated_in}
 use Rattle.entities.specs.Contexts.{context_in}

@@ -6,8 +6,8 @@ use Rattle.serde_json.specs.Data.{Data, object, array, no_members, member}
 use Rattle.serde_json.specs.View.{items_of}
 use Rattle.serde_json.specs.Written.{compact_text}
 use Rattle.values.specs.Values.{fields_of}
-use Rattle.entity_values.specs.entity_uids.Uids.{uid_json}
-use Rattle.entity_values.specs.Canonical.{fields_json}
+use Rattle.entities.specs.entity_uids.Uids.{uid_json}
+use Rattle.entities.specs.CanonicalValues.{fields_json}
 use Rattle.entity_data.specs.declared.entity.Entity.{Entity}
 
 -- `canonical_json e` is the canonical JSON of the entity `e`.

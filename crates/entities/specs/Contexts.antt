@@ -12,7 +12,7 @@ use Rattle.entity_data.specs.ancestor_search.Decided.{is_same}
 use Rattle.schema_types.specs.Cedar.{Cedar}
 use Rattle.schema.specs.declared.parts.Place.{Place}
 use Rattle.schema.specs.Schemas.{EnvironmentOf, StatedSchema}
-use Rattle.entity_values.specs.Typing.{record_in}
+use Rattle.entities.specs.Typing.{record_in}
 use Rattle.entities.specs.declared.fault.EntityFault.{EntityFault}
 use Rattle.entities.specs.declared.fault.EntityFault.TheVariants.{BadShape, NotApplicable}
 use Rattle.entities.specs.Faults.{told}

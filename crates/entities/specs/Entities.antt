@@ -14,7 +14,7 @@ use Rattle.values.specs.Fields.{Field}
 use Rattle.entity_data.specs.ancestor_search.Decided.{is_same}
 use Rattle.schema_types.specs.Cedar.{Cedar}
 use Rattle.schema.specs.Schemas.{StatedSchema}
-use Rattle.entity_values.specs.Typing.{record_in}
+use Rattle.entities.specs.Typing.{record_in}
 use Rattle.entities.specs.declared.fault.EntityFault.{EntityFault}
 use Rattle.entities.specs.declared.fault.EntityFault.TheVariants.{UnknownType, ActionEntity, BadParent, SelfParent}
 use Rattle.entities.specs.declared.fault.EntityFault.TheVariants.{TagsLeftOut}

@@ -12,6 +12,11 @@ pub mod Laws
 pub mod inner
 pub mod Texts
 pub mod CanonicalLaws
+pub mod CanonicalValues
+pub mod ValueLaws
+pub mod Parts
+pub mod ValueTexts
+pub mod Typing
 -- Specifications of lower crates, re-exported.
 pub use Rattle.entity_data.specs as entity_data
 pub use Rattle.entity_data.specs.ancestor_search
@@ -19,6 +24,5 @@ pub use Rattle.schema.specs as schema
 pub use Rattle.schema.specs.schema_file
 pub use Rattle.schema.specs.schema_names
 pub use Rattle.schema_types.specs as schema_types
-pub use Rattle.entity_values.specs as entity_values
-pub use Rattle.entity_values.specs.policy_grammar
-pub use Rattle.entity_values.specs.entity_uids
+pub use Rattle.entity_uids.specs as entity_uids
+pub use Rattle.entity_uids.specs.policy_grammar

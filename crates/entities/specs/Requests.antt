@@ -10,9 +10,9 @@ use Rattle.json_words.specs.ReadsAs.{◌>>=◌, or_fault}
 use Rattle.values.specs.declared.entity_uid.EntityUid.{EntityUid}
 use Rattle.values.specs.declared.request.Request.{Request}
 use Rattle.values.specs.Fields.{Field}
-use Rattle.entity_values.specs.entity_uids.Uids.{NamesEntity}
+use Rattle.entities.specs.entity_uids.Uids.{NamesEntity}
 use Rattle.schema.specs.Schemas.{StatedSchema}
-use Rattle.entity_values.specs.Typing.{record_in}
+use Rattle.entities.specs.Typing.{record_in}
 use Rattle.entities.specs.declared.fault.EntityFault.{EntityFault}
 use Rattle.entities.specs.declared.fault.EntityFault.TheVariants.{BadShape, NotApplicable}
 use Rattle.entities.specs.declared.requests.Asked.{Asked}

@@ -10,7 +10,7 @@ use Rattle.json_words.specs.Keys.{has_only}
 use Rattle.json_words.specs.Each.{each, list_of}
 use Rattle.json_words.specs.ReadsAs.{◌>>=◌, or_fault, demand}
 use Rattle.values.specs.declared.entity_uid.EntityUid.{EntityUid}
-use Rattle.entity_values.specs.entity_uids.Uids.{uid_in}
+use Rattle.entities.specs.entity_uids.Uids.{uid_in}
 use Rattle.entities.specs.declared.fault.EntityFault.{EntityFault}
 use Rattle.entities.specs.declared.fault.EntityFault.TheVariants.{BadShape}
 use Rattle.entities.specs.declared.stated.StatedEntity.{StatedEntity}
@@ -38,7 +38,7 @@ stated_uid d = or_fault BadShape (uid_in d)
 unfoldable pub uids_of : Items → Result (List EntityUid) EntityFault
 uids_of ds = each (λ i d. stated_uid d) 0 (list_of ds)
 
--- `stated_parents o` are the parents that an entity states, none if they are absent.
+-- `stated_parents o` are the parents that the value `o` of the key `parents` states; `[]` if the key is absent.
 abbrev pub stated_parents : Option Data → Result (List EntityUid) EntityFault
 stated_parents None = Ok []
 stated_parents (Some d) = do

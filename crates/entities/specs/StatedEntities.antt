@@ -10,9 +10,9 @@ use Rattle.json_words.specs.Each.{list_of}
 use Rattle.values.specs.Fields.{Field}
 use Rattle.values.specs.Values.{record_of, fields_of}
 use Rattle.values.specs.declared.entity_uid.EntityUid.{EntityUid}
-use Rattle.entity_values.specs.entity_uids.Uids.{IsUid}
-use Rattle.entity_values.specs.declared.fault.ValueFault.{ValueFault}
-use Rattle.entity_values.specs.declared.fault.ValueFault.TheVariants as value
+use Rattle.entities.specs.entity_uids.Uids.{IsUid}
+use Rattle.entities.specs.declared.value_fault.ValueFault.{ValueFault}
+use Rattle.entities.specs.declared.value_fault.ValueFault.TheVariants as value
 use Rattle.entity_data.specs.ancestor_search.Hierarchy.{IsAscending}
 use Rattle.entity_data.specs.declared.entity.Entity.{Entity}
 use Rattle.schema_types.specs.Cedar.{Cedar}

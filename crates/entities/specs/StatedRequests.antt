@@ -8,7 +8,7 @@ use Rattle.values.specs.Fields.{Field}
 use Rattle.values.specs.Values.{record_of, fields_of}
 use Rattle.values.specs.declared.entity_uid.EntityUid.{EntityUid}
 use Rattle.values.specs.declared.request.Request.{Request}
-use Rattle.entity_values.specs.declared.fault.ValueFault.{ValueFault}
+use Rattle.entities.specs.declared.value_fault.ValueFault.{ValueFault}
 use Rattle.schema_types.specs.Cedar.{Cedar}
 use Rattle.schema.specs.declared.parts.Place.{Place}
 use Rattle.schema.specs.Schemas.{EnvironmentOf, StatedSchema}

@@ -17,9 +17,9 @@ use Rattle.values.specs.declared.entity_uid.EntityUid.{EntityUid}
 use Rattle.values.specs.extensions.Network.{Network}
 use Rattle.values.specs.extensions.DecimalText.{IsDecimalText}
 use Rattle.values.specs.extensions.NetworkText.{IsNetworkText}
-use Rattle.entity_values.specs.entity_uids.Uids.{IsUid}
-use Rattle.entity_values.specs.declared.fault.ValueFault.{ValueFault}
-use Rattle.entity_values.specs.declared.fault.ValueFault.TheVariants.{WrongType, Undeclared, Missing}
+use Rattle.entities.specs.entity_uids.Uids.{IsUid}
+use Rattle.entities.specs.declared.value_fault.ValueFault.{ValueFault}
+use Rattle.entities.specs.declared.value_fault.ValueFault.TheVariants.{WrongType, Undeclared, Missing}
 use Rattle.schema_types.specs.Cedar as type
 use Rattle.schema_types.specs.Cedar.{Cedar, CedarFields}
 

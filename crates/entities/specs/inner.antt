@@ -1,1 +1,4 @@
 pub mod Halves
+pub mod Ahead
+pub mod InPlace
+pub mod Inside

@@ -7,7 +7,7 @@ ghost use Rattle.entities.specs.AsStated.{RequestsAreRead, RequestsHaveOneOutcom
 
 use crate::laws::{action_types_are_told, requests_have_one_outcome};
 use entity_data::ascending_lists_are_one;
-use entity_values::names_read_back;
+use entity_uids::names_read_back;
 
 /// Proves that parsing by a type gives the value that JSON states, or the error if it states none. No-op.
 ///

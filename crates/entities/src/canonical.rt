@@ -4,12 +4,13 @@ ghost use Rattle.serde_json.specs.Data.{array, depth};
 ghost use Rattle.serde_json.specs.Read.{max_depth};
 ghost use Rattle.serde_json.specs.View.{items_of};
 ghost use Rattle.json_words.specs.Json.{json_of};
-ghost use Rattle.entity_values.specs.entity_uids.Tokens.{AppendsValue};
-ghost use Rattle.entity_values.specs.entity_uids.Uids.{uid_json};
+ghost use Rattle.entities.specs.entity_uids.Tokens.{AppendsValue};
+ghost use Rattle.entities.specs.entity_uids.Uids.{uid_json};
 ghost use Rattle.entities.specs.Canonical.{canonical_json, canonical_text};
 
+use crate::value_writing::write_record;
 use entity_data::Entity;
-use entity_values::{write_record, write_uid};
+use entity_uids::write_uid;
 use json::Writer;
 use plain::NoMemory;
 use std::alloc::Global;

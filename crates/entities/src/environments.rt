@@ -44,7 +44,7 @@ fn context_if_sought<'s, S: Sought>(
     }
 }
 
-/// Returns the same of the environment at an index of a list.
+/// Returns the type of the context of the environment at an index of a list, if it is sought.
 fn context_at<'s, S: Sought>(
     environments: &'s [Environment],
     at: usize,

@@ -3,7 +3,7 @@ ghost use Rattle.std.specs.Prelude.{◌≡◌};
 ghost use Rattle.entities.specs.Faults.{code_of, of_value};
 ghost use Rattle.entities.specs.declared.fault.EntityFault.TheVariants.{NoMemory};
 
-use entity_values::ValueFault;
+use crate::value_fault::ValueFault;
 use plain::NoMemory;
 use thiserror::Error;
 

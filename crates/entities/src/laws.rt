@@ -3,7 +3,8 @@ ghost use Rattle.entities.specs.Laws.{CanonicalIsRead, CanonicalNests, Canonical
 ghost use Rattle.entities.specs.Laws.{SetsHoldTheirMembers, ActionTypeTestIsExact};
 ghost use Rattle.entities.specs.Laws.{OneRequest, NotBoth, OneRefusal, RequestOrRefusal};
 
-use entity_values::{names_read_back, records_are_read_again, texts_have_one_reading};
+use crate::value_laws::records_are_read_again;
+use entity_uids::{names_read_back, texts_have_one_reading};
 
 /// Proves that the canonical JSON of a parsed entity is parsed as that entity under the same schema. No-op.
 ///

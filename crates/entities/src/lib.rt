@@ -17,6 +17,10 @@ mod reading;
 mod requests;
 mod stated;
 mod uid_set;
+mod value_fault;
+mod value_laws;
+mod value_reading;
+mod value_writing;
 
 pub use as_stated::{
     contexts_are_read_as_stated, entities_are_read_as_stated, requests_are_read_as_stated,
@@ -26,7 +30,10 @@ pub use canonical::canonical_text;
 pub use canonical_laws::{canonical_texts_are_read, json_texts_are_utf8};
 pub use contexts::read_context;
 pub use entity_data::{ActionSource, Entities, Entity, EntitySource, EntityStore, NoActions};
-pub use entity_values::{ActionScope, EntityScope, Policy, Scope};
+pub use entity_uids::{
+    ActionScope, EntityScope, Policy, Scope, names_read_back, read_name, read_uid,
+    texts_have_one_reading,
+};
 pub use fault::EntityFault;
 pub use laws::{action_types_are_told, entities_read_back, requests_have_one_outcome};
 pub use reading::read_entity;
@@ -35,3 +42,9 @@ pub use schema::{
     Environment, Schema, SchemaFault, bytes_have_one_outcome, declarations_are_read_as_stated,
     read_schema, stated_schemas_are_well_formed,
 };
+pub use value_fault::ValueFault;
+pub use value_laws::{
+    canonical_is_read, canonical_nests_within_its_type, json_is_read_again, records_are_read_again,
+    values_have_no_float, written_is_read_again,
+};
+pub use value_reading::read_record;

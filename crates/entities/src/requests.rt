@@ -17,7 +17,7 @@ use crate::environments::{Sought, context_of};
 use crate::fault::EntityFault;
 use crate::reading::read_fields;
 use crate::stated::is_absent_or_object;
-use entity_values::read_name;
+use entity_uids::read_name;
 use schema::{Place, Schema};
 use schema_types::CedarType;
 use serde_json::Value;

@@ -24,7 +24,7 @@ pub struct StatedEntity {
 fn read_uid(alloc: Global, value: &Value) -> Result<EntityUid, EntityFault>
     ensures { ReadsAs EntityFault.NoMemory (λ u. u) result (stated_uid (view value.now)) }
 {
-    match entity_values::read_uid(alloc, value)? {
+    match entity_uids::read_uid(alloc, value)? {
         Some(uid) => Ok(uid),
         None => Err(EntityFault::BadShape),
     }
@@ -34,7 +34,7 @@ fn read_uid(alloc: Global, value: &Value) -> Result<EntityUid, EntityFault>
 fn parent_uids(alloc: Global, values: &[Value]) -> Result<Items<EntityUid>, EntityFault>
     ensures { ReadsAs EntityFault.NoMemory (λ us. us) result (uids_of (items_view values.now)) }
 {
-    match entity_values::read_uids(alloc, values)? {
+    match entity_uids::read_uids(alloc, values)? {
         Some(uids) => Ok(uids),
         None => Err(EntityFault::BadShape),
     }

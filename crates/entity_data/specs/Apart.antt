@@ -1,6 +1,6 @@
 -- Defines that declared actions are a hierarchy of their own.
 -- Source: Cedar reference guide 4.0, "Schema JSON format", `actions` and `memberOf`: the groups that an action is a
--- member of are actions, and none is above itself: bytes that declare such an action state no schema.
+-- member of are actions, and no action is its own ancestor: bytes that declare such an action state no schema.
 use Rattle.std.specs.Prelude.{List, [], Contains, Option, Some, None, IsSome}
 use Rattle.values.specs.declared.entity_uid.EntityUid.{EntityUid}
 use Rattle.evaluator.specs.ancestor_search.Hierarchy.{Parents}

@@ -19,7 +19,7 @@ abbrev pub attributes_of : Option EntityData → Option (List Field)
 attributes_of None = None
 attributes_of (Some e) = Some e.attrs
 
--- `kept_parents o` are its parents; none if there is no entity.
+-- `kept_parents o` are the parents of the entity `o`; `[]` if there is no entity.
 abbrev pub kept_parents : Option EntityData → List EntityUid
 kept_parents None = []
 kept_parents (Some e) = e.parents

@@ -10,7 +10,7 @@ use Rattle.json_words.specs.ReadsAs.{◌>>=◌, or_fault, demand}
 use Rattle.entities.specs.schema_types.Cedar.{Cedar}
 use Rattle.entities.specs.schema.Schemas.{StatedSchema}
 use Rattle.entities.specs.schema.WellFormed.{IsWellFormed, StatedSchemasAreWellFormed}
-use Rattle.entities.specs.entity_values.Typing.{record_in}
+use Rattle.entities.specs.Typing.{record_in}
 use Rattle.entities.specs.declared.fault.EntityFault.{EntityFault}
 use Rattle.entities.specs.declared.fault.EntityFault.TheVariants.{UnknownType, ActionEntity, TagsLeftOut}
 use Rattle.entities.specs.entity_data.declared.entity.Entity.{Entity}

@@ -1,4 +1,4 @@
--- Defines when two worlds, with the same entities and the same ancestor relation, cannot be distinguished.
+-- Defines when entity data cannot be distinguished: the same entities with the same ancestor relation.
 use Rattle.std.specs.Prelude.{◌↔◌, List}
 use Rattle.values.specs.declared.entity_uid.EntityUid.{EntityUid}
 use Rattle.values.specs.declared.request.Request.{Request}

@@ -7,8 +7,8 @@ use Rattle.entities.specs.schema.Views.{parents_at}
 use Rattle.entities.specs.entity_data.Entities.{EntityMap, Actions, AreActions, with_actions}
 use Rattle.entities.specs.entity_data.Listing.{keys_are_found}
 
--- `actions_under schema` are the actions of a schema, with the parents that their `memberOf` states. That edges to
--- all ancestors of an action would give the same ancestor relation and the same answers is a theorem of this crate.
+-- `actions_under schema` are the actions of a schema, with the parents that their `memberOf` states. A theorem of this
+-- crate: edges to all ancestors of each action would give the same ancestor relation and the same answers.
 abbrev pub actions_under : SchemaEntries → Actions
 actions_under schema u = parents_at schema.member_of u
 

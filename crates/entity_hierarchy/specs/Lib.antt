@@ -12,4 +12,3 @@ pub use Rattle.entities.specs.schema
 pub use Rattle.entities.specs.schema_file
 pub use Rattle.entities.specs.schema_names
 pub use Rattle.entities.specs.schema_types
-pub use Rattle.entities.specs.entity_values

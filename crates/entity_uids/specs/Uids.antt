@@ -12,7 +12,7 @@ use Rattle.values.specs.Paths.{is_path}
 use Rattle.policy_grammar.specs.PolicyText.{IsUidText}
 use Rattle.values.specs.declared.entity_uid.EntityUid.{EntityUid}
 
--- `IsPlainUid d uid` holds if `d` is {"type": the name of a type, "id": any string}, of this uid.
+-- `IsPlainUid d uid` holds if `d` is {"type": the name of a type, "id": any string}, with the type and the id of `uid`.
 pub record IsPlainUid (d : Data) (uid : EntityUid) : Type 0 where
   pub alone : has_only (codes "type" ∷ codes "id" ∷ []) d ≡ true
   pub type_name : text_at (codes "type") d ≡ Some uid.type_name
@@ -32,7 +32,7 @@ IsUid d uid = MatchOption (get (codes "__entity") d) (IsPlainUid d uid) (λ inne
 abbrev pub NamesEntity : Data → EntityUid → Type 0
 NamesEntity d uid = MatchOption (as_str d) (IsUid d uid) (λ text. IsUidText text uid)
 
--- `IsRead Names read` holds if `read` is the entity that is named, or `None` if none is.
+-- `IsRead Names read` holds if `read` is the entity for which `Names` holds, or `None` if it holds for no entity.
 abbrev pub IsRead : (EntityUid → Type 0) → Option EntityUid → Type 0
 IsRead Names read = MatchOption read ((uid : EntityUid) → Names uid → ⊥) Names
 

@@ -1,4 +1,4 @@
-//! Names of entities, written as JSON token by token.
+//! Writes uids as JSON, token by token.
 ghost use Rattle.std.specs.Prelude.{OnOk};
 ghost use Rattle.entity_uids.specs.Tokens.{Adds, tokens_of};
 ghost use Rattle.entity_uids.specs.Uids.{uid_json, entity_json};
@@ -7,8 +7,11 @@ use json::Writer;
 use plain::NoMemory;
 use values::EntityUid;
 
-/// Appends the name of an entity, `{"id":"alice","type":"User"}`. The only error is `NoMemory`; what was written by
-/// then must not be used.
+/// Appends a uid, `{"id":"alice","type":"User"}`.
+///
+/// # Errors
+///
+/// - `NoMemory`: an allocation failed. The output must then not be used.
 pub fn write_uid(out: &mut Writer, uid: &EntityUid) -> Result<(), NoMemory>
     ensures { OnOk result (Adds out.old out.new (tokens_of (uid_json uid.now))) }
 {

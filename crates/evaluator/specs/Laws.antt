@@ -14,12 +14,12 @@ abbrev pub HasOneOutcome : Entities → Request → Expr → Type 0
 HasOneOutcome W q x = (r : EvaluationResult) × EvaluatesTo W q x r
     × ((s : EvaluationResult) → EvaluatesTo W q x s → s ≡ r)
 
--- `HaveOneOutcome`: each expression does, if a test decides the ancestor relation.
+-- `HaveOneOutcome`: each expression has exactly one outcome, if a test decides the ancestor relation.
 abbrev pub HaveOneOutcome : Type 0
 HaveOneOutcome = (W : Entities) (above : EntityUid → EntityUid → Bool) → Decides W.parents above
     → (q : Request) (x : Expr) → HasOneOutcome W q x
 
--- `HaveOneOutcomeInFiniteHierarchies`: each expression does, if finitely many entities have parents.
+-- `HaveOneOutcomeInFiniteHierarchies`: each expression has exactly one outcome, if finitely many entities have parents.
 abbrev pub HaveOneOutcomeInFiniteHierarchies : Type 0
 HaveOneOutcomeInFiniteHierarchies = (W : Entities) (stored : List EntityUid) → HaveAllParents W.parents stored
     → (q : Request) (x : Expr) → HasOneOutcome W q x

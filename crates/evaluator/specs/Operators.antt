@@ -36,7 +36,7 @@ pub record Entities : Type 0 where
   pub stored : EntityUid → Option (List Field)
   pub parents : Parents
 
--- `world_of stored parents` is the world with these attributes and parents.
+-- `world_of stored parents` is the entity data with these attributes and parents.
 abbrev pub world_of : (EntityUid → Option (List Field)) → Parents → Entities
 world_of stored parents = record { stored = stored; parents = parents }
 

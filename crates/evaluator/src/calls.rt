@@ -65,7 +65,7 @@ fn is_within(a: IpNet, b: IpNet) -> bool
     a.is_in_range(&b)
 }
 
-/// Returns whether the first of two decimals is less, or the error.
+/// Returns whether the first of two decimals is less than the second, or the error of `numbers`.
 fn less(numbers: Result<(Decimal, Decimal), EvalFault>) -> Result<Value, EvalFault>
     ensures { result ≡ and_then numbers (λ p. truth (int_lt p.0 p.1)) }
 {

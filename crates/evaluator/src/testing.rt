@@ -1,5 +1,5 @@
-//! Tests, and the integers that they compare, without making values: most conditions consist of these expressions,
-//! whose values would only be made to take out the boolean or the integer.
+//! Evaluates tests to a `bool`, and what they compare to an `i64`, without building values: most conditions consist of
+//! such expressions, and only the boolean or the integer of their values is used.
 ghost use Rattle.evaluator.specs.inner.Computing.{decided_world, Answers, meaning, and_then, as_test, field_of};
 ghost use Rattle.evaluator.specs.inner.Computing.{has_field, apply_binary, TellsNumber, TellNumbers};
 

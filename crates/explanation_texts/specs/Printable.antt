@@ -1,5 +1,5 @@
 -- Defines texts of printable ASCII.
--- Source: RFC 20. Rule of this product: the texts on each code are printable.
+-- Source: RFC 20. Rules of this product: the texts on each code are printable.
 use Rattle.std.specs.Prelude.{ℕ, Bool, ◌&&◌, nat_le, List}
 use Rattle.std.specs.List.{list_all}
 use Rattle.explanation_texts.specs.declared.table.CodeWords.{CodeWords}

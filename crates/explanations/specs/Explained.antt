@@ -23,14 +23,14 @@ use Rattle.explanations.specs.Others.{AreEntitiesExplained, IsRequestExplained}
 abbrev pub IsTextOf : List ℕ → List ℕ → Type 0
 IsTextOf bytes text = (IsUtf8 bytes × (text ≡ bytes)) ⊎ ((IsUtf8 bytes → ⊥) × (text ≡ []))
 
--- `AreTokensOf text ts` holds if `ts` are the tokens of `text`, or none if at some byte no token begins.
+-- `AreTokensOf text ts` holds if `ts` are the tokens of `text`, or `[]` if at some byte no token begins.
 abbrev pub AreTokensOf : List ℕ → List Token → Type 0
 AreTokensOf text ts = IsLexed text ts ⊎ (((at : ℕ) × IsBadAt text at) × (ts ≡ []))
 
 -- ---- a file of policies
 
--- `IsUnreadExplained s file text pieces r bytes` holds if `bytes` explain a file that is rejected with `r`: its pieces,
--- and behind them `r`, if it is the error of none of these.
+-- `IsUnreadExplained s file text pieces r bytes` holds if `bytes` explain a file that is rejected with `r`: its pieces
+-- and then `r`, unless it is the error of one of them.
 abbrev pub IsUnreadExplained : Option StatedSchema → List ℕ → List ℕ → List Piece → Refusal → List ℕ → Type 0
 IsUnreadExplained s file text pieces r bytes =
     ArePiecesExplained s file text r pieces true bytes

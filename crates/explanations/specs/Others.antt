@@ -34,7 +34,7 @@ abbrev pub AreEntitiesRead : Option StatedSchema → List ℕ → Type 0
 AreEntitiesRead None text = AreBareTextsRead text any_request
 AreEntitiesRead (Some s) text = (es : List Entity) × (entities_of (reading_under s) text ≡ Ok es)
 
--- `AreEntitiesRefused s text r` holds if not, with the error `r`.
+-- `AreEntitiesRefused s text r` holds if `text` is not such an array, with the error `r`.
 abbrev pub AreEntitiesRefused : Option StatedSchema → List ℕ → Refusal → Type 0
 AreEntitiesRefused None text r = AreBareTextsRefused text any_request r
 AreEntitiesRefused (Some s) text r = entities_of (reading_under s) text ≡ Err r
@@ -45,7 +45,7 @@ abbrev pub IsRequestRead : Option (List ℕ) → List ℕ → Type 0
 IsRequestRead None text = AreBareTextsRead (codes "[]") text
 IsRequestRead (Some schema) text = (line : List ℕ) × typed.IsDecided schema [] (codes "[]") text line
 
--- `IsRequestRefused schema text r` holds if not, with the error `r`.
+-- `IsRequestRefused schema text r` holds if `text` is not a request, with the error `r`.
 abbrev pub IsRequestRefused : Option (List ℕ) → List ℕ → Refusal → Type 0
 IsRequestRefused None text r = AreBareTextsRefused (codes "[]") text r
 IsRequestRefused (Some schema) text r = typed.IsSchemaDecisionRefused schema [] (codes "[]") text r
@@ -62,7 +62,7 @@ IsRequestPartTold None text words = IsNothing words
 IsRequestPartTold (Some s) text words = IsAskedTold s text words
 
 -- `IsJudgedText name Told judged bytes` holds if `bytes` explain the error of the file `name`, with words for which
--- `Told` holds at its index; they are empty if there is none.
+-- `Told` holds at its index; `bytes` are empty if there is no error.
 abbrev pub IsJudgedText : List ℕ → (Option ℕ → List ℕ → Type 0) → Result ⊤ Refusal → List ℕ → Type 0
 IsJudgedText name Told (Ok done) bytes = bytes ≡ []
 IsJudgedText name Told (Err r) bytes = (r ≡ no_memory → ⊥) × IsWholeAt name r.code r.place (Told r.place) bytes

@@ -40,8 +40,8 @@ fn tokens_of(alloc: Global, text: &str) -> Result<Vec<Token>, NoMemory>
     }
 }
 
-/// Appends why a file of policies does not parse: the error of each of its pieces, and behind these that of the file,
-/// if it is none of them.
+/// Appends why a file of policies does not parse: the error of each of its pieces and then that of the file, unless it
+/// is among them.
 fn explain_unread(
     alloc: Global,
     out: &mut String,
@@ -129,7 +129,7 @@ fn explain_others(
     Ok(())
 }
 
-/// Appends the same under the schema of a text, or why that schema is rejected.
+/// Appends the explanations of files under the schema of a text, or why that schema is rejected.
 fn explain_under(
     alloc: Global,
     out: &mut String,
@@ -174,7 +174,7 @@ fn explain_given(alloc: Global, out: &mut String, given: &Given<'_, '_>) -> Resu
 ///
 /// A policy that does not pass validation has the code that `check` reports. If the file does not parse, each part of
 /// it that ends with a `;`, or with the file, is parsed by itself, and has its own first error, or is checked as a
-/// policy of a file; if none of these errors is that of the file, that is last. A text without tokens has no such
+/// policy of a file; the error of the file comes last, unless it is among these. A text without tokens has no such
 /// parts.
 ///
 /// # Errors

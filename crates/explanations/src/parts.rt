@@ -21,7 +21,7 @@ pub(crate) fn part_of(text: &str, from: usize, to: usize) -> &str
     }
 }
 
-/// An error at a part of a text, of which nothing else is known.
+/// An error at a part of a text, without a detail.
 #[derive(Clone, Copy)]
 pub(crate) struct PlainFinding<'t> {
     /// The code.
@@ -80,7 +80,11 @@ pub(crate) fn push_refusal(
     Ok(())
 }
 
-/// Returns an error other than `NoMemory`, or `NoMemory`.
+/// Returns the error.
+///
+/// # Errors
+///
+/// - `NoMemory`: the error is `NoMemory`.
 pub(crate) fn no_want_of_memory(refusal: Refusal) -> Result<Refusal, NoMemory>
     ensures same { IfOk result (λ r. r ≡ refusal) }
     ensures other { IfOk result (λ r. refusal ≡ no_memory → ⊥) }

@@ -211,7 +211,7 @@ fn explain_check(
     }
 }
 
-/// Appends the same, under a schema if there is one.
+/// Appends why a policy does not pass validation, if there is a schema and it does not.
 fn explain_policy(
     alloc: Global,
     out: &mut String,
@@ -233,7 +233,7 @@ fn explain_policy(
     }
 }
 
-/// Appends the same for each policy of a file, in order.
+/// Appends why policies of a file do not pass validation, in the order of the file, if there is a schema.
 pub(crate) fn explain_policies(
     alloc: Global,
     out: &mut String,

@@ -42,7 +42,8 @@ fn names_token(code: u8) -> bool {
     matches!(code, 11..=16)
 }
 
-/// Returns the text between two bytes, or that the text ends there; nothing for an error that does not name a token.
+/// Returns the text from `at` to `end`, or `end of the text` if `at` is its end; the empty string for an error that
+/// does not name a token.
 fn cause_at(text: &str, code: u8, at: usize, end: usize) -> &str {
     if !names_token(code) {
         return "";
@@ -70,7 +71,7 @@ fn finding_at<'t>(lexed: Lexed<'t>, code: u8, at: usize) -> PlainFinding<'t>
     }
 }
 
-/// Appends the text of an error of this code at a byte of the text.
+/// Appends the explanation of the error with this code at a byte of the text.
 pub(crate) fn push_read_fault(
     alloc: Global,
     out: &mut String,
@@ -86,7 +87,7 @@ pub(crate) fn push_read_fault(
     Ok(())
 }
 
-/// Appends why the policy of a piece does not pass.
+/// Appends why the policy of a piece does not pass validation, if it does not.
 fn explain_read(
     alloc: Global,
     out: &mut String,
@@ -106,7 +107,11 @@ fn explain_read(
     Ok(())
 }
 
-/// Returns an error other than `NoMemory`, or `NoMemory`.
+/// Returns `fault`.
+///
+/// # Errors
+///
+/// - `NoMemory`: `fault` is `NoMemory`.
 fn no_failed_growth(fault: ReadFault) -> Result<ReadFault, NoMemory>
     ensures same { IfOk result (λ f. f ≡ fault) }
     ensures other { IfOk result (λ f. fault ≡ ReadFault.NoMemory → ⊥) }
@@ -138,8 +143,8 @@ fn is_that(refusal: Refusal, code: u8, at: usize) -> bool
     code == refusal.code && is_there(refusal, code, at)
 }
 
-/// Appends why a piece of a file does not parse as a file, or why its policy does not pass. Returns whether the error
-/// of the file is told.
+/// Appends why a piece of a file does not parse, or why its policy does not pass validation. Returns whether the piece
+/// has the error of the file.
 fn explain_piece(
     alloc: Global,
     out: &mut String,
@@ -171,7 +176,7 @@ fn either(first: bool, second: bool) -> bool
     first || second
 }
 
-/// Appends the same for each piece, in order. Returns whether the error of the file is that of one of them.
+/// Appends what [`explain_piece`] does for each piece, in order. Returns whether one of them has the error of the file.
 pub(crate) fn explain_pieces(
     alloc: Global,
     out: &mut String,

@@ -7,8 +7,8 @@ use Rattle.std.specs.Int.{w64}
 use Rattle.std.specs.Str.Parse.{IsNumeral, digits_value}
 use Rattle.std.specs.Fmt.{decimal}
 
--- `IsUnsignedText text n` holds if `text` is at least one digit, a point, and one to four digits, of `n`
--- ten-thousandths: the number of all the digits, divided by ten for each digit after the point.
+-- `IsUnsignedText text n` holds if `text` is one or more digits, a point, and one to four digits, and denotes `n`
+-- ten-thousandths.
 pub record IsUnsignedText (text : List ℕ) (n : ℕ) : Type 0 where
   pub whole : List ℕ
   pub fraction : List ℕ
@@ -18,7 +18,8 @@ pub record IsUnsignedText (text : List ℕ) (n : ℕ) : Type 0 where
   pub short : length fraction ≤ 4
   pub value : n * 10 ^ length fraction ≡ digits_value 10 (whole ++ fraction) * 10000
 
--- `IsSignedText text z` holds if `text` is such a string, or `-` and such a string.
+-- `IsSignedText text z` holds if `text` is such a string, with an optional `-` before it, and denotes `z`
+-- ten-thousandths.
 pub data IsSignedText : List ℕ → ℤ → Type 0 where
   plain : {text : List ℕ} {n : ℕ} → IsUnsignedText text n → IsSignedText text (pos n)
   minus : {text : List ℕ} {n : ℕ} → IsUnsignedText text n → IsSignedText (codes "-" ++ text) (neg_ℤ (pos n))

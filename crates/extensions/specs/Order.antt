@@ -19,7 +19,7 @@ abbrev pub version_number : Version → ℕ
 version_number V4 = 4
 version_number V6 = 6
 
--- `network_cmp a b` orders networks.
+-- `network_cmp a b` compares `a` and `b` by version, then address, then prefix.
 abbrev pub network_cmp : Network → Network → Ordering
 network_cmp = then_cmp (on (λ n. version_number n.version) nat_cmp)
     (then_cmp (on (λ n. n.address) nat_cmp) (on (λ n. n.prefix) nat_cmp))

@@ -1,5 +1,5 @@
--- Defines decisions on decimals and IP addresses: whether a string is one, and of which value, and whether a range is
--- within another. The type of each says what it decides; how it does so is not trusted.
+-- Defines decision procedures for decimals and IP addresses: whether a string is one, which value it denotes, and
+-- whether a range is within another. The type of each says what it decides; how it does so is not trusted.
 use Rattle.std.specs.Prelude.{◌⊎◌, ℕ, ℤ, List, Option}
 use Rattle.extensions.specs.Decided.{Decided, found}
 use Rattle.extensions.specs.DecimalText.{IsDecimalText}

@@ -1,4 +1,4 @@
-//! Strings of addresses and prefixes, parsed and appended.
+//! Parses and appends the strings of addresses, and parses those of prefixes.
 ghost use Rattle.std.specs.Prelude.{◌≡◌, ℕ, ◌+◌, ◌^◌, ◌<◌, ◌≤◌, ◌↔◌, ◌++◌, length};
 ghost use Rattle.std.specs.Prelude.{slice_index, IsTrue, IsNone, IfSome, string_bytes, string_len};
 ghost use Rattle.std.specs.Prelude.{string_capacity};
@@ -13,7 +13,7 @@ use crate::ip_net::Version;
 use crate::pieces::{append, append_byte, append_group};
 use std::net::{Ipv4Addr, Ipv6Addr};
 
-/// Parses an address without a prefix; returns it with its version.
+/// Parses an address without a prefix; returns it with its version, or `None` if the string is not an address.
 pub(crate) fn address_of_text(text: &str) -> Option<(Version, u128)>
     ensures some { IfSome result (λ a. IsAddressText a.0 text.now a.1) }
     ensures fits { IfSome result (λ a. a.1 < 2 ^ width a.0) }
@@ -77,7 +77,7 @@ fn decimal_of_text(text: &str) -> Option<u8>
     }
 }
 
-/// Returns whether a string has more characters after a leading `0`.
+/// Returns whether a string begins with `0` and has more characters.
 fn is_padded(text: &str) -> bool
     ensures { IsTrue result ↔ ((slice_index text.now 0 ≡ 48) × (1 < length text.now)) }
 {
@@ -112,7 +112,7 @@ pub(crate) fn append_ipv6(address: u128, out: &mut String)
     append_groups((address % 0x1_0000_0000_0000_0000) as u64, out)
 }
 
-/// Appends four groups.
+/// Appends the four groups of a number of 64 bits.
 fn append_groups(groups: u64, out: &mut String)
     requires { string_len out.old + 19 ≤ string_capacity out.old }
     ensures bytes { string_bytes out.new ≡ string_bytes out.old ++ groups_text groups }

@@ -151,21 +151,21 @@ fn size_of_text(text: &str) -> Option<u64>
     joined(whole, fraction)
 }
 
-/// Returns both parts as one number, if it is below `2^64`.
+/// Returns the number of ten-thousandths of a whole part and a fraction, or `None` if it is `2^64` or more.
 fn joined(whole: u64, fraction: u64) -> Option<u64>
     ensures { SomeIff result (whole * 10000 + fraction < 2 ^ 64) (whole * 10000 + fraction) }
 {
     u64::try_from(u128::from(whole) * 10_000 + u128::from(fraction)).ok()
 }
 
-/// Returns the negative number of this size, if it fits.
+/// Returns `-size`, or `None` if it is outside signed 64 bits.
 fn negated(size: u64) -> Option<i64>
     ensures { SomeIff result (FitsSigned w64 (neg_ℤ (pos size))) (neg_ℤ (pos size)) }
 {
     i64::try_from(-i128::from(size)).ok()
 }
 
-/// Returns the number of this size, if it fits.
+/// Returns `size`, or `None` if it is outside signed 64 bits.
 fn positive(size: u64) -> Option<i64>
     ensures { SomeIff result (FitsSigned w64 (pos size)) (pos size) }
 {
@@ -208,12 +208,12 @@ fn number(text: &str) -> Option<u64>
     text.parse::<u64>().ok()
 }
 
-/// Proves that a string is at most one decimal. No-op.
+/// Proves that a string denotes at most one decimal. No-op.
 pub fn one_decimal_a_text()
     ensures { (text : List ℕ) (y z : ℤ) → IsDecimalText text y → IsDecimalText text z → y ≡ z }
 {}
 
-/// Proves that a function computes the number of a string, if and only if the string is a decimal. No-op.
+/// Proves that a function computes the number that a string denotes, if and only if the string is a decimal. No-op.
 pub fn decimal_texts_are_decided()
     ensures { (text : List ℕ) (z : ℤ) → (decimal_of text ≡ Some z) ↔ IsDecimalText text z }
 {}

@@ -166,8 +166,8 @@ impl IpNet {
     ghost use Rattle.extensions.specs.NetworkText.{IsNetworkText, network_text};
     ghost use Rattle.extensions.specs.declared.ip_net.Version.TheVariants.{V4, V6};
 
-    /// Parses a network: an address, with `/` and a prefix unless that is all bits, and nothing around it. Returns
-    /// `None` for any other string.
+    /// Parses a network: an address, alone or followed by `/` and a prefix; alone it has the prefix of all bits.
+    /// Returns `None` for any other string.
     pub fn parse(text: &str) -> Option<IpNet>
         ensures some { IfSome result (IsNetworkText text.now) }
         ensures none { IsNone result → (n : Network) → ¬ (IsNetworkText text.now n) }
@@ -281,7 +281,7 @@ impl IpNet {
     }
 }
 
-/// Proves that the range is the addresses that agree with the network's in the bits of the prefix. No-op.
+/// Proves that a network's range is the addresses that agree with its address in the bits of its prefix. No-op.
 pub fn range_is_agreement()
     ensures { (n : Network) (x : ℕ) → ((least n ≤ x) × (x ≤ greatest n)) ↔ (x / size n ≡ n.address / size n) }
 {}
@@ -291,13 +291,13 @@ pub fn canonical_network_reads_back()
     ensures { (n : Network) → IsNetwork n → IsNetworkText (network_text n) n }
 {}
 
-/// Proves that a string is at most one network. No-op.
+/// Proves that a string denotes at most one network. No-op.
 pub fn one_network_a_text()
     ensures { (text : List ℕ) (m n : Network) → IsNetworkText text m → IsNetworkText text n → m ≡ n }
 {}
 
-/// Proves that a function computes the network of a string, if and only if the string is one; and that a test decides
-/// whether a range is within another. No-op.
+/// Proves that a function computes the network that a string denotes, if and only if it denotes one; and that a test
+/// decides whether a range is within another. No-op.
 pub fn network_texts_are_decided()
     ensures texts { (text : List ℕ) (n : Network) → (network_of text ≡ Some n) ↔ IsNetworkText text n }
     ensures ranges { (a b : Network) → IsTrue (told (within_decided a b)) ↔ IsWithin a b }

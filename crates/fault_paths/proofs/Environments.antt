@@ -18,13 +18,13 @@ use Rattle.validator.specs.typing.Laws.{HaveOneJudgement}
 use Rattle.validator.specs.Passing
 use Rattle.validator.specs.Passing.{environments_of, HasType, HasBooleanType, FirstFaulty}
 use Rattle.validator.proofs.OutcomeLemmas.{policy_is_test, typed_or_faulty}
-use Rattle.expression_paths.specs.Blamed.{Blame, blamed}
+use Rattle.typing.specs.Blamed.{Blame, blamed}
 use Rattle.fault_paths.specs.FirstBlamed.{environment_blamed, blamed_there}
 use Rattle.fault_paths.specs.Views.{place_view}
 use Rattle.fault_paths.specs.Told.{IsFirstBlame, IsTypeBlame}
 use Rattle.fault_paths.specs.inner.Judging.{IsBlamedAt, IsBlamedIn}
 use Rattle.fault_paths.specs.declared.blaming.TypeBlame.{TypeBlame}
-use Rattle.expression_paths.proofs.OnePlace.{one_blame}
+use Rattle.typing.proofs.OnePlace.{one_blame}
 
 module _ (one : HaveOneJudgement) (x : Expr) where
   not_both : (env : Environment) {n : ExpressionFault} → HasBooleanType x env → Faults env [] x n → ⊥

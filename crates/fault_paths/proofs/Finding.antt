@@ -19,7 +19,7 @@ use Rattle.type_checker.specs.type_capabilities.declared.pair.Capability.{Capabi
 use Rattle.type_checker.specs.declared.typed.Typed.{Typed}
 use Rattle.type_checker.specs.declared.fault.ExpressionFault as at_hand
 use Rattle.type_checker.specs.declared.fault.ExpressionFault.TheVariants as fault
-use Rattle.expression_paths.specs.Blamed.{blamed}
+use Rattle.typing.specs.Blamed.{blamed}
 use Rattle.fault_paths.specs.Views.{place_view}
 use Rattle.fault_paths.specs.declared.blaming.TypeBlame.{TypeBlame}
 use Rattle.fault_paths.specs.inner.Judging.{IsFault, IsFaultyIn, IsToldIn, IsBlamedAt}

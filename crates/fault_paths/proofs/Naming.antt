@@ -19,9 +19,9 @@ use Rattle.validator.specs.declared.fault.TypeFault.{TypeFault}
 use Rattle.validator.specs.Names.{Name, joined, names_in, names_step, operator_names}
 use Rattle.validator.specs.Unknown
 use Rattle.validator.specs.Unknown.{IsUnknown, IsKnown, FirstUnknown}
-use Rattle.expression_paths.specs.Places.{operands_in, operands_of}
-use Rattle.expression_paths.proofs.Items.{within, parted, grown, as_many, all_taken}
-use Rattle.expression_paths.proofs.Lower.{lower}
+use Rattle.typing.specs.Places.{operands_in, operands_of}
+use Rattle.typing.proofs.Items.{within, parted, grown, as_many, all_taken}
+use Rattle.typing.proofs.Lower.{lower}
 use Rattle.fault_paths.specs.NamesAt
 use Rattle.fault_paths.specs.NamesAt.{names_at, name_view, FirstUnknownAt}
 use Rattle.fault_paths.specs.inner.Naming.{AreNames, IsOwnName, IsNameFound}

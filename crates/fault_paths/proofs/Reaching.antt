@@ -7,7 +7,7 @@ use Rattle.validator.specs.typing.Learned.{Pairs}
 use Rattle.validator.specs.typing.Faults.{Faults}
 use Rattle.type_checker.specs.Views.{static_view}
 use Rattle.type_checker.specs.declared.static_type.StaticType.{StaticType}
-use Rattle.expression_paths.specs.Blamed.{Blame, under, blamed}
+use Rattle.typing.specs.Blamed.{Blame, under, blamed}
 use Rattle.fault_paths.specs.inner.Steps.{Reaches, below, last_of, stopped}
 
 pub reaches_itself : (env : Environment) (x : Expr) (p : List ℕ) (K : Pairs) → p ≡ [] → K ≡ [] → Reaches env x p K x

@@ -22,14 +22,14 @@ use Rattle.type_checker.specs.declared.static_type.StaticType.{StaticType}
 use Rattle.type_checker.specs.declared.typed.Typed.{Typed}
 use Rattle.fault_paths.specs.declared.steps.Step.{Step}
 use Rattle.fault_paths.specs.declared.steps.Step.TheVariants as step
-use Rattle.expression_paths.specs.Blamed.{Blame, at_itself, at_operand, under, blamed}
-use Rattle.expression_paths.specs.Places.{operands_in, operands_of}
+use Rattle.typing.specs.Blamed.{Blame, at_itself, at_operand, under, blamed}
+use Rattle.typing.specs.Places.{operands_in, operands_of}
 use Rattle.fault_paths.specs.inner.Steps.{IsStep, IsStepAmong, IsFound, KeepsType, StopsAt, StopsAtItself, last_of, stopped}
-use Rattle.expression_paths.proofs.Layers.{EachFaults, LayerFaults, layer}
-use Rattle.expression_paths.proofs.Items.{within, parted, grown, as_many, all_taken}
-use Rattle.expression_paths.proofs.Going
-use Rattle.expression_paths.proofs.Going.{Goes}
-use Rattle.expression_paths.proofs.Lower.{lower, lower_at}
+use Rattle.typing.proofs.Layers.{EachFaults, LayerFaults, layer}
+use Rattle.typing.proofs.Items.{within, parted, grown, as_many, all_taken}
+use Rattle.typing.proofs.Going
+use Rattle.typing.proofs.Going.{Goes}
+use Rattle.typing.proofs.Lower.{lower, lower_at}
 
 -- that this much is blamed is as the step says
 abbrev pub Says : Environment → Pairs → Expr → Blame → Type 0

@@ -1,18 +1,18 @@
 -- Defines the environment of the first fault of typing, and what the fault blames in it.
 -- Source: the rules of `validator` (Passing.antt, `FirstFaulty`).
--- Rule of this product: environments are numbered from 0, in the order in which `check` walks them.
+-- Rules of this product: environments are numbered from 0, in the order in which `check` walks them.
 use Rattle.std.specs.Prelude.{ℕ, suc, List}
 use Rattle.grammar_core.specs.declared.expr.Expr.{Expr}
 use Rattle.validator.specs.typing.Environment.{Environment, ExpressionFault}
 use Rattle.validator.specs.Passing.{FirstFaulty, faulty_here, faulty_later}
-use Rattle.expression_paths.specs.Blamed.{Blame, blamed}
+use Rattle.typing.specs.Blamed.{Blame, blamed}
 
--- `environment_blamed f` is the number of environments before the first faulty one.
+-- `environment_blamed f` is the index of the first faulty environment.
 abbrev pub environment_blamed : {x : Expr} {envs : List Environment} {n : ExpressionFault} → FirstFaulty x envs n → ℕ
 environment_blamed (faulty_here g) = 0
 environment_blamed (faulty_later h g) = suc (environment_blamed g)
 
--- `blamed_there f` is what is blamed in it
+-- `blamed_there f` is what the fault blames in that environment.
 abbrev pub blamed_there : {x : Expr} {envs : List Environment} {n : ExpressionFault} → FirstFaulty x envs n → Blame
 blamed_there (faulty_here g) = blamed g
 blamed_there (faulty_later h g) = blamed_there g

@@ -10,7 +10,7 @@ use Rattle.type_checker.specs.schema.Schemas.{StatedSchema}
 use Rattle.validator.specs.declared.fault.TypeFault.{TypeFault}
 use Rattle.validator.specs.Names.{Name, tested_type, entity, names_in, literal_names, operator_names}
 use Rattle.validator.specs.Unknown.{IsUnknown, IsKnown, FirstUnknown}
-use Rattle.expression_paths.specs.Places.{operands_of}
+use Rattle.typing.specs.Places.{operands_of}
 use Rattle.fault_paths.specs.declared.names.UnknownName.{UnknownName}
 use Rattle.fault_paths.specs.declared.names.UnknownName.TheVariants.{TestedType, Entity}
 use Rattle.fault_paths.specs.declared.names.NameBlame.{NameBlame}

@@ -1,6 +1,6 @@
 -- Defines the report on a rejected policy, by its names and its types.
 -- Source: docs/codes.md.
--- Rule of this product: names are reported before types.
+-- Rules of this product: names are reported before types.
 use Rattle.std.specs.Prelude.{All}
 use Rattle.type_checker.specs.policy_grammar.declared.policy.Policy.{Policy}
 use Rattle.type_checker.specs.policy_grammar.Whole.{expression_of}

@@ -6,11 +6,11 @@ ghost use Rattle.validator.specs.Unknown.{IsKnown};
 ghost use Rattle.fault_paths.specs.NamesAt.{IsNameBlame};
 ghost use Rattle.fault_paths.specs.inner.Naming.{AreNames, IsOwnName, IsNameFound};
 
-use expression_paths::operand;
 use grammar_core::{Expr, Literal, Unary};
 use plain::NoMemory;
 use std::alloc::Global;
 use type_checker::Schema;
+use typing::operand;
 use validator::{TypeFault, unknown_entity, unknown_tested_type};
 use values::{EntityUid, TypeName};
 

@@ -11,13 +11,13 @@ ghost use Rattle.type_checker.specs.type_capabilities.Pairs.{pairs};
 ghost use Rattle.fault_paths.specs.inner.Steps.{IsStep, IsStepAmong, StopsAt, StopsAtItself, KeepsType};
 
 use crate::judging::{judge, judge_with, know_too};
-use expression_paths::operand;
 use grammar_core::Expr;
 use plain::{NoMemory, Shared};
 use std::alloc::Global;
 use type_checker::{
     Capability, StaticType, Typed, TypingEnvironment, expressions_have_one_judgement,
 };
+use typing::operand;
 
 /// A step from a form with an error.
 #[derive(Drop)]

@@ -19,7 +19,7 @@ total (n ∷ ns) = n + total ns
 abbrev pub values_of : {X : Type 0} → List (Named X) → List X
 values_of fields = map (λ f. f.value) fields
 
--- `height_step e` is the height of a node over operands of these heights.
+-- `height_step e` is the height of the node `e`, given those of its operands.
 abbrev pub height_step : Expr-F ℕ → ℕ
 height_step (Expr-F.Literal literal) = 1
 height_step (Expr-F.Variable variable) = 1

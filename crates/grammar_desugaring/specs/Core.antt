@@ -112,7 +112,7 @@ module _ {A B : Type 0} (f : A → B) where
 abbrev by_itself : Meaning → Expr
 by_itself m = m.alone
 
--- `core_step text x` is the meaning of a tree over parts with these meanings.
+-- `core_step text x` is the meaning of the node `x`, given those of its parts.
 abbrev pub core_step : List ℕ → tree Meaning → Meaning
 core_step text (tree.Boolean value) = plain (core.Literal (literal.Boolean value))
 core_step text (tree.Number t) = number (spelling_of text t)

@@ -33,8 +33,8 @@ either_way faults = record { alone = faults; negated = faults }
 abbrev pub range : Bool → Token → List DesugarFault
 range within t = if within then [] else NumberRange t.start ∷ []
 
--- `call_faults at takes count` is the error of a call with `count` arguments at offset `at`, of a name that takes so
--- many, if it is known.
+-- `call_faults at takes count` is the error of a call at offset `at`, with `count` arguments, of a name that takes
+-- `takes` arguments, or that is unknown (`None`); `[]` if the numbers agree.
 abbrev pub call_faults : ℕ → Option ℕ → ℕ → List DesugarFault
 call_faults at None count = UnknownCall at ∷ []
 call_faults at (Some takes) count = if nat_eq count takes then [] else Arity at ∷ []
@@ -60,7 +60,7 @@ by_itself f = f.alone
 abbrev in_all : List Faulty → List DesugarFault
 in_all = flat_map by_itself
 
--- `fault_step text x` are the errors of a tree over parts with these errors.
+-- `fault_step text x` are the errors of the node `x`, given those of its parts.
 abbrev pub fault_step : List ℕ → tree Faulty → Faulty
 fault_step text (tree.Boolean value) = either_way []
 fault_step text (tree.Number t) =

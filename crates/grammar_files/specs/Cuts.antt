@@ -53,7 +53,7 @@ pub record StandsAlone (text : List ℕ) : Type 0 where
   pub ends : is_end last.kind ≡ true
   pub at_end : last.end ≡ length text
 
--- `EachStandsAlone`: each text of a policy does so.
+-- `EachStandsAlone`: each text of `policy_texts` stands alone.
 abbrev pub EachStandsAlone : Type 0
 EachStandsAlone = (text : List ℕ) (ts : List Token) → IsUtf8 text → IsLexed text ts
     → AllByRecursion StandsAlone (policy_texts text ts)
@@ -86,7 +86,8 @@ pub record DerivesPolicy (levels : ℕ) (text : List ℕ) : Type 0 where
   pub tree : PolicyTree
   pub derived : policy levels tokens tree
 
--- `EachDerivesPolicy`: each text of a file that is derived as policies does so; none has a syntax error.
+-- `EachDerivesPolicy`: if a file derives policies, each text of `policy_texts` derives a policy; none has a syntax
+-- error.
 abbrev pub EachDerivesPolicy : Type 0
 EachDerivesPolicy = (levels : ℕ) (text : List ℕ) (ts : List Token) (trees : List PolicyTree) → IsUtf8 text
     → IsLexed text ts → policies levels ts trees → AllByRecursion (DerivesPolicy levels) (policy_texts text ts)

@@ -1,9 +1,11 @@
-//! The texts of the policies in a file, each by itself.
+//! The texts of the policies in a file, each by itself, and the theorem that each is the same policy as in the file.
 #![tactic(auto)]
 
 mod cuts;
+mod file_laws;
 mod laws;
 
 pub use cuts::policy_texts;
+pub use file_laws::texts_read_as_in_their_file;
 pub use grammar_policies::{LexFault, lexing_is_unique, reading_is_unique};
 pub use laws::{files_are_cut_by_policies, texts_stand_alone};

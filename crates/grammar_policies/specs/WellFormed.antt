@@ -56,6 +56,6 @@ pub record WellFormedPolicy (ts : List Token) (p : PolicyTree) : Type 0 where
 
 -- ## Theorems
 
--- `IsMadeOfTokens L Holds` holds if each tree that tokens derive in `L` is made of them, as `Holds` says.
+-- `IsMadeOfTokens L Holds` holds if `Holds` relates each list of tokens to each tree that the list derives in `L`.
 abbrev pub IsMadeOfTokens : {A : Type 0} → Lang A → (List Token → A → Type 0) → Type 0
 IsMadeOfTokens L Holds = (ts : List Token) (x : _) → L ts x → Holds ts x

@@ -13,14 +13,14 @@ use crate::written::body;
 use plain::{NoMemory, Text};
 use std::alloc::Global;
 
-/// The value of the front of a string's body, and its length in bytes.
+/// The decoded front of a string's body, and the number of bytes of that front.
 #[derive(Drop)]
 struct Literal {
     value: Text,
     len: usize,
 }
 
-/// Returns whether a byte between quotes denotes itself; a star does not in a pattern.
+/// Returns whether a byte between quotes denotes itself. In a pattern a star does not.
 #[tactic(auto, unfolding(crate::specs::inner::Reading::is_plain))]
 fn plain_byte(in_pattern: bool, byte: u8) -> bool
     ensures { result ≡ is_plain in_pattern byte }
@@ -43,7 +43,7 @@ fn plain_len(in_pattern: bool, text: &[u8]) -> usize
     len
 }
 
-/// Returns the character of an escape.
+/// Returns the character that an escape denotes.
 fn character(piece: Piece) -> char
     ensures { result ≡ character_of piece }
 {
@@ -98,7 +98,7 @@ pub fn decode_string(alloc: Global, text: &str, token: Token) -> Result<Text, No
     Ok(value)
 }
 
-/// Returns the pattern of `like` that a string writes: its literal texts, with a wildcard between each two.
+/// Returns the pattern that a string after `like` denotes: its literal texts, with a wildcard between each two.
 ///
 /// An unescaped `*` is a wildcard; an escaped one, `\*`, is a literal star. A pattern without a wildcard is one text.
 /// The only error is `NoMemory`.

@@ -1,5 +1,5 @@
--- Defines the tokens of a tree, each with the kinds that its position allows. A token whose kind is all its meaning
--- is represented in the tree by that meaning, and is not among them.
+-- Defines the tokens of a tree, each with the kinds that its position allows. A token whose meaning is its kind alone,
+-- such as a sign, is not among them: the tree has the meaning in its place.
 use Rattle.std.specs.Prelude.{List, [], ◌∷◌, ◌++◌, map}
 use Rattle.std.specs.List.{flat_map}
 use Rattle.grammar_tokens.specs.declared.token.TokenKind.TheVariants as k
@@ -55,7 +55,7 @@ term_parts term = term.operand
 abbrev all : List (List Part) → List Part
 all = flat_map (λ parts. parts)
 
--- `parts_step x` are the parts of a node over expressions with these parts.
+-- `parts_step x` are the parts of the node `x`, given those of its subexpressions.
 abbrev pub parts_step : tree (List Part) → List Part
 parts_step (tree.Boolean value) = []
 parts_step (tree.Number t) = part (only k.Number) t ∷ []

@@ -11,7 +11,7 @@ use Rattle.serde_json.specs.Data.{Data}
 use Rattle.serde_json.specs.Find.{as_str, get}
 use Rattle.json_words.specs.Json.{json_of, text_at}
 use Rattle.http.specs.declared.status.StatusCode.{StatusCode}
-use Rattle.http_texts.specs.ReplyText.{error_line}
+use Rattle.http_streams.specs.ReplyText.{error_line}
 use Rattle.http_routes.specs.Routes.{route_stated}
 use Rattle.http_routes.specs.declared.route.Route.{Route}
 use Rattle.http_routes.specs.declared.route.Route.TheVariants.{Authorize, PutPolicy, GetPolicy, DeletePolicy}

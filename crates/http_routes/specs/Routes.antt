@@ -27,7 +27,7 @@ is_slash b = b == code "/"
 unfoldable pub path_of : List ℕ → List ℕ
 path_of target = before_first is_question_mark target
 
--- `id_in bytes` is the id that the decoded `bytes` are.
+-- `id_in bytes` is the policy id with the decoded bytes `bytes`; `NotUtf8` if they are not UTF-8.
 unfoldable pub id_in : List ℕ → PolicyId
 id_in bytes = if is_utf8 bytes then Named bytes else NotUtf8
 
@@ -39,13 +39,14 @@ id_of segment = id_in (percent_decode segment)
 unfoldable pub policies : List ℕ
 policies = codes "/v1/policies/"
 
--- `segment_of path` is all after this prefix, if `path` has it and the rest is one segment.
+-- `segment_of path` is the rest of `path` after the prefix `policies`, if `path` begins with it and the rest is one
+-- segment.
 unfoldable pub segment_of : List ℕ → Option (List ℕ)
 segment_of path =
     if bytes_eq (take (length policies) path) policies && not (list_any is_slash (drop (length policies) path))
     then Some (drop (length policies) path) else None
 
--- `only wanted method route` is `route` if `method` is the one of its path.
+-- `only wanted method route` is `route` if `method` is `wanted`, the only method of its path; else `OtherMethod`.
 unfoldable pub only : List ℕ → List ℕ → Route → Route
 only wanted method route = if bytes_eq method wanted then route else OtherMethod
 

@@ -5,10 +5,10 @@ use Rattle.http.specs.declared.status.StatusCode.{StatusCode}
 use Rattle.http_streams.specs.Serving.{IsAnswered}
 use Rattle.http_streams.specs.declared.serve.StreamFault.{StreamFault}
 use Rattle.http_streams.proofs.Simulated.{answered}
-use Rattle.site_calls.specs.http_replies.site_steps.schema.Views.{schema_view}
-use Rattle.site_calls.specs.http_replies.site_steps.SiteViews.{SiteView, schema_of, store_in, IsSameSite}
-use Rattle.site_calls.specs.http_replies.site_steps.Runs.{Run}
-use Rattle.site_calls.proofs.of_http_replies.of_site_steps.RunLemmas.{run_push, same_step}
+use Rattle.site_calls.specs.site_steps.schema.Views.{schema_view}
+use Rattle.site_calls.specs.site_steps.SiteViews.{SiteView, schema_of, store_in, IsSameSite}
+use Rattle.site_calls.specs.site_steps.Runs.{Run}
+use Rattle.site_calls.proofs.of_site_steps.RunLemmas.{run_push, same_step}
 use Rattle.http_routes.specs.Routes.{route_stated}
 use Rattle.site_calls.specs.Asked.{Asked, gives, rejects, unserved}
 use Rattle.http_service.specs.Asked.{asked}

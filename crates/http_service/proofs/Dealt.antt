@@ -6,22 +6,22 @@ use Rattle.std.specs.Str.{IsUtf8, is_utf8}
 use Rattle.std.proofs.lemmas.Str.{IsUtf8-from_is_utf8}
 use Rattle.http.specs.declared.status.StatusCode.{StatusCode}
 use Rattle.values.specs.declared.entity_uid.EntityUid.{EntityUid}
-use Rattle.site_calls.specs.http_replies.site_steps.entities.declared.fault.EntityFault.TheVariants.{BadShape}
-use Rattle.site_calls.specs.http_replies.policy_grammar.declared.fault.ReadFault.{ReadFault}
-use Rattle.site_calls.specs.http_replies.policy_grammar.declared.fault.ReadFault.TheVariants.{BadId}
-use Rattle.site_calls.specs.http_replies.site_steps.SiteViews.{SiteView, schema_of, store_in, IsSameSite}
-use Rattle.site_calls.specs.http_replies.site_steps.declared.fault.SiteFault.{SiteFault}
-use Rattle.site_calls.specs.http_replies.site_steps.declared.fault.SiteFault.TheVariants as fault
-use Rattle.site_calls.specs.http_replies.site_steps.declared.outcome.Put.{Put}
-use Rattle.site_calls.specs.http_replies.site_steps.Steps.{PutsPolicy, Deletes, policy_found}
-use Rattle.site_calls.specs.http_replies.site_steps.stamped_store.declared.entry.Stamp.{Stamp}
-use Rattle.site_calls.specs.http_replies.site_steps.stamped_store.Store.{entity_name, Store}
-use Rattle.site_calls.specs.http_replies.site_steps.declared.reply.Found.{Found}
-use Rattle.site_calls.specs.http_replies.site_steps.Runs.{Step}
-use Rattle.site_calls.specs.http_replies.site_steps.Inputs.{Input}
-use Rattle.site_calls.specs.http_replies.site_steps.Inputs as input
-use Rattle.site_calls.specs.http_replies.site_steps.declared.reply.Reply.{Reply}
-use Rattle.site_calls.specs.http_replies.site_steps.declared.reply.Reply.TheVariants as reply
+use Rattle.site_calls.specs.site_steps.entities.declared.fault.EntityFault.TheVariants.{BadShape}
+use Rattle.site_calls.specs.policy_grammar.declared.fault.ReadFault.{ReadFault}
+use Rattle.site_calls.specs.policy_grammar.declared.fault.ReadFault.TheVariants.{BadId}
+use Rattle.site_calls.specs.site_steps.SiteViews.{SiteView, schema_of, store_in, IsSameSite}
+use Rattle.site_calls.specs.site_steps.declared.fault.SiteFault.{SiteFault}
+use Rattle.site_calls.specs.site_steps.declared.fault.SiteFault.TheVariants as fault
+use Rattle.site_calls.specs.site_steps.declared.outcome.Put.{Put}
+use Rattle.site_calls.specs.site_steps.Steps.{PutsPolicy, Deletes, policy_found}
+use Rattle.site_calls.specs.site_steps.stamped_store.declared.entry.Stamp.{Stamp}
+use Rattle.site_calls.specs.site_steps.stamped_store.Store.{entity_name, Store}
+use Rattle.site_calls.specs.site_steps.declared.reply.Found.{Found}
+use Rattle.site_calls.specs.site_steps.Runs.{Step}
+use Rattle.site_calls.specs.site_steps.Inputs.{Input}
+use Rattle.site_calls.specs.site_steps.Inputs as input
+use Rattle.site_calls.specs.site_steps.declared.reply.Reply.{Reply}
+use Rattle.site_calls.specs.site_steps.declared.reply.Reply.TheVariants as reply
 use Rattle.http_routes.specs.declared.route.PolicyId.TheVariants.{Named, NotUtf8}
 use Rattle.http_routes.specs.declared.route.Route.{Route}
 use Rattle.http_routes.specs.declared.route.Route.TheVariants as route
@@ -30,8 +30,8 @@ use Rattle.site_calls.specs.Answers.{Appends}
 use Rattle.site_calls.specs.Asked.{gives, rejects, unserved, put_asked, removal_asked, not_text}
 use Rattle.site_calls.specs.Reports.{reported}
 use Rattle.http_service.specs.Asked.{asked}
-use Rattle.site_calls.specs.http_replies.Replies.{fault_reply, found_reply, put_reply, stamp_reply, status_reply}
-use Rattle.site_calls.specs.http_replies.site_steps.schema.Schemas.{StatedSchema}
+use Rattle.site_calls.specs.Replies.{fault_reply, found_reply, put_reply, stamp_reply, status_reply}
+use Rattle.site_calls.specs.site_steps.schema.Schemas.{StatedSchema}
 
 pub handed : (old new : SiteView) (i : Input) (r : Reply) (status : StatusCode) (before after : List ℕ)
     → Step (schema_of old) old.name (store_in old) i r (store_in new) → IsSameSite old new

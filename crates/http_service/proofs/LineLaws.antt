@@ -15,30 +15,30 @@ use Rattle.http_routes.specs.Routes.{route_stated}
 use Rattle.http_routes.specs.declared.route.PolicyId.TheVariants.{Named, NotUtf8}
 use Rattle.http_routes.specs.declared.route.Route.{Route}
 use Rattle.http_routes.specs.declared.route.Route.TheVariants as route
-use Rattle.site_calls.proofs.of_http_replies.LineLemmas.{stamp_pieces, put_pieces}
-use Rattle.site_calls.specs.http_replies.answer_lines.Lines.{answer_json, answer_line}
-use Rattle.site_calls.specs.http_replies.answer_lines.Refusals.{error_line, refusal_json}
-use Rattle.site_calls.specs.http_replies.inner.Pieces.{boolean_word, site_end}
-use Rattle.site_calls.specs.http_replies.Lines.{fault_line, found_json, found_line, put_line, stamp_line, taken_line}
-use Rattle.site_calls.specs.http_replies.Replies.{fault_reply, put_reply, stamp_reply}
-use Rattle.site_calls.specs.http_replies.entity_uids.Uids.{uid_in}
-use Rattle.site_calls.specs.http_replies.site_steps.Faults.{code_of, place_of, within_of}
-use Rattle.site_calls.specs.http_replies.site_steps.Inputs.{Input}
-use Rattle.site_calls.specs.http_replies.site_steps.Inputs as input
-use Rattle.site_calls.specs.http_replies.site_steps.Runs.{Step}
-use Rattle.site_calls.specs.http_replies.site_steps.SiteViews.{SiteView, schema_of, store_in}
-use Rattle.site_calls.specs.http_replies.site_steps.Steps.{Deletes, PutsEntity, PutsPolicy, most_count}
-use Rattle.site_calls.specs.http_replies.site_steps.declared.fault.SiteFault.{SiteFault}
-use Rattle.site_calls.specs.http_replies.site_steps.declared.fault.SiteFault.TheVariants as fault
-use Rattle.site_calls.specs.http_replies.site_steps.declared.outcome.Put.{Put}
-use Rattle.site_calls.specs.http_replies.site_steps.declared.outcome.Taken.TheVariants.{All, Short}
-use Rattle.site_calls.specs.http_replies.site_steps.declared.reply.Reply.{Reply}
-use Rattle.site_calls.specs.http_replies.site_steps.declared.reply.Reply.TheVariants as told
-use Rattle.site_calls.specs.http_replies.site_steps.schema.Schemas.{StatedSchema}
-use Rattle.site_calls.specs.http_replies.site_steps.stamped_store.Greatest.{greatest_count}
-use Rattle.site_calls.specs.http_replies.site_steps.stamped_store.SiteNames.{IsSiteName}
-use Rattle.site_calls.specs.http_replies.site_steps.stamped_store.Store.{Store, entity_name, issue, policy_name}
-use Rattle.site_calls.specs.http_replies.site_steps.stamped_store.declared.entry.Stamp.{Stamp}
+use Rattle.site_calls.proofs.LineLemmas.{stamp_pieces, put_pieces}
+use Rattle.site_calls.specs.answer_lines.Lines.{answer_json, answer_line}
+use Rattle.site_calls.specs.answer_lines.Refusals.{error_line, refusal_json}
+use Rattle.site_calls.specs.inner.Pieces.{boolean_word, site_end}
+use Rattle.site_calls.specs.Lines.{fault_line, found_json, found_line, put_line, stamp_line, taken_line}
+use Rattle.site_calls.specs.Replies.{fault_reply, put_reply, stamp_reply}
+use Rattle.site_calls.specs.entity_uids.Uids.{uid_in}
+use Rattle.site_calls.specs.site_steps.Faults.{code_of, place_of, within_of}
+use Rattle.site_calls.specs.site_steps.Inputs.{Input}
+use Rattle.site_calls.specs.site_steps.Inputs as input
+use Rattle.site_calls.specs.site_steps.Runs.{Step}
+use Rattle.site_calls.specs.site_steps.SiteViews.{SiteView, schema_of, store_in}
+use Rattle.site_calls.specs.site_steps.Steps.{Deletes, PutsEntity, PutsPolicy, most_count}
+use Rattle.site_calls.specs.site_steps.declared.fault.SiteFault.{SiteFault}
+use Rattle.site_calls.specs.site_steps.declared.fault.SiteFault.TheVariants as fault
+use Rattle.site_calls.specs.site_steps.declared.outcome.Put.{Put}
+use Rattle.site_calls.specs.site_steps.declared.outcome.Taken.TheVariants.{All, Short}
+use Rattle.site_calls.specs.site_steps.declared.reply.Reply.{Reply}
+use Rattle.site_calls.specs.site_steps.declared.reply.Reply.TheVariants as told
+use Rattle.site_calls.specs.site_steps.schema.Schemas.{StatedSchema}
+use Rattle.site_calls.specs.site_steps.stamped_store.Greatest.{greatest_count}
+use Rattle.site_calls.specs.site_steps.stamped_store.SiteNames.{IsSiteName}
+use Rattle.site_calls.specs.site_steps.stamped_store.Store.{Store, entity_name, issue, policy_name}
+use Rattle.site_calls.specs.site_steps.stamped_store.declared.entry.Stamp.{Stamp}
 use Rattle.values.specs.declared.name.Name.{Name}
 use Rattle.values.specs.declared.entity_uid.EntityUid.{EntityUid}
 use Rattle.site_calls.specs.Answers.{Replies}

@@ -4,16 +4,16 @@ use Rattle.std.proofs.Common.{IsTrue, option_and_then}
 use Rattle.std.proofs.lemmas.Bool.{false≢true}
 use Rattle.json_words.specs.Json.{json_of}
 use Rattle.serde_json.specs.Data.{Data}
-use Rattle.site_calls.specs.http_replies.entity_uids.Uids.{uid_in}
+use Rattle.site_calls.specs.entity_uids.Uids.{uid_in}
 use Rattle.std.proofs.lemmas.List.{drop_at, take_at}
 use Rattle.http.specs.declared.status.StatusCode.{StatusCode}
 use Rattle.http_logs.specs.LogLines.{IsUndone, decided_tail, head_text, plain_tail, tail_of, text_of, unread_line}
-use Rattle.site_calls.proofs.of_http_replies.LineLemmas.{one_line}
-use Rattle.site_calls.specs.http_replies.Replies.{fault_reply, status_reply}
-use Rattle.site_calls.specs.http_replies.site_steps.SiteViews.{SiteView}
-use Rattle.site_calls.specs.http_replies.site_steps.Inputs as input
-use Rattle.site_calls.specs.http_replies.site_steps.declared.fault.SiteFault.TheVariants as fault
-use Rattle.site_calls.specs.http_replies.site_steps.declared.reply.Reply.TheVariants as reply
+use Rattle.site_calls.proofs.LineLemmas.{one_line}
+use Rattle.site_calls.specs.Replies.{fault_reply, status_reply}
+use Rattle.site_calls.specs.site_steps.SiteViews.{SiteView}
+use Rattle.site_calls.specs.site_steps.Inputs as input
+use Rattle.site_calls.specs.site_steps.declared.fault.SiteFault.TheVariants as fault
+use Rattle.site_calls.specs.site_steps.declared.reply.Reply.TheVariants as reply
 use Rattle.http_routes.specs.Routes.{has_id, route_stated}
 use Rattle.http_routes.specs.declared.route.Route.{Route}
 use Rattle.http_routes.specs.declared.route.Route.TheVariants as route

@@ -2,20 +2,20 @@
 use Rattle.std.proofs.Common.{◌≡◌, ◌≢◌, ◌⊎◌, ℕ, List, Ok, Err, refl, sym, ap, ◌∙◌, subst, inl, inr}
 use Rattle.http.specs.declared.status.StatusCode.{StatusCode}
 use Rattle.http_streams.specs.Laws.{HasOneAnswer, in_memory}
-use Rattle.site_calls.specs.http_replies.site_steps.schema.Schemas.{StatedSchema, IsSchemaOf}
-use Rattle.site_calls.specs.http_replies.site_steps.schema.Views.{schema_view, IsStated}
-use Rattle.site_calls.specs.http_replies.site_steps.schema.SchemaEntries.{SchemaEntries}
-use Rattle.site_calls.specs.http_replies.site_steps.stamped_store.Store.{Store}
-use Rattle.site_calls.specs.http_replies.site_steps.SiteViews.{SiteView, schema_of, store_in, IsSameSite}
-use Rattle.site_calls.specs.http_replies.site_steps.declared.fault.SiteFault.{SiteFault}
-use Rattle.site_calls.specs.http_replies.site_steps.declared.fault.SiteFault.TheVariants as fault
-use Rattle.site_calls.specs.http_replies.Replies.{fault_reply}
-use Rattle.site_calls.specs.http_replies.site_steps.declared.outcome.Taken.TheVariants.{All, Short}
-use Rattle.site_calls.specs.http_replies.site_steps.Inputs.{Input}
-use Rattle.site_calls.specs.http_replies.site_steps.declared.reply.Reply.{Reply}
-use Rattle.site_calls.specs.http_replies.site_steps.declared.reply.Reply.TheVariants as reply
-use Rattle.site_calls.specs.http_replies.site_steps.Outcomes.{IsWhole, InputsHaveOneOutcome}
-use Rattle.site_calls.specs.http_replies.site_steps.Runs.{Step}
+use Rattle.site_calls.specs.site_steps.schema.Schemas.{StatedSchema, IsSchemaOf}
+use Rattle.site_calls.specs.site_steps.schema.Views.{schema_view, IsStated}
+use Rattle.site_calls.specs.site_steps.schema.SchemaEntries.{SchemaEntries}
+use Rattle.site_calls.specs.site_steps.stamped_store.Store.{Store}
+use Rattle.site_calls.specs.site_steps.SiteViews.{SiteView, schema_of, store_in, IsSameSite}
+use Rattle.site_calls.specs.site_steps.declared.fault.SiteFault.{SiteFault}
+use Rattle.site_calls.specs.site_steps.declared.fault.SiteFault.TheVariants as fault
+use Rattle.site_calls.specs.Replies.{fault_reply}
+use Rattle.site_calls.specs.site_steps.declared.outcome.Taken.TheVariants.{All, Short}
+use Rattle.site_calls.specs.site_steps.Inputs.{Input}
+use Rattle.site_calls.specs.site_steps.declared.reply.Reply.{Reply}
+use Rattle.site_calls.specs.site_steps.declared.reply.Reply.TheVariants as reply
+use Rattle.site_calls.specs.site_steps.Outcomes.{IsWhole, InputsHaveOneOutcome}
+use Rattle.site_calls.specs.site_steps.Runs.{Step}
 use Rattle.http_routes.specs.Routes.{route_stated}
 use Rattle.site_calls.specs.Asked.{Asked, gives, rejects, unserved}
 use Rattle.http_service.specs.Asked.{asked}

@@ -3,13 +3,13 @@ use Rattle.std.proofs.Common.{◌≡◌, ℕ, zero, suc, Bool, true, false, List
 use Rattle.std.proofs.Common.{inr}
 use Rattle.http.specs.declared.status.StatusCode.{StatusCode}
 use Rattle.http_streams.specs.Stream.{Closes, Ends, Exchanges, Halts, Rests, Serves, Stops}
-use Rattle.site_calls.specs.http_replies.site_steps.schema.Schemas.{StatedSchema}
-use Rattle.site_calls.specs.http_replies.site_steps.schema.Views.{schema_view}
-use Rattle.site_calls.specs.http_replies.site_steps.stamped_store.Store.{Store, store_of, updates}
-use Rattle.site_calls.specs.http_replies.site_steps.SiteViews.{SiteView, schema_of, store_in, IsSameSite}
-use Rattle.site_calls.specs.http_replies.site_steps.Runs.{Run, took}
-use Rattle.site_calls.specs.http_replies.site_steps.Inputs.{Input}
-use Rattle.site_calls.specs.http_replies.site_steps.declared.reply.Reply.{Reply}
+use Rattle.site_calls.specs.site_steps.schema.Schemas.{StatedSchema}
+use Rattle.site_calls.specs.site_steps.schema.Views.{schema_view}
+use Rattle.site_calls.specs.site_steps.stamped_store.Store.{Store, store_of, updates}
+use Rattle.site_calls.specs.site_steps.SiteViews.{SiteView, schema_of, store_in, IsSameSite}
+use Rattle.site_calls.specs.site_steps.Runs.{Run, took}
+use Rattle.site_calls.specs.site_steps.Inputs.{Input}
+use Rattle.site_calls.specs.site_steps.declared.reply.Reply.{Reply}
 use Rattle.http_routes.specs.Routes.{route_stated}
 use Rattle.site_calls.specs.Asked.{Asked, gives, rejects, unserved}
 use Rattle.http_service.specs.Asked.{asked}

@@ -8,8 +8,8 @@ use Rattle.http_streams.specs.Serving.{EndsAs, IsAnswered}
 use Rattle.http_streams.specs.declared.serve.StreamFault.{StreamFault}
 use Rattle.http_streams.specs.declared.serve.StreamFault.TheVariants as fault
 use Rattle.http_streams.proofs.Simulated.{answered}
-use Rattle.site_calls.specs.http_replies.site_steps.SiteViews.{SiteView}
-use Rattle.site_calls.specs.http_replies.site_steps.Inputs.{Input}
+use Rattle.site_calls.specs.site_steps.SiteViews.{SiteView}
+use Rattle.site_calls.specs.site_steps.Inputs.{Input}
 use Rattle.http_routes.specs.Routes.{route_stated}
 use Rattle.site_calls.specs.Asked.{Asked, gives, rejects, unserved}
 use Rattle.http_service.specs.Asked.{asked}

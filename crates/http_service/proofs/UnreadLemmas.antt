@@ -2,10 +2,10 @@
 use Rattle.std.proofs.Common.{ℕ, Option, List, [], Err, refl}
 use Rattle.std.proofs.KnownBytes.{Appends-nil, Consumes-nil}
 use Rattle.http.specs.declared.status.StatusCode.{StatusCode}
-use Rattle.http_framing.proofs.OneRequest.{nothing_unfinished}
+use Rattle.http_streams.proofs.OneRequest.{nothing_unfinished}
 use Rattle.http_streams.specs.Logs.{IsLogged, Lining}
 use Rattle.http_streams.specs.declared.serve.StreamFault.TheVariants as fault
-use Rattle.site_calls.specs.http_replies.site_steps.SiteViews.{SiteView, schema_of, store_in}
+use Rattle.site_calls.specs.site_steps.SiteViews.{SiteView, schema_of, store_in}
 use Rattle.http_service.specs.Serving.{IsServed}
 use Rattle.http_service.proofs.RunLemmas.{RunsTake}
 

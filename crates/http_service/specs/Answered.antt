@@ -3,8 +3,8 @@
 -- Rules of this product: the reply is that of the call that the route and the body ask for.
 use Rattle.std.specs.Prelude.{◌≡◌, ℕ, List}
 use Rattle.http.specs.declared.status.StatusCode.{StatusCode}
-use Rattle.site_calls.specs.http_replies.site_steps.schema.Views.{IsStated}
-use Rattle.site_calls.specs.http_replies.site_steps.SiteViews.{SiteView, store_in, IsSameSite}
+use Rattle.site_calls.specs.site_steps.schema.Views.{IsStated}
+use Rattle.site_calls.specs.site_steps.SiteViews.{SiteView, store_in, IsSameSite}
 use Rattle.http_routes.specs.Routes.{route_stated}
 use Rattle.site_calls.specs.Answers.{Replies}
 use Rattle.http_service.specs.Asked.{asked}

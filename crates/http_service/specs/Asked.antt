@@ -3,10 +3,10 @@
 -- Rules of this product: a body is ignored if its route needs none; an unknown path is 404, another method 405.
 use Rattle.std.specs.Prelude.{ℕ, List, option_and_then}
 use Rattle.json_words.specs.Json.{json_of}
-use Rattle.site_calls.specs.http_replies.entity_uids.Uids.{uid_in}
-use Rattle.site_calls.specs.http_replies.policy_grammar.declared.fault.ReadFault.TheVariants.{BadId}
-use Rattle.site_calls.specs.http_replies.site_steps.declared.fault.SiteFault.TheVariants as fault
-use Rattle.site_calls.specs.http_replies.site_steps.Inputs as input
+use Rattle.site_calls.specs.entity_uids.Uids.{uid_in}
+use Rattle.site_calls.specs.policy_grammar.declared.fault.ReadFault.TheVariants.{BadId}
+use Rattle.site_calls.specs.site_steps.declared.fault.SiteFault.TheVariants as fault
+use Rattle.site_calls.specs.site_steps.Inputs as input
 use Rattle.site_calls.specs.Asked.{Asked, gives, rejects, unserved, put_asked, removal_asked}
 use Rattle.http_routes.specs.declared.route.PolicyId.{PolicyId}
 use Rattle.http_routes.specs.declared.route.PolicyId.TheVariants.{Named, NotUtf8}

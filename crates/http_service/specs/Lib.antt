@@ -5,11 +5,11 @@ pub mod Lines
 pub mod Streams
 pub mod Serving
 -- crates below, passed on to those above
-pub use Rattle.site_calls.specs.http_replies.answer_lines
-pub use Rattle.site_calls.specs.http_replies.entity_data
-pub use Rattle.site_calls.specs.http_replies.policy_grammar
-pub use Rattle.site_calls.specs.http_replies.site_steps
+pub use Rattle.site_calls.specs.answer_lines
+pub use Rattle.site_calls.specs.entity_data
+pub use Rattle.site_calls.specs.policy_grammar
+pub use Rattle.site_calls.specs.site_steps
 pub use Rattle.http_logs.specs as http_logs
 pub use Rattle.http_streams.specs as http_streams
-pub use Rattle.site_calls.specs.http_replies
-pub use Rattle.site_calls.specs.http_replies.site
+pub use Rattle.site_calls.specs as site_calls
+pub use Rattle.site_calls.specs.site

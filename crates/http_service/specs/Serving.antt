@@ -5,11 +5,11 @@ use Rattle.std.specs.Prelude.{◌≡◌, ℕ, List, [], ◌∷◌, ◌++◌, Opt
 use Rattle.http.specs.declared.status.StatusCode.{StatusCode}
 use Rattle.http_streams.specs.Serving.{IsAnswered}
 use Rattle.http_streams.specs.declared.serve.StreamFault.{StreamFault}
-use Rattle.site_calls.specs.http_replies.site_steps.stamped_store.Store.{store_of, updates}
-use Rattle.site_calls.specs.http_replies.site_steps.SiteViews.{SiteView, schema_of, store_in, IsSameSite}
-use Rattle.site_calls.specs.http_replies.site_steps.Runs.{Step, Run, took}
-use Rattle.site_calls.specs.http_replies.site_steps.Inputs.{Input}
-use Rattle.site_calls.specs.http_replies.site_steps.declared.reply.Reply.{Reply}
+use Rattle.site_calls.specs.site_steps.stamped_store.Store.{store_of, updates}
+use Rattle.site_calls.specs.site_steps.SiteViews.{SiteView, schema_of, store_in, IsSameSite}
+use Rattle.site_calls.specs.site_steps.Runs.{Step, Run, took}
+use Rattle.site_calls.specs.site_steps.Inputs.{Input}
+use Rattle.site_calls.specs.site_steps.declared.reply.Reply.{Reply}
 use Rattle.http_routes.specs.Routes.{route_stated}
 use Rattle.site_calls.specs.Asked.{Asked, gives, rejects, unserved}
 use Rattle.http_service.specs.Asked.{asked}
@@ -51,7 +51,7 @@ module _ {R W : Type 0} (left : R → Option (List ℕ)) (read_failures : R → 
   -- `IsServed first last before after old new result` holds if one call served the site `old` and left `new`. It read
   -- requests, whose inputs are `inputs`, in order, and wrote their replies, among them the site's replies to these
   -- inputs; the run of the inputs with these replies leads from `old` to `new`. The result says how the stream ended,
-  -- and so which requests are answered: all, or those up to a reply of which a first part was sent.
+  -- and so which requests are answered: all, or those up to a reply that was sent only in part.
   -- An example: `PUT /v1/policies/a` and `GET /nowhere` are read, and then the end. The one input is the put of that
   -- text under `a`, and its reply is a stamp; written are the reply 200 with the stamp and the reply 404; the new
   -- store is the join of the updates that the site had and this one.

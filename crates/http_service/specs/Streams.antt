@@ -2,12 +2,12 @@
 -- Source: RFC 9112, section 9.3.
 use Rattle.std.specs.Prelude.{◌≡◌, ℕ, suc, zero, List, [], ◌∷◌, ◌++◌}
 use Rattle.httparse.specs.Grammar.{RequestHead}
-use Rattle.http_streams.specs.http_framing.Request.{ReadsWhole}
-use Rattle.site_calls.specs.http_replies.site_steps.stamped_store.Store.{store_of, updates}
-use Rattle.site_calls.specs.http_replies.site_steps.SiteViews.{SiteView, schema_of, store_in, IsSameSite}
-use Rattle.site_calls.specs.http_replies.site_steps.Runs.{Run, took}
-use Rattle.site_calls.specs.http_replies.site_steps.Inputs.{Input}
-use Rattle.site_calls.specs.http_replies.site_steps.declared.reply.Reply.{Reply}
+use Rattle.http_streams.specs.Request.{ReadsWhole}
+use Rattle.site_calls.specs.site_steps.stamped_store.Store.{store_of, updates}
+use Rattle.site_calls.specs.site_steps.SiteViews.{SiteView, schema_of, store_in, IsSameSite}
+use Rattle.site_calls.specs.site_steps.Runs.{Run, took}
+use Rattle.site_calls.specs.site_steps.Inputs.{Input}
+use Rattle.site_calls.specs.site_steps.declared.reply.Reply.{Reply}
 use Rattle.http_routes.specs.Routes.{route_stated}
 use Rattle.site_calls.specs.Asked.{Asked, gives, rejects, unserved}
 use Rattle.http_service.specs.Asked.{asked}

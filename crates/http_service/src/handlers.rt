@@ -14,7 +14,7 @@ ghost use Rattle.http_service.specs.inner.Noting.{DealsLogged, DealsNoted, Lacks
 use http::StatusCode;
 use http_logs::{put_decided_tail, put_head, put_plain_tail, put_tail, put_unread_line};
 use http_routes::{PolicyId, Route, route_of};
-use json_values::{Scratch, read_json_by};
+use json_words::{Scratch, read_json_by};
 use serde_json::Value;
 use site_calls::{
     Input, ReadFault, Site, SiteFault, delete_entity, put_text, reply_to, reply_to_request,

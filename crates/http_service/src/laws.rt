@@ -8,15 +8,15 @@ ghost use Rattle.http_routes.specs.Routes.{route_stated};
 ghost use Rattle.http_streams.specs.Laws.{AgreeOn, AnswersAll, BeginsAnswer, HasOneAnswer, StopsIn, in_memory};
 ghost use Rattle.http_streams.specs.Serving.{IsAnswered};
 ghost use Rattle.http_streams.specs.Stream.{Ends, Rests, Stops};
-ghost use Rattle.site_calls.specs.http_replies.Lines.{put_line, stamp_line};
-ghost use Rattle.site_calls.specs.http_replies.site_steps.SiteViews.{SiteView};
-ghost use Rattle.site_calls.specs.http_replies.site_steps.Steps.{most_count};
-ghost use Rattle.site_calls.specs.http_replies.site_steps.stamped_store.SiteNames.{IsSiteName};
-ghost use Rattle.site_calls.specs.http_replies.site_steps.stamped_store.declared.entry.Stamp.{Stamp};
-ghost use Rattle.site_calls.specs.http_replies.site_steps.Inputs.{Input};
-ghost use Rattle.site_calls.specs.http_replies.site_steps.declared.reply.Reply.{Reply};
-ghost use Rattle.site_calls.specs.http_replies.site_steps.schema.Views.{IsStated};
-ghost use Rattle.site_calls.specs.http_replies.site_steps.Permitted.{IsPermittedReply};
+ghost use Rattle.site_calls.specs.Lines.{put_line, stamp_line};
+ghost use Rattle.site_calls.specs.site_steps.SiteViews.{SiteView};
+ghost use Rattle.site_calls.specs.site_steps.Steps.{most_count};
+ghost use Rattle.site_calls.specs.site_steps.stamped_store.SiteNames.{IsSiteName};
+ghost use Rattle.site_calls.specs.site_steps.stamped_store.declared.entry.Stamp.{Stamp};
+ghost use Rattle.site_calls.specs.site_steps.Inputs.{Input};
+ghost use Rattle.site_calls.specs.site_steps.declared.reply.Reply.{Reply};
+ghost use Rattle.site_calls.specs.site_steps.schema.Views.{IsStated};
+ghost use Rattle.site_calls.specs.site_steps.Permitted.{IsPermittedReply};
 ghost use Rattle.site_calls.specs.Answers.{Replies};
 ghost use Rattle.site_calls.specs.Asked.{gives};
 ghost use Rattle.site_calls.specs.Reports.{reported};
@@ -31,7 +31,7 @@ use http_streams::serve::StreamFault;
 use http_streams::{Sink, Source};
 use site_calls::{inputs_have_one_outcome, runs_are_sound, runs_leave_what_they_took};
 
-/// Proves, however a stream of requests ends: the site afterwards is the result of a run of the inputs that the
+/// Proves that, however a stream of requests ends, the site afterwards is the result of a run of the inputs that the
 /// requests ask for, in order. So its store is that of the updates that it had and of those that it applied. No-op.
 pub fn streams_leave_runs()
     ensures rests { (old new : SiteView) (bytes out : List ℕ) → Rests answers old bytes out new
@@ -73,7 +73,7 @@ pub fn requests_have_one_reply()
     inputs_have_one_outcome();
 }
 
-/// Proves, however a stream of requests is split into reads: the same bytes are sent, and the site holds the same
+/// Proves that, however a stream of requests is split into reads, the same bytes are sent and the site holds the same
 /// store, except when out of memory (503); what is sent before a failed read, write or allocation is a prefix of these.
 /// The one exception: a stream that ends inside a request target that is not UTF-8 may get the reply 400 or nothing.
 /// `http_streams::laws::in_memory_or_503` proves that an answer is one with memory or contains a 503. No-op.
@@ -91,7 +91,7 @@ pub fn cuts_make_no_difference()
 }
 
 /// Proves that no reply to an input reports an error of a type, an attribute or an extension function: it is the reply
-/// of one step, in whose answer a policy errs only since an entity is not stored, or a number is out of bounds. No-op.
+/// of one step, in whose answer each error is `EntityDoesNotExist` or `ArithBoundsError`. No-op.
 pub fn served_answers_are_sound()
     ensures { (old new : SiteView) (input : Input) (status : StatusCode) (line : List ℕ) → IsStated old.schema
         → Replies old (gives input) status line new

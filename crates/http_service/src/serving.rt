@@ -11,7 +11,7 @@ use http_streams::serve::{
     StreamFault, serve as serve_stream, serve_logged as serve_stream_logged,
 };
 use http_streams::{Sink, Source};
-use json_values::Scratch;
+use json_words::Scratch;
 use site_calls::{Site, runs_leave_what_they_took};
 use std::alloc::Global;
 

@@ -7,7 +7,7 @@ use crate::handlers::{answer, answer_with_line};
 use http::StatusCode;
 use http_logs::put_unread_line;
 use http_streams::service::{Answers, Service};
-use json_values::Scratch;
+use json_words::Scratch;
 use site_calls::Site;
 use std::alloc::Global;
 use std::marker::Model;
@@ -34,8 +34,8 @@ pub struct ViewedSite {
 }
 
 impl Model for ViewedSite {
-    ghost use Rattle.site_calls.specs.http_replies.site_steps.SiteViews.{SiteView};
-    ghost use Rattle.site_calls.specs.http_replies.site_steps.contracts.site.Site as row;
+    ghost use Rattle.site_calls.specs.site_steps.SiteViews.{SiteView};
+    ghost use Rattle.site_calls.specs.site_steps.contracts.site.Site as row;
 
     ghost Value = { SiteView };
 

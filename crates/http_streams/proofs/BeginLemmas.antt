@@ -2,12 +2,12 @@
 use Rattle.std.proofs.Common.{◌≡◌, ℕ, zero, suc, ◌⊎◌, inl, inr, true, false, List, [], ◌++◌, refl, sym, ap, ◌∙◌, subst}
 use Rattle.std.proofs.Common.{append_assoc, append-nil}
 use Rattle.http_streams.specs.Laws.{AnswersAll, BeginsAnswer, HasOneAnswer, StopsIn}
-use Rattle.http_framing.specs.http_texts.ReplyText.{error_line, reply_text}
-use Rattle.http_framing.specs.Request.{IsUnfinished}
+use Rattle.http_streams.specs.ReplyText.{error_line, reply_text}
+use Rattle.http_streams.specs.Request.{IsUnfinished}
 use Rattle.http_streams.specs.Stream.{Answering, Closes, Ends, Halts, Rests, Serves}
 use Rattle.http_streams.proofs.StreamLemmas.{Exchanges-append, Serves-append, Serves-push}
 use Rattle.http_streams.proofs.UniqueLemmas.{agree_on, refuses-append, exchange_unique, open_not_ended, to_end}
-use Rattle.http_framing.proofs.OneRequest.{whole_not_unfinished}
+use Rattle.http_streams.proofs.OneRequest.{whole_not_unfinished}
 
 pub halts-append : {S : Type 0} (answers : Answering S) (old new : S) (bytes out more : List ℕ) → Halts answers old bytes out new
     → Halts answers old (bytes ++ more) out new

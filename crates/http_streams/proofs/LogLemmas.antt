@@ -1,14 +1,14 @@
 -- Each line that a log gets follows the one before.
 use Rattle.std.proofs.Common.{◌≡◌, ◌<◌, ℕ, zero, suc, Bool, List, [], ◌∷◌, ◌++◌, Option, length, drop, refl, sym, ap, ◌∙◌, subst, inl, inr}
 use Rattle.std.proofs.Common.{append_assoc, append-nil, arith, true, Result, Ok, Err, ◌≢◌}
-use Rattle.http_devices.specs.Devices.{HasFailed}
+use Rattle.http_streams.specs.Devices.{HasFailed}
 use Rattle.http_streams.specs.declared.serve.StreamFault.{StreamFault}
 use Rattle.http_streams.specs.declared.serve.StreamFault.TheVariants as fault
 use Rattle.std.specs.Prelude.{codes, decimal}
 use Rattle.std.specs.Io.KnownBytes.{Appends}
 use Rattle.std.proofs.KnownBytes.{Appends-nil}
-use Rattle.http_framing.specs.http_texts.ReplyText.{ending, error_line, length_lines, phrase, reply_text, status_line}
-use Rattle.http_framing.specs.Request.{IsRefused}
+use Rattle.http_streams.specs.ReplyText.{ending, error_line, length_lines, phrase, reply_text, status_line}
+use Rattle.http_streams.specs.Request.{IsRefused}
 use Rattle.http.specs.declared.status.StatusCode.{StatusCode}
 use Rattle.http_streams.specs.Stream.{Exchanges, Halts, Refuses, Serves, Answering}
 use Rattle.http_streams.specs.Logs.{Lining, IsFront, notes, cuts, AreNoted, IsLastNoted, HasLogFailed, IsLogged}

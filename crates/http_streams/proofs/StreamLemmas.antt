@@ -2,10 +2,10 @@
 use Rattle.std.proofs.Common.{◌≡◌, ℕ, zero, suc, Bool, false, List, [], ◌++◌, drop, refl, sym, ap, ◌∙◌, subst}
 use Rattle.std.proofs.Common.{append_assoc, append-nil}
 use Rattle.httparse.specs.Spans.{span_bytes}
-use Rattle.http_framing.specs.http_texts.ReplyText.{reply_text}
-use Rattle.http_framing.specs.Request.{IsUnfinished, IsWholeAt}
-use Rattle.http_framing.proofs.OneRequest.{ReadsWhole-append}
-use Rattle.http_framing.specs.declared.cut.Parts.{Parts}
+use Rattle.http_streams.specs.ReplyText.{reply_text}
+use Rattle.http_streams.specs.Request.{IsUnfinished, IsWholeAt}
+use Rattle.http_streams.proofs.OneRequest.{ReadsWhole-append}
+use Rattle.http_streams.specs.declared.cut.Parts.{Parts}
 use Rattle.http.specs.declared.status.StatusCode.{StatusCode}
 use Rattle.http_streams.specs.Stream.{Answering, Closes, Ends, Exchanges, Halts, Rests, Serves, Stops}
 

@@ -3,14 +3,14 @@ use Rattle.std.proofs.Common.{◌≡◌, ℕ, zero, suc, ◌⊎◌, inl, inr, Bo
 use Rattle.std.proofs.Common.{arith, append_assoc}
 use Rattle.std.proofs.lemmas.Bool.{false≢true}
 use Rattle.httparse.specs.Grammar.{RequestHead}
-use Rattle.http_framing.specs.declared.cut.Framing.TheVariants.{Body, Refused}
-use Rattle.http_framing.specs.Request.{IsRefused, IsUnfinished, framing_of, closes_of}
-use Rattle.http_framing.specs.http_texts.ReplyText.{reply_text, error_line}
+use Rattle.http_streams.specs.declared.cut.Framing.TheVariants.{Body, Refused}
+use Rattle.http_streams.specs.Request.{IsRefused, IsUnfinished, framing_of, closes_of}
+use Rattle.http_streams.specs.ReplyText.{reply_text, error_line}
 use Rattle.http.specs.declared.status.StatusCode.{StatusCode}
 use Rattle.http_streams.specs.Stream.{Answering, Closes, Ends, Exchanges, Refuses, Rests, Serves}
 use Rattle.http_streams.specs.Laws.{AgreeOn, AnswersAll, DiffersInCorner, HasOneAnswer, IsCorner}
-use Rattle.http_framing.proofs.OneRequest.{admits_unique, refused-append, refused_unique, whole_not_unfinished}
-use Rattle.http_framing.proofs.OneRequest.{whole_or_refused, whole_unique}
+use Rattle.http_streams.proofs.OneRequest.{admits_unique, refused-append, refused_unique, whole_not_unfinished}
+use Rattle.http_streams.proofs.OneRequest.{whole_or_refused, whole_unique}
 use Rattle.http_streams.proofs.StreamLemmas.{Exchanges-append, Serves-append}
 
 refused_unfinished : (rest : List ℕ) (status : StatusCode) → IsRefused rest status → IsUnfinished rest

@@ -2,9 +2,9 @@
 -- Source: RFC 9112, section 9.3.
 use Rattle.std.specs.Prelude.{◌≡◌, ◌≢◌, ◌≤◌, ℕ, ◌⊎◌, Bool, List, [], ◌++◌, length, true}
 use Rattle.httparse.specs.Grammar.{EndsInTarget, NeverHasRequest}
-use Rattle.http_framing.specs.http_texts.ReplyText.{error_line, reply_text}
+use Rattle.http_streams.specs.ReplyText.{error_line, reply_text}
 use Rattle.http_streams.specs.Stream.{Answering, Ends, Exchanges, Rests, Serves, Stops}
-use Rattle.http_framing.specs.declared.TheConstants.{MAX_HEAD}
+use Rattle.http_streams.specs.declared.TheConstants.{MAX_HEAD}
 use Rattle.http.specs.declared.status.StatusCode.{StatusCode}
 
 -- `IsCorner rest` holds if the bytes `rest` end inside a target that is not UTF-8: depending on how they are split,

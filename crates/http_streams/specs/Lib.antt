@@ -4,7 +4,13 @@ pub mod Serving
 pub mod Logs
 pub mod inner
 pub mod Laws
--- crates below, passed on to those above
-pub use Rattle.http_devices.specs as http_devices
-pub use Rattle.http_framing.specs as http_framing
-pub use Rattle.http_framing.specs.http_texts
+pub mod Parts
+pub mod ReplyText
+pub mod RequestText
+pub mod Fields
+pub mod Request
+pub mod Reply
+pub mod FramingLaws
+pub mod Sent
+pub mod Devices
+pub mod Memory

@@ -4,9 +4,9 @@
 -- nothing of its reply is sent, and the stream ends.
 use Rattle.std.specs.Prelude.{◌≡◌, ◌<◌, ◌⊎◌, ℕ, Bool, true, Option, List, [], ◌++◌, length, Result, Ok, Err}
 use Rattle.std.specs.Io.KnownBytes.{Appends, Consumes}
-use Rattle.http_devices.specs.Devices.{FailsAtLast}
-use Rattle.http_framing.specs.http_texts.ReplyText.{error_line, reply_text}
-use Rattle.http_framing.specs.Request.{IsRefused}
+use Rattle.http_streams.specs.Devices.{FailsAtLast}
+use Rattle.http_streams.specs.ReplyText.{error_line, reply_text}
+use Rattle.http_streams.specs.Request.{IsRefused}
 use Rattle.http_streams.specs.Stream.{Answering, Exchanges, Serves}
 use Rattle.http_streams.specs.declared.serve.StreamFault.{StreamFault}
 use Rattle.http_streams.specs.declared.serve.StreamFault.TheVariants as fault

@@ -4,8 +4,8 @@ use Rattle.std.specs.Prelude.{◌≡◌, ℕ, ◌<◌, ◌≤◌, Option, List, 
 use Rattle.std.specs.Io.KnownBytes.{Consumes}
 use Rattle.http_streams.specs.declared.TheConstants.{MAX_READ}
 
--- `EndsByOneRead old new bytes front` holds if the reader went from `old` to `new` by reading `bytes`, of which all but
--- `front` were read by the last call. It had room for a byte, so reading 0 bytes means that the stream is at its end.
+-- `EndsByOneRead old new bytes front` holds if the reader went from `old` to `new` by reading `bytes`: `front` first,
+-- and the rest by the last call. It had room for a byte, so reading 0 bytes means that the stream is at its end.
 module _ {R : Type 0} (left : R → Option (List ℕ)) (reads : R → ℕ → List ℕ → R → Type 0) where
   pub record EndsByOneRead (old new : R) (bytes front : List ℕ) : Type 0 where
     pub between : R

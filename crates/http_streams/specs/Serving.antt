@@ -3,7 +3,7 @@
 -- Rules of this product: what each result says about the reader and the writer.
 use Rattle.std.specs.Prelude.{◌≡◌, ◌≤◌, ◌^◌, ◌-◌, ◌⊎◌, ℕ, Option, List, length, Result, Ok, Err}
 use Rattle.std.specs.Io.KnownBytes.{Appends, Consumes, IsAtEnd}
-use Rattle.http_devices.specs.Devices.{FailsAtLast}
+use Rattle.http_streams.specs.Devices.{FailsAtLast}
 use Rattle.http_streams.specs.Reads.{EndsByOneRead}
 use Rattle.http_streams.specs.Stream.{Answering, Ends, KeepsUp, Rests, Stops}
 use Rattle.http_streams.specs.declared.serve.StreamFault.{StreamFault}

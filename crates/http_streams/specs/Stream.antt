@@ -3,8 +3,8 @@
 use Rattle.std.specs.Prelude.{◌≡◌, ◌<◌, ℕ, suc, zero, ◌⊎◌, Bool, true, false, Option, List, [], ◌++◌, length}
 use Rattle.httparse.specs.Grammar.{RequestHead}
 use Rattle.http_streams.specs.Reads.{EndsByOneRead}
-use Rattle.http_framing.specs.http_texts.ReplyText.{error_line, reply_text}
-use Rattle.http_framing.specs.Request.{ReadsWhole, IsRefused, IsUnfinished, closes_of}
+use Rattle.http_streams.specs.ReplyText.{error_line, reply_text}
+use Rattle.http_streams.specs.Request.{ReadsWhole, IsRefused, IsUnfinished, closes_of}
 use Rattle.http.specs.declared.status.StatusCode.{StatusCode}
 
 -- `Answering S` are relations between a state, the method, target and body of a request, the status and body of its

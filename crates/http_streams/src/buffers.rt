@@ -3,11 +3,10 @@ ghost use Rattle.std.specs.Prelude.{◌≡◌, ◌≤◌, ◌<◌, ◌++◌, ℕ
 ghost use Rattle.std.specs.Prelude.{OnErr, IsTrue, IsFalse, vec_len, ◌+◌};
 ghost use Rattle.std.specs.Vec.{vec_capacity};
 ghost use Rattle.std.specs.Io.KnownBytes.{Consumes, IsAtEnd, Keeps};
-ghost use Rattle.http_devices.specs.Devices.{HasFailed};
+ghost use Rattle.http_streams.specs.Devices.{HasFailed};
 
-use crate::{MAX_READ, REPLY_ROOM};
-use http_devices::devices::Source;
-use http_framing::{HEAD_ROOM, MAX_HEAD};
+use crate::devices::Source;
+use crate::{HEAD_ROOM, MAX_HEAD, MAX_READ, REPLY_ROOM};
 use httparse::spans::{EMPTY_HEADER_SPAN, HeaderSpan};
 use std::alloc::{AllocError, Global};
 

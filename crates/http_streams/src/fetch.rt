@@ -2,16 +2,15 @@
 ghost use Rattle.std.specs.Prelude.{◌≡◌, ◌≢◌, ◌≤◌, ◌<◌, ℕ, List, [], ◌++◌, Err, IfOk, OnOk, OnErr, length};
 ghost use Rattle.std.specs.Prelude.{slice_range, vec_len};
 ghost use Rattle.std.specs.Io.KnownBytes.{Appends, Consumes, IsAtEnd};
-ghost use Rattle.http_devices.specs.Devices.{FailsAtLast};
-ghost use Rattle.http_framing.specs.Reply.{IsBadReply, IsReplyAt, IsUnfinishedReply, ReadsReply};
-ghost use Rattle.http_framing.specs.http_texts.RequestText.{request_text};
+ghost use Rattle.http_streams.specs.Devices.{FailsAtLast};
+ghost use Rattle.http_streams.specs.Reply.{IsBadReply, IsReplyAt, IsUnfinishedReply, ReadsReply};
+ghost use Rattle.http_streams.specs.RequestText.{request_text};
 ghost use Rattle.http_streams.specs.Reads.{EndsByOneRead};
 
-use crate::MAX_READ;
 use crate::buffers::{FillFault, drop_front, read_more, room_for_heads, room_for_reads};
-use http_devices::devices::{Sink, Source, write_all};
-use http_framing::reply_cut::{ReplyCut, ReplyParts, cut_reply};
-use http_framing::{Ask, MAX_HEAD, request_text};
+use crate::devices::{Sink, Source, write_all};
+use crate::reply_cut::{ReplyCut, ReplyParts, cut_reply};
+use crate::{Ask, MAX_HEAD, MAX_READ, request_text};
 use httparse::spans::HeaderSpan;
 use std::alloc::{AllocError, Global};
 use thiserror::Error;
@@ -39,7 +38,7 @@ pub enum FetchFault {
 /// Writes one request, and reads the reply to it: its status and its body. Bytes after the reply are not checked.
 ///
 /// Within the limits of `cut_request`, the written bytes parse as exactly the request `ask` (`requests_read_back` of
-/// `http_framing`).
+/// `http_streams`).
 pub fn fetch<R: Source, W: Sink>(
     alloc: Global,
     reader: &mut R,

@@ -5,9 +5,9 @@ ghost use Rattle.http_streams.specs.Laws.{LacksMemory, StopsIn, in_memory};
 
 use crate::service::Answers;
 
-/// Proves, if states that are the same have one answer to each request, except when out of memory: a stream has one
-/// answer from them, however it is split into reads. The same bytes are sent, and the states afterwards are the same.
-/// One exception: a stream that ends inside a request target that is not UTF-8 may get the reply 400 or nothing.
+/// Proves that, if states that are the same have one answer to each request, except when out of memory, a stream has
+/// one answer from them, however it is split into reads: the same bytes are sent, and the states afterwards are the
+/// same. One exception: a stream that ends inside a request target that is not UTF-8 may get the reply 400 or nothing.
 /// No-op.
 pub fn one_answer<S: Answers>()
     ensures { HasOneAnswer (in_memory S.answers) S.same → (old old2 new new2 : S) → (stream out more : List ℕ)

@@ -1,19 +1,44 @@
-//! HTTP/1.1 over bytes: answering the requests of a stream, each before more is read, and fetching a reply.
+//! HTTP/1.1 over bytes: the text of requests and replies, where they end in a stream, answering the requests of a
+//! stream, each before more is read, and fetching a reply.
 //!
 //! Nothing here opens a socket. Readers, writers and services are any values of the traits `Source`, `Sink` and
 //! `Service`.
 #![tactic(auto)]
 
 mod buffers;
+pub mod cut;
+pub mod devices;
 pub mod fetch;
+mod fields;
+pub mod framing_laws;
 pub mod laws;
+mod limits;
+pub mod memory;
 mod nowhere;
+pub mod parts;
+pub mod reply;
+pub mod reply_cut;
+pub mod request;
 pub mod serve;
 pub mod service;
 
-pub use http_devices::devices::{Counted, Sink, Source};
-pub use http_devices::memory::{Fed, Kept, Plan};
-pub use http_framing::{Ask, MAX_BODY, is_host, is_method, is_target};
+pub use devices::{Counted, Sink, Source};
+pub use memory::{Fed, Kept, Plan};
+pub use parts::{Ask, is_host, is_method, is_target};
+pub use reply::{HEAD_ROOM, REFUSAL_ROOM, put_head, put_refusal};
+pub use request::request_text;
+
+/// The most bytes of a head, with its empty line.
+pub const MAX_HEAD: usize = 16_384;
+
+/// The most fields of a head.
+pub const MAX_FIELDS: usize = 64;
+
+/// The most bytes of a request's body.
+pub const MAX_BODY: usize = 8_388_608;
+
+/// The most bytes of the body of a reply that is fetched.
+pub const MAX_REPLY: usize = 67_108_864;
 
 /// The most bytes of one read.
 pub const MAX_READ: usize = 16_384;

@@ -1,7 +1,7 @@
 //! A writer that accepts and discards all bytes: the log of a stream without a log.
 ghost use Rattle.std.specs.Prelude.{None};
 
-use http_devices::devices::{DeviceFailed, Sink};
+use crate::devices::{DeviceFailed, Sink};
 
 /// A writer that discards all bytes.
 #[derive(Drop)]

@@ -3,25 +3,24 @@ ghost use Rattle.std.specs.Prelude.{◌≡◌, ◌≢◌, ◌≤◌, ◌<◌, �
 ghost use Rattle.std.specs.Prelude.{None, OnOk, IfErr, IfOk, IfSome, vec_len};
 ghost use Rattle.std.specs.Vec.{vec_capacity};
 ghost use Rattle.std.specs.Io.KnownBytes.{Appends};
-ghost use Rattle.http_devices.specs.Devices.{FailsAtLast};
-ghost use Rattle.http_framing.specs.http_texts.ReplyText.{error_line, reply_text};
-ghost use Rattle.http_framing.specs.Request.{IsUnfinishedBelow, IsWholeAt};
+ghost use Rattle.http_streams.specs.Devices.{FailsAtLast};
+ghost use Rattle.http_streams.specs.ReplyText.{error_line, reply_text};
+ghost use Rattle.http_streams.specs.Request.{IsUnfinishedBelow, IsWholeAt};
 ghost use Rattle.http_streams.specs.Logs.{AreNoted, IsLastNoted, IsLogged, notes};
 ghost use Rattle.http_streams.specs.Serving.{IsAnswered};
 ghost use Rattle.http_streams.specs.Stream.{Ends, Exchanges, Halts, Serves, Stops};
 ghost use Rattle.http_streams.specs.inner.Sending.{IsSentInPart, fault_of};
 ghost use Rattle.http_streams.specs.declared.TheConstants.{REPLY_ROOM};
 
-use crate::MAX_READ;
 use crate::buffers::{
     FillFault, drop_front, read_more, room_for_heads, room_for_reads, room_for_replies,
 };
+use crate::cut::{Cut, Parts, cut_request};
+use crate::devices::{Sink, Source, write_all};
 use crate::nowhere::Nowhere;
 use crate::service::Service;
+use crate::{HEAD_ROOM, MAX_HEAD, MAX_READ, REFUSAL_ROOM, put_head, put_refusal};
 use http::StatusCode;
-use http_devices::devices::{Sink, Source, write_all};
-use http_framing::cut::{Cut, Parts, cut_request};
-use http_framing::{HEAD_ROOM, MAX_HEAD, REFUSAL_ROOM, put_head, put_refusal};
 use httparse::spans::HeaderSpan;
 use std::alloc::{AllocError, Global};
 use thiserror::Error;

@@ -9,3 +9,9 @@ pub mod CompactLemmas
 pub mod CompactUtf8
 pub mod JsonAscend
 pub mod Compact
+mod ArrayLemmas
+mod Counting
+mod Numbered
+pub mod Readings
+mod Turns
+mod Whole

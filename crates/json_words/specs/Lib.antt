@@ -4,3 +4,5 @@ pub mod ReadsAs
 pub mod Json
 pub mod Keys
 pub mod Plain
+pub mod Arrays
+pub mod inner

@@ -1,5 +1,5 @@
-//! What all readers and writers of JSON share: the value of bytes, an object's keys, the compact text, and reading as
-//! a function with its first error.
+//! What all readers and writers of JSON share: the value of bytes, also in reused memory, the members of an array one
+//! by one, an object's keys, the compact text, and reading as a function with its first error.
 //!
 //! The definitions `each`, `Gives`, `demand` and `or_fault` of `specs/` are for the contracts of readers in other
 //! crates, and the lemmas of `proofs/` for their loops.
@@ -16,12 +16,19 @@ ghost use Rattle.serde_json.specs.Written.{has_float, compact_text};
 ghost use Rattle.json_words.specs.Json.{json_of, text_at};
 ghost use Rattle.json_words.specs.Keys.{has_only};
 
+mod array_members;
 mod laws;
+mod numbers;
+mod reading;
+mod with_scratch;
 
+pub use array_members::{Member, Members, members_of};
+pub use json::Scratch;
 pub use laws::{compact_texts_read_back, json_keys_ascend};
 use plain::NoMemory;
 use serde_json::{Map, Value};
 use std::alloc::Global;
+pub use with_scratch::read_json_by;
 
 /// Parses JSON. Returns `None` if the bytes are not UTF-8 or not JSON, or nest deeper than 127.
 ///

@@ -1,5 +1,5 @@
 -- Defines outcomes of the texts of bodies that another site sent.
--- Rules of this product: a text is read as one value or rejected with one error, and never both.
+-- Rules of this product: a text is parsed as one value or rejected with one error, and never both.
 use Rattle.std.specs.Prelude.{◌≡◌, ◌⊎◌, ℕ, List}
 use Rattle.values.specs.declared.entity_uid.EntityUid.{EntityUid}
 use Rattle.message_format.specs.declared.bodies.BodyFault.{BodyFault}

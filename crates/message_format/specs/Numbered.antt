@@ -1,6 +1,6 @@
 -- Defines states and deltas of version 1, whose sites are numbers.
 -- Rules of this product: such a message differs from one of version 2 in its `version`, 1, and in each `site`, a
--- number from 1 to 65,535. It is read as the raise of the updates that it states: each number is replaced by its five
+-- number from 1 to 65,535. It is parsed as the raise of the updates that it states: each number is replaced by its five
 -- digits. It is never written.
 use Rattle.std.specs.Prelude.{◌≡◌, ℕ, List, map, codes, Option, Some, Result, Ok}
 use Rattle.serde_json.specs.Data.{Data, number, unsigned, string, array, object, no_members, member}

@@ -2,8 +2,8 @@
 -- Rules of this product: a summary is {"kind":"summary","schema":label,"stamps":[{"count":n,"name":N,"site":text},
 -- ..],"version":2}, with {"entity":{"id":..,"type":..}} or {"policy":id} for N. Each key is required, and no others
 -- are allowed; a number is an unsigned 64-bit integer; a site is its name; the names ascend strictly, policies first.
--- Version 1 is read and never written: there a site is a number from 1 to 65,535, and is read as the site whose name
--- is its five digits.
+-- Version 1 is read and never written: there a site is a number from 1 to 65,535, which is parsed as the site whose
+-- name is its five digits.
 use Rattle.std.specs.Prelude.{◌≡◌, true, Bool, ◌&&◌, ◌==◌, ◌≤◌, nat_le, ℕ, List, [], ◌∷◌, length, map, codes}
 use Rattle.std.specs.Prelude.{option_and_then, Result, Ok, Err, if◌then◌else◌}
 use Rattle.std.specs.List.{AllByRecursion}

@@ -54,9 +54,9 @@ abbrev pub IsBodyRefused : (List ℕ → BodyFault → Type 0) → Option (List 
 IsBodyRefused Refuses None why = ⊥
 IsBodyRefused Refuses (Some text) why = Refuses text why
 
--- `Policies` and `Entities` state what a text may be read as, under an id or a uid.
+-- `Policies` and `Entities` relate an id or a uid and a text to the values that the text may be parsed as.
 module _ {P E : Type 0} (Policies : List ℕ → List ℕ → P → Type 0) (Entities : EntityUid → List ℕ → E → Type 0) where
-  -- `IsUpdateRead u` holds if the text of `u`, if there is one, is read as the value stored with it.
+  -- `IsUpdateRead u` holds if the text of `u`, if there is one, is parsed as the value stored with it.
   abbrev pub IsUpdateRead : Update P E → Type 0
   IsUpdateRead (Policy id entry) = IsEntryRead (Policies id) entry
   IsUpdateRead (Entity uid entry) = IsEntryRead (Entities uid) entry

@@ -5,7 +5,7 @@ ghost use Rattle.message_format.specs.declared.bodies.BodyFault.{BodyFault};
 ghost use Rattle.message_format.specs.declared.bodies.BodyFault.TheVariants as fault;
 ghost use Rattle.plain.specs.Refused.{OrNoMemory};
 
-use json_values::Scratch;
+use json_words::Scratch;
 use stamped_store::Readings;
 use std::alloc::Global;
 use thiserror::Error;

@@ -15,7 +15,7 @@ pub enum MessageFault {
     /// The bytes are not JSON.
     #[error("message 50: not JSON")]
     NotJson,
-    /// The JSON does not have the shape of such a message.
+    /// The JSON does not have the form of the expected message.
     #[error("message 51: JSON without the form of such a message")]
     BadShape,
     /// The message is of another schema.

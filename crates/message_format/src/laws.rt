@@ -27,7 +27,7 @@ use stamped_store::laws::site_names_are_told;
 
 /// Proves the round trip of states and deltas.
 ///
-/// If the names and stamps of the updates are in their ranges, the JSON of a state or delta is read as the updates
+/// If the names and stamps of the updates are in their ranges, the JSON of a state or delta is parsed as the updates
 /// that it was written from; and so is its text, if its texts are UTF-8. No bytes are the state of two stores, or the
 /// delta of two contents. No-op.
 pub fn messages_read_back()
@@ -87,11 +87,11 @@ pub fn messages_have_one_outcome<P: Drop, E: Drop, B: Bodies<P, E>>()
     stamps_read_back();
 }
 
-/// Proves that a message of version 1 is read as the raise of its updates: each site's number, from 1 to 65,535, is
+/// Proves that a message of version 1 is parsed as the raise of its updates: each site's number, from 1 to 65,535, is
 /// replaced by its five digits.
 ///
-/// Bytes of version 1 that are read as updates are such a message; the version 1 JSON of numbered updates in their
-/// ranges is read as their raise. No-op.
+/// Bytes of version 1 that are parsed as updates are such a message; the version 1 JSON of numbered updates in their
+/// ranges is parsed as their raise. No-op.
 pub fn messages_are_raised()
     ensures raised { (label bytes : List ℕ) (ns : List NumberedUpdate) → IsVersion1Message label bytes ns
         → updates_stated label bytes ≡ Ok (raise ns) }

@@ -24,7 +24,7 @@ mod writing;
 pub use bodies::{Bodies, BodyFault};
 pub use entity_uids::{Policy, ReadFault, names_read_back, parse_policy, texts_have_one_reading};
 pub use fault::MessageFault;
-pub use json_values::{Scratch, read_json_by};
+pub use json_words::{Scratch, read_json_by};
 pub use laws::{
     messages_are_raised, messages_have_one_outcome, messages_read_back, valid_messages_are_read,
 };

@@ -16,7 +16,7 @@ use crate::stated::{ReadEntry, read_stated};
 use crate::summary_laws::stamps_read_back;
 use crate::summary_reading::judge_stamp;
 use crate::{Bodies, BodyFault, Update};
-use json_values::Scratch;
+use json_words::Scratch;
 use plain::{Text, beside};
 use stamped_store::{Entry, ReadText, Stamp};
 use std::alloc::Global;
@@ -175,7 +175,7 @@ fn read_all<P: Drop, E: Drop, B: Bodies<P, E>>(
 
 /// Reads a state or a delta of the schema with this label; returns its updates in their order, each text parsed.
 ///
-/// Names may be in any order, and more than once. In version 1, each site's number is read as the site whose name is
+/// Names may be in any order, and more than once. In version 1, each site's number is parsed as the site whose name is
 /// its five digits.
 ///
 /// # Errors

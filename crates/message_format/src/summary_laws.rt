@@ -20,10 +20,10 @@ use values::paths_are_told;
 
 /// Proves the round trip of summaries.
 ///
-/// The JSON of a summary is read as that summary; the JSON of a summary of version 1 as the summary in which each
-/// site's number is replaced by its five digits. What is read as a summary has names and stamps in their ranges, and
-/// its names ascend. So do the names of a store's summary. The text of a summary that may be written is read as that
-/// summary, and two summaries with one text are equal. No-op.
+/// The JSON of a summary is parsed as that summary; the JSON of a summary of version 1 as the summary in which each
+/// site's number is replaced by its five digits. A parsed summary has names and stamps in their ranges, and its names
+/// ascend. So do the names of a store's summary. The text of a summary that may be written is parsed as that summary,
+/// and two summaries with one text are equal. No-op.
 pub fn summaries_read_back()
     ensures back { (label : List ℕ) (m : Summary) → AreStamped m → ascend m ≡ true
         → summary_in label (summary_json label m) ≡ Ok m }
@@ -46,7 +46,7 @@ pub fn summaries_read_back()
 
 /// Proves the round trip of names and stamps.
 ///
-/// The JSON of a name is read as that name. A name and a stamp in their ranges pass [`judge_stamp`]'s checks; a name
+/// The JSON of a name is parsed as that name. A name and a stamp in their ranges pass [`judge_stamp`]'s checks; a name
 /// and a stamp that are read and pass them are in their ranges. No-op.
 pub fn stamps_read_back()
     ensures names { (n : Name) → IsName n → name_in (name_json n) ≡ Ok n }

@@ -303,7 +303,7 @@ fn read_summary_value(alloc: Global, label: &str, value: &Value) -> Result<Summa
     Ok(Summary { stamps })
 }
 
-/// Reads a summary of the schema with this label. In version 1, each site's number is read as the site whose name is
+/// Reads a summary of the schema with this label. In version 1, each site's number is parsed as the site whose name is
 /// its five digits.
 ///
 /// # Errors

@@ -51,7 +51,7 @@ abbrev pub AreIdents : List (List ℕ) → Type 0
 AreIdents [] = Unit {0}
 AreIdents (word ∷ words) = IsIdent word × AreIdents words
 
--- `joined_path first more` are the words with `::` between each two.
+-- `joined_path first more` is the word `first` and the words `more`, with `::` between each two.
 abbrev pub joined_path : List ℕ → List (List ℕ) → List ℕ
 joined_path first [] = first
 joined_path first (next ∷ more) = first ++ codes "::" ++ joined_path next more

@@ -1,4 +1,4 @@
--- How an explanation is told behind the report of a run.
+-- Lemmas: an explanation is written after the report of a run.
 use Rattle.std.proofs.Common.{◌≡◌, ◌==◌, inl, inr, ℕ, Bool, true, false, List, [], ◌∷◌, ◌++◌, codes, length, Result, Ok, Err, IfOk, refl, subst, string_bytes}
 use Rattle.std.specs.declared.alloc.Global.{Global}
 use Rattle.std.specs.declared.string.String.{String}
@@ -25,7 +25,7 @@ module _ {L H : Type 0} (does : H → Event L → H → Type 0) where
   no_text_told old new (Err other) error done is step =
       (wrote Faults (ended (codes "explanation: out of memory")) done ∷ [], (new, step, refl), (done, refl))
 
-  -- a text that was made is told, or that there is no memory for it
+  -- an explanation is written if it was made, and the line `out of memory` if it was not
   pub made_told : {E : Type 0} (old new : H) (Is : List ℕ → Type 0) (made : Result (String Global) E) → IfOk made (λ text. Is (string_bytes text))
       → Runs does old new (λ events. IsMadeTold made events) → Runs does old new (λ events. IsExplanationTold Is events)
   made_told old new Is (Ok text) is run = (run.0, run.1, inl (string_bytes text, is, run.2))
@@ -35,7 +35,7 @@ module _ {L H : Type 0} (does : H → Event L → H → Type 0) where
   does_both [] ys old mid new first second = subst (λ (h : H). Does does ys h new) first second
   does_both (x ∷ xs) ys old mid new first second = (first.0, first.1, does_both xs ys first.0 mid new first.2 second)
 
-  -- the explanation stands behind what was reported, if it is wanted
+  -- if an explanation is wanted, it is written after the report
   pub followed : (old mid new : H) (wanted : Bool) (Is : List ℕ → Type 0) (course : Course L) (end : ℕ) → wanted ≡ true
       → Runs does old mid (λ events. course events end) → Runs does mid new (λ events. IsExplanationTold Is events)
       → Runs does old new (λ events. Explains wanted Is course events end)

@@ -5,8 +5,8 @@ use Rattle.program_lines.specs.declared.line.PullOptions.{PullOptions}
 use Rattle.program_lines.specs.stamped_store.Store.{Store}
 use Rattle.program_drills.specs.http_service.answer_lines.declared.refusal.Refusal.{Refusal}
 use Rattle.program_drills.specs.http_service.answer_lines.Refusals.{no_memory}
-use Rattle.state_exchanges.specs.http_devices.declared.devices.Source.{Ghosts as Source}
-use Rattle.state_exchanges.specs.http_devices.declared.devices.Sink.{Ghosts as Sink}
+use Rattle.state_exchanges.specs.http_streams.declared.devices.Source.{Ghosts as Source}
+use Rattle.state_exchanges.specs.http_streams.declared.devices.Sink.{Ghosts as Sink}
 use Rattle.state_exchanges.specs.Messages.{IsMessageRefused}
 use Rattle.state_exchanges.specs.declared.fault.NetworkFault.{NetworkFault}
 use Rattle.state_exchanges.specs.declared.fault.NetworkFault.TheVariants as network

@@ -3,8 +3,8 @@ use Rattle.std.proofs.Common.{◌≡◌, ◌≢◌, ◌∙◌, inl, inr, ℕ, ze
 use Rattle.std.proofs.Common.{Option, None, Some}
 use Rattle.std.proofs.Common.{Result, Ok, Err, IsErr}
 use Rattle.std.proofs.Common.{IfOk, IfErr, refl, sym, ap, subst, arith, append_assoc, append-nil}
-use Rattle.state_exchanges.specs.http_devices.declared.devices.Source.{Ghosts as Source}
-use Rattle.state_exchanges.specs.http_devices.declared.devices.Sink.{Ghosts as Sink}
+use Rattle.state_exchanges.specs.http_streams.declared.devices.Source.{Ghosts as Source}
+use Rattle.state_exchanges.specs.http_streams.declared.devices.Sink.{Ghosts as Sink}
 use Rattle.state_exchanges.specs.http_streams.Logs.{IsLogged}
 use Rattle.state_exchanges.specs.http_streams.declared.serve.StreamFault.{StreamFault}
 use Rattle.state_exchanges.specs.http_streams.declared.serve.StreamFault.TheVariants as stream_fault

@@ -23,7 +23,7 @@ use Rattle.program_drills.specs.http_service.site_steps.sync_messages.Messages.{
 abbrev pub site_refusal : SiteFault → Refusal
 site_refusal f = record { code = code_of f; place = place_of f; within = within_of f }
 
--- `BeginsWith s o m` holds if `m` is the store of the updates of the message `o`, which is empty if absent.
+-- `BeginsWith s o m` holds if `m` is the store of the updates of the message `o`, or the empty store if `o` is absent.
 abbrev pub BeginsWith : StatedSchema → Option (List ℕ) → Store → Type 0
 BeginsWith s None m = m ≡ store_of []
 BeginsWith s (Some bytes) m = (us : List (SentUpdate Policy Entity)) × IsMessageOf s bytes us
@@ -41,7 +41,8 @@ IsStateRefused s None r = ⊥
 IsStateRefused s (Some bytes) r =
     (f : MessageFault) × IsNoMessageOf s bytes (Message f) × (r ≡ site_refusal (Message f))
 
--- `IsNotBegun schema state r` holds if `r` rejects the schema, or under it the state.
+-- `IsNotBegun schema state r` holds if `r` is the error of the schema or, if the schema has none, that of the state as
+-- a message under it.
 abbrev pub IsNotBegun : List ℕ → Option (List ℕ) → Refusal → Type 0
 IsNotBegun schema state r = IsSchemaRefused schema r
     ⊎ ((s : StatedSchema) × IsSchemaOf schema s × IsStateRefused s state r)

@@ -23,7 +23,7 @@ pub data Event (L : Type 0) : Type 0 where
   -- this connection to this address was opened, or none could be
   connected : List ℕ → Option L → Event L
   -- the run began to listen at this address, or could not; if a limit is given, a read or a write of a connection there
-  -- fails after so many seconds
+  -- fails after that number of seconds
   listened : List ℕ → Option ℕ → Bool → Event L
   -- this connection was accepted, or accepting one failed
   accepted : Option L → Event L
@@ -45,9 +45,9 @@ module _ {L H : Type 0} (does : H → Event L → H → Type 0) where
   Runs old new described = (events : List (Event L)) × Does events old new × described events
 
 -- `Changes held told out err event new_out new_err` holds if `event` may lead the two standard streams from `out` and
--- `err` to `new_out` and `new_err`: a line is written to one, and the other stays. Nothing is said of the content of a
--- file, the text of an error, how much a stream took before it failed, or what is read from a connection; nor of the
--- lines of a log on standard output, which has its own writer: they occur among what the first stream got.
+-- `err` to `new_out` and `new_err`: a line is written to one, and the other stays. `Changes` does not constrain the
+-- content of a file, the text of an error, how much a stream took before it failed, or what is read from a connection;
+-- nor of the lines of a log on standard output, which has its own writer: they occur among what the first stream got.
 abbrev pub Changes : {L O E : Type 0} → (O → Option (List ℕ)) → (E → Option (List ℕ)) → O → E → Event L → O → E
     → Type 0
 Changes held told out err (read name bytes) new_out new_err = (new_out ≡ out) × (new_err ≡ err)

@@ -11,14 +11,14 @@ use Rattle.site_loading.specs.schema.Schemas.{StatedSchema, IsSchemaOf}
 use Rattle.program_drills.specs.schema_decisions.Checks.{IsSchemaRefused}
 use Rattle.program_drills.specs.http_service.answer_lines.Refusals.{no_memory}
 use Rattle.program_lines.specs.declared.line.ExchangeOptions.{ExchangeOptions}
-use Rattle.state_exchanges.specs.http_devices.declared.devices.Source.{Ghosts as Source}
-use Rattle.state_exchanges.specs.http_devices.declared.devices.Sink.{Ghosts as Sink}
+use Rattle.state_exchanges.specs.http_streams.declared.devices.Source.{Ghosts as Source}
+use Rattle.state_exchanges.specs.http_streams.declared.devices.Sink.{Ghosts as Sink}
 use Rattle.state_exchanges.specs.declared.asking.Call.{Call}
 use Rattle.state_exchanges.specs.declared.asking.Call.TheVariants as call
 use Rattle.state_exchanges.specs.declared.fault.NetworkFault.TheVariants as network
 use Rattle.state_exchanges.specs.declared.fault.PullFault.{PullFault}
 use Rattle.state_exchanges.specs.declared.fault.PullFault.TheVariants.{Network, Refused}
-use Rattle.state_exchanges.specs.http_streams.http_framing.declared.TheConstants.{MAX_BODY}
+use Rattle.state_exchanges.specs.http_streams.declared.TheConstants.{MAX_BODY}
 use Rattle.state_exchanges.specs.Requests.{call_request, call_size}
 use Rattle.state_exchanges.specs.Counts.{IsTakenLine}
 use Rattle.state_exchanges.specs.Exchanges.{IsRequestBegun, IsUnanswered, TellsOfHost, TellsOfSize}

@@ -24,7 +24,7 @@ load_files options schema policies entities = record {
 
 module _ {L : Type 0} where
   -- `IsPutOrRefused options site schema policies entities`: the state of `site` after the puts is printed, or the error
-  -- of one of the files or of the puts reported and, if that is asked for, explained.
+  -- of one of the files or of the puts reported and, with `--explain`, explained.
   abbrev pub IsPutOrRefused : LoadOptions → SiteView → List ℕ → Option (List ℕ) → Option (List ℕ) → Course L
   IsPutOrRefused options site schema policies entities =
       IsLineOrRefusedWith options.explain (load_files options schema policies entities)
@@ -32,7 +32,7 @@ module _ {L : Type 0} where
       (loads.IsRefused (schema_of site) site.name (store_in site) policies entities)
 
   -- `IsLoadedOrRefused options schema state policies entities`: the initial site takes the files, or the error of the
-  -- schema or of the state is reported and, if that is asked for, explained; the files to put are not looked at then.
+  -- schema or of the state is reported and, with `--explain`, explained; the files to put are then not parsed.
   abbrev pub IsLoadedOrRefused : LoadOptions → List ℕ → Option (List ℕ) → Option (List ℕ) → Option (List ℕ) → Course L
   IsLoadedOrRefused options schema state policies entities events end =
       ((site : SiteView) × IsInitialSite schema options.site state site

@@ -8,8 +8,8 @@ use Rattle.program_lines.specs.declared.line.PullOptions.{PullOptions}
 use Rattle.program_lines.specs.stamped_store.Store.{Store}
 use Rattle.program_drills.specs.http_service.answer_lines.declared.refusal.Refusal.{Refusal}
 use Rattle.program_drills.specs.http_service.answer_lines.Refusals.{no_memory}
-use Rattle.state_exchanges.specs.http_devices.declared.devices.Source.{Ghosts as Source}
-use Rattle.state_exchanges.specs.http_devices.declared.devices.Sink.{Ghosts as Sink}
+use Rattle.state_exchanges.specs.http_streams.declared.devices.Source.{Ghosts as Source}
+use Rattle.state_exchanges.specs.http_streams.declared.devices.Sink.{Ghosts as Sink}
 use Rattle.state_exchanges.specs.declared.fault.NetworkFault.TheVariants as network
 use Rattle.state_exchanges.specs.declared.fault.PullFault.{PullFault}
 use Rattle.state_exchanges.specs.declared.fault.PullFault.TheVariants.{Network, Refused}
@@ -24,8 +24,9 @@ use Rattle.program.specs.Reports.{IsAnswerReported, IsFailureReported, IsMemoryR
 use Rattle.program.specs.Reports.{taken_report_line}
 use Rattle.program.specs.Courses.{Course, Reads, ReadsIfThere, Connects, Stores}
 
--- `IsPullTold options r`: the new state is written, then the number of updates printed, if that line can be allocated;
--- or the address at which the network failed is reported; or the error of a text or the message.
+-- `IsPullTold options r` is the course after a pull with the result `r`: the new state is written, then the number of
+-- updates printed, if that line can be allocated; or the address is reported at which the network failed; or the error
+-- of a text or of the message.
 abbrev pub IsPullTold : {L : Type 0} → PullOptions → Result Pulled PullFault → Course L
 IsPullTold options (Ok pulled) events end =
     Stores options.state.now pulled.state.items (IsAnswerReported (taken_report_line pulled.taken)) events end
@@ -49,8 +50,8 @@ module _ {R W : Type 0} (reader : Source R) (writer : Sink W) where
   IsAsked request link body left =
       IsAnswered reader.left reader.reads writer.holds request link.reader left.reader link.writer left.writer 200 body
 
-  -- `IsNotMoreThanAsked schema state address link left` holds if nothing was read or written, or a first part, or all,
-  -- of the request for the missing entries was written.
+  -- `IsNotMoreThanAsked schema state address link left` holds if the connection is unchanged, or a first part of the
+  -- request for the missing entries, or all of it, was written.
   abbrev pub IsNotMoreThanAsked : List ℕ → Option (List ℕ) → List ℕ → Link R W → Link R W → Type 0
   IsNotMoreThanAsked schema state address link left = (left ≡ link)
       ⊎ ((s : StatedSchema) × (m : Store) × IsReady schema state s m
@@ -65,8 +66,8 @@ module _ {R W : Type 0} (reader : Source R) (writer : Sink W) where
       × IsAsked (request_for address s m) link body left × IsMessageRefused s body refusal)
 
   -- `IsPull schema state address link r left` holds if `r` is the outcome of a pull over a connection: the request for
-  -- the missing entries was written, and the message in reply joined; or a text or the message is rejected, or memory
-  -- was lacking; or there was no reply of status 200.
+  -- the missing entries was written, and the message in reply joined; or a text or the message is rejected, or an
+  -- allocation failed; or there was no reply of status 200.
   abbrev pub IsPull : List ℕ → Option (List ℕ) → List ℕ → Link R W → Result Pulled PullFault → Link R W → Type 0
   IsPull schema state address link (Ok pulled) left = (s : StatedSchema) × (m : Store) × (body : List ℕ)
       × IsReady schema state s m × IsAsked (request_for address s m) link body left
@@ -83,15 +84,15 @@ module _ {R W : Type 0} (reader : Source R) (writer : Sink W) where
       × (fault ≢ network.Read → NoReadFailed link left)
       × (fault ≢ network.Write → NoWriteFailed link left)
 
-  -- `IsPulledOver options schema state link`: there is a pull over the connection, it is closed, and the outcome is
-  -- reported.
+  -- `IsPulledOver options schema state link` is the course of a pull over the connection: it is closed, and the outcome
+  -- is reported.
   abbrev pub IsPulledOver : PullOptions → List ℕ → Option (List ℕ) → Link R W → Course (Link R W)
   IsPulledOver options schema state link events end = (came : Result Pulled PullFault) × (left : Link R W)
       × IsPull schema state options.from.now link came left
       × ((rest : List (Event (Link R W))) × (events ≡ closed left ∷ rest) × IsPullTold options came rest end)
 
-  -- `IsPullRun options`: first the schema, then the state, if the file exists; then the connection. The site's name
-  -- makes no difference.
+  -- `IsPullRun options` is a run of `pull`: it reads the schema and then the state, if the file exists, and then opens
+  -- the connection. The site's name makes no difference.
   abbrev pub IsPullRun : PullOptions → Course (Link R W)
   IsPullRun options =
       Reads options.schema.now (λ schema.

@@ -25,7 +25,7 @@ status_after done status = if done then status else 3
 unfoldable pub taken_report_line : ℕ → List ℕ
 taken_report_line count = codes "{\"taken\":" ++ decimal count ++ codes "}"
 
--- `no_memory_line` is the error line of lack of memory, a constant.
+-- `no_memory_line` is the error line of code 1 (out of memory), a constant.
 abbrev pub no_memory_line : List ℕ
 no_memory_line = codes "{\"error\":{\"code\":1,\"place\":null,\"within\":null}}"
 

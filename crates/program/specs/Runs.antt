@@ -21,8 +21,8 @@ use Rattle.program_lines.specs.declared.fault.LineFault.{LineFault}
 use Rattle.program_lines.specs.Apps.{site_app}
 use Rattle.program_lines.specs.Faults.{IsFaultOf}
 use Rattle.program_lines.specs.Lines.{Says}
-use Rattle.state_exchanges.specs.http_devices.declared.devices.Source.{Ghosts as Source}
-use Rattle.state_exchanges.specs.http_devices.declared.devices.Sink.{Ghosts as Sink}
+use Rattle.state_exchanges.specs.http_streams.declared.devices.Source.{Ghosts as Source}
+use Rattle.state_exchanges.specs.http_streams.declared.devices.Sink.{Ghosts as Sink}
 use Rattle.program.specs.declared.device.Link.{Link}
 use Rattle.program.specs.Reports.{AreLinesReported, IsFaultReported}
 use Rattle.program.specs.Courses.{Course, Reads, ReadsIfNamed, IsLineOrRefusal}
@@ -64,14 +64,14 @@ check_files options schema policies = record {
 }
 
 module _ {L : Type 0} where
-  -- `IsDecidedOrRefused`: the answer line is printed, or the error reported and, if that is asked for, explained.
+  -- `IsDecidedOrRefused`: the answer line is printed, or the error reported and, with `--explain`, explained.
   abbrev pub IsDecidedOrRefused : DecideOptions → Option (List ℕ) → List ℕ → List ℕ → List ℕ → Course L
   IsDecidedOrRefused options schema policies entities request =
       IsLineOrRefusedWith options.explain (decide_files options schema policies entities request)
       (IsDecided schema policies entities request) (IsNotDecided schema policies entities request)
 
-  -- `AreChecked`: the lines of policies under a schema are printed, or the error reported; if that is asked for, what
-  -- is rejected is explained.
+  -- `AreChecked`: the lines of policies under a schema are printed, or the error reported; with `--explain`, what is
+  -- rejected is explained.
   abbrev pub AreChecked : CheckOptions → List ℕ → List ℕ → Course L
   AreChecked options schema policies events end =
       ((text : List ℕ) × (some_refused : Bool) × checks.IsChecked schema policies text some_refused
@@ -80,8 +80,8 @@ module _ {L : Type 0} where
       ⊎ IsRefusedWith options.explain (check_files options schema policies) (checks.AreChecksRefused schema policies)
       events end
 
-  -- `AreMerged`: the state with the updates of both messages is printed, or the error reported and, if that is asked
-  -- for, explained.
+  -- `AreMerged`: the state with the updates of both messages is printed, or the error reported and, with `--explain`,
+  -- explained.
   abbrev pub AreMerged : MergeOptions → List ℕ → List ℕ → List ℕ → Course L
   AreMerged options schema first second = IsLineOrRefusedWith options.explain (schema_files options.schema.now schema)
       (merges.IsMerged schema first second) (merges.AreRefused schema first second)

@@ -5,8 +5,8 @@
 -- again. With a log no reply is sent before its line; a connection whose line fails ends, and the next is served.
 use Rattle.std.specs.Prelude.{◌≡◌, ◌≢◌, ◌⊎◌, ℕ, zero, suc, ◌*◌, ◌<◌, min, Bool, List, [], ◌∷◌, ◌++◌, Option, None, Some}
 use Rattle.std.specs.Prelude.{Result, Err, codes, option_map}
-use Rattle.state_exchanges.specs.http_devices.declared.devices.Source.{Ghosts as Source}
-use Rattle.state_exchanges.specs.http_devices.declared.devices.Sink.{Ghosts as Sink}
+use Rattle.state_exchanges.specs.http_streams.declared.devices.Source.{Ghosts as Source}
+use Rattle.state_exchanges.specs.http_streams.declared.devices.Sink.{Ghosts as Sink}
 use Rattle.state_exchanges.specs.http_streams.declared.serve.StreamFault.{StreamFault}
 use Rattle.state_exchanges.specs.http_streams.declared.serve.StreamFault.TheVariants as stream_fault
 use Rattle.program_lines.specs.declared.line.ServeOptions.{ServeOptions}
@@ -122,7 +122,7 @@ module _ {R W G : Type 0} (reader : Source R) (writer : Sink W) (log : Sink G) w
       (OpensIfNamed (option_map (λ s. s.now) options.log) (λ opened.
       Listens options.listen.now options.idle (IsServedListening options (record { site = site; log = opened }))))
 
-  -- `IsServedFrom options schema state`: the initial site is served, or the error reported and, if that is asked for,
+  -- `IsServedFrom options schema state`: the initial site is served, or the error reported and, with `--explain`,
   -- explained.
   abbrev pub IsServedFrom : ServeOptions → List ℕ → Option (List ℕ) → Course (Link R W)
   IsServedFrom options schema state events end =

@@ -45,7 +45,7 @@ fn is_number(word: &str) -> bool
     is_some_text(word) && are_decimals(word)
 }
 
-/// Returns the texts on a code, given as an argument.
+/// Returns the table's entry for the code that an argument names, or `None` if there is no such code.
 fn words_for(word: &str) -> Option<&'static CodeWords>
     ensures { MatchOption result (IsNoCode word.now) (λ words. IsSmallNumber word.now words.now.code) }
 {
@@ -55,7 +55,7 @@ fn words_for(word: &str) -> Option<&'static CodeWords>
     }
 }
 
-/// Reports the text on a code, or that no code has this number.
+/// Reports the explanation of a code, or that no code has this number.
 fn explain_code<H: Host>(alloc: Global, host: &mut H, word: &str) -> ExitCode
     ensures { Runs H.does host.old host.new (λ events. IsCodeExplained word.now events (exit_status result)) }
 {
@@ -110,7 +110,7 @@ fn given_of<'n, 't>(options: &ExplainOptions<'n>, held: Held<'t>) -> Given<'n, '
     }
 }
 
-/// Reports what is rejected in texts.
+/// Reports the explanation of what is rejected in files.
 fn tell_explained<H: Host>(alloc: Global, host: &mut H, given: &Given<'_, '_>) -> ExitCode
     ensures { Runs H.does host.old host.new
         (λ events. AreTextsExplained (files_of given.now) events (exit_status result)) }

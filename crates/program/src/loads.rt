@@ -39,7 +39,7 @@ fn load_given<'n, 't>(
     }
 }
 
-/// Puts what files hold into a site that began, and reports its state, or why there is none.
+/// Puts the policies and entities of files into an initial site, and reports its state or the first error.
 fn put_held<H: Host>(
     alloc: Global,
     host: &mut H,
@@ -62,7 +62,7 @@ fn put_held<H: Host>(
     }
 }
 
-/// Begins a site and puts what files hold into it, and reports its state, or why there is none.
+/// Creates the initial site and puts the policies and entities of files into it; reports its state or the first error.
 fn load_held<H: Host>(
     alloc: Global,
     host: &mut H,

@@ -7,7 +7,7 @@ use Rattle.std.specs.List.{AllZip, join_with_byte}
 use Rattle.schema_decisions.specs.answer_lines.declared.refusal.Refusal.{Refusal}
 use Rattle.schema_decisions.specs.Checks.{IsSchemaRefused}
 use Rattle.schema_decisions.specs.schema.Schemas.{StatedSchema, IsSchemaOf}
-use Rattle.http_service.specs.http_replies.site_steps.SiteViews.{SiteView}
+use Rattle.http_service.specs.site_calls.site_steps.SiteViews.{SiteView}
 use Rattle.http_service.specs.site.Sites.{first_sites}
 use Rattle.http_service.specs.site.Played.{IsPlayed}
 use Rattle.http_service.specs.site.declared.event.Event.{Event}
@@ -20,8 +20,8 @@ use Rattle.program_drills.specs.EventReports.{told, state_told}
 abbrev pub IsTold : EventReply → List ℕ → Type 0
 IsTold answer line = told answer ≡ Some line
 
--- `IsPlayedOut schema n events text` holds if `text` has the lines of the answers to `events`, from `n` empty sites on,
--- and of the state of each site at the end.
+-- `IsPlayedOut schema n events text` holds if `text` has the lines of the answers to `events` at `n` sites that begin
+-- empty, and then each site's last state.
 pub record IsPlayedOut (schema : StatedSchema) (n : ℕ) (events : List Event) (text : List ℕ) : Type 0 where
   pub answers : List EventReply
   pub sites : List SiteView
@@ -40,7 +40,8 @@ pub record IsDrilled (n : ℕ) (schema script text : List ℕ) : Type 0 where
   pub read : AreEventsOf n script events
   pub out : IsPlayedOut stated n events text
 
--- `IsDrillRefused n schema script refusal` holds if the schema, or under it the script, is rejected by `refusal`.
+-- `IsDrillRefused n schema script refusal` holds if `refusal` is the error of the schema or, if the schema has none,
+-- that of the script.
 abbrev pub IsDrillRefused : ℕ → List ℕ → List ℕ → Refusal → Type 0
 IsDrillRefused n schema script refusal = IsSchemaRefused schema refusal
     ⊎ ((stated : StatedSchema) × IsSchemaOf schema stated × IsScriptRefused n script refusal)

@@ -3,13 +3,13 @@
 use Rattle.std.specs.Prelude.{ℕ, List, Option, Some, None, Ok, Err, codes}
 use Rattle.serde_json.specs.Data.{Data, number, object, unsigned, no_members, member}
 use Rattle.serde_json.specs.Written.{compact_text}
-use Rattle.http_service.specs.http_replies.Replies.{answer_reply, fault_reply, put_reply, stamp_reply, taken_reply}
-use Rattle.http_service.specs.http_replies.site_steps.SiteViews.{SiteView, schema_of, store_in}
+use Rattle.http_service.specs.site_calls.Replies.{answer_reply, fault_reply, put_reply, stamp_reply, taken_reply}
+use Rattle.http_service.specs.site_calls.site_steps.SiteViews.{SiteView, schema_of, store_in}
 use Rattle.http_service.specs.site.site_steps.declared.reply.Reply.{Reply}
 use Rattle.http_service.specs.site.site_steps.declared.reply.Reply.TheVariants as reply
 use Rattle.http_service.specs.site.declared.event.EventReply.{EventReply}
 use Rattle.http_service.specs.site.declared.event.EventReply.TheVariants.{Unknown, Replied, Message, Summary}
-use Rattle.http_service.specs.http_replies.message_format.Messages.{state_text}
+use Rattle.http_service.specs.site_calls.message_format.Messages.{state_text}
 
 -- `message_line k` is the line of message `k`, the JSON `message_json k`: {"message":0}
 abbrev pub message_json : ℕ → Data
@@ -34,8 +34,8 @@ answer_told (reply.Answered outcome) = Some (answer_reply outcome).1
 answer_told (reply.Found outcome) = None
 answer_told (reply.Written outcome) = None
 
--- `told r` is the line of an event with the answer `r`. It has none if the message or summary that it names was not
--- made, for which memory ran out at an earlier line.
+-- `told r` is the line of an event with the answer `r`. `Unknown` has none: the message or summary that the event names
+-- was not made, because an earlier line ran out of memory.
 abbrev pub told : EventReply → Option (List ℕ)
 told Unknown = None
 told (Replied answer) = answer_told answer

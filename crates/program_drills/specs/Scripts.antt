@@ -12,8 +12,8 @@ use Rattle.program_drills.specs.declared.made.Made.{Made}
 use Rattle.program_drills.specs.Lines.{lines}
 use Rattle.program_drills.specs.ScriptLines.{ScriptLine, said_of, after_asked, IsEventOf}
 
--- `said_from n made place ls` is what the lines `ls` state, the first of which has the index `place`; or the index of
--- the first that states nothing. Each line may name what the lines before it make.
+-- `said_from n made place ls` is what the lines `ls` state, where the first line has the index `place`; or the index of
+-- the first line that is not an event. Each line may name what the lines before it make.
 unfoldable pub said_from : ℕ → Made → ℕ → List (List ℕ) → Result (List ScriptLine) ℕ
 said_from n made place [] = Ok []
 said_from n made place (l ∷ ls) = do

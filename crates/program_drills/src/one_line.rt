@@ -197,7 +197,7 @@ fn said_in(alloc: Global, count: u16, made: Made, value: &Value) -> Result<Optio
     }
 }
 
-/// Returns the event that a line states, if it does. Fails only if out of memory.
+/// Returns the event that a line states, or `None` if it states none. Fails only if out of memory.
 pub(crate) fn said_of(
     alloc: Global,
     count: u16,

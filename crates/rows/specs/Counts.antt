@@ -3,18 +3,19 @@ use Rattle.std.specs.Prelude.{◌≡◌, ℕ, ◌+◌, ◌-◌, ◌^◌, ◌⊎�
 use Rattle.rows.specs.declared.streams.Counter.{Counter}
 use Rattle.http.specs.declared.status.StatusCode.{StatusCode}
 
--- `said target body` is the body, or the target if the body is empty.
+-- `said target body` is `body`, or `target` if `body` is empty.
 abbrev pub said : List ℕ → List ℕ → List ℕ
 said target [] = target
 said target (b ∷ body) = b ∷ body
 
--- `counts` holds if the reply has the text that the request says, or 503: requests and replies 503 are counted.
+-- `counts old method target body status reply new` holds if `reply` is `said target body` with the status 200, or the
+-- status is 503; `new` counts one more request and, for 503, one more failure, each up to `2^64 - 1`.
 abbrev pub counts : Counter → List ℕ → List ℕ → List ℕ → StatusCode → List ℕ → Counter → Type 0
 counts old method target body status reply new =
     (new.requests ≡ min (old.requests + 1) (2 ^ 64 - 1))
     × (((status ≡ 503) × (new.refused ≡ min (old.refused + 1) (2 ^ 64 - 1)))
     ⊎ ((status ≡ 200) × (reply ≡ said target body) × (new.refused ≡ old.refused)))
 
--- `asked_alike one other` holds if both counted equally many requests; no reply shows the number of replies 503.
+-- `asked_alike one other` holds if both counted equally many requests. Replies do not depend on the number of 503s.
 abbrev pub asked_alike : Counter → Counter → Type 0
 asked_alike one other = one.requests ≡ other.requests

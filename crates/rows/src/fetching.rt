@@ -2,9 +2,9 @@
 use crate::ways::{PLAIN, SEVENS, SLOW, Way, by_reads, reader_of, writer_of};
 use crate::written::shown;
 use http::Method;
-use http_devices::devices::Source;
+use http_streams::devices::Source;
 use http_streams::fetch::{FetchFault, fetch};
-use http_texts::parts::Ask;
+use http_streams::parts::Ask;
 use plain::NoMemory;
 use std::alloc::Global;
 

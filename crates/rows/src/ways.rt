@@ -1,5 +1,5 @@
 //! Devices over memory, by how a stream is split.
-use http_devices::memory::{Fed, Kept, Plan};
+use http_streams::memory::{Fed, Kept, Plan};
 use std::alloc::Global;
 
 /// How a stream is split: the sizes of the reads and of the writes.

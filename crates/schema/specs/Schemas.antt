@@ -30,7 +30,8 @@ pub use Rattle.schema.specs.Places.{place_cmp}
 
 -- ---- the abstract schema
 
--- An `EnvironmentOf` is a place, with the type of its action's context.
+-- An `EnvironmentOf` is an environment: its place (an action with the types of principal and resource), and the type of
+-- the action's context.
 pub record EnvironmentOf : Type 0 where
   pub place : Place
   pub context : Cedar
@@ -54,7 +55,7 @@ IsActionAbove v u above = (us : List EntityUid) × (v.ancestors u ≡ Some us) �
 
 -- ---- hierarchies
 
--- `with_actions parents as` are the edges by `memberOf`: each action in turn gets its parents.
+-- `with_actions parents as` is `parents` with the edges by `memberOf`: each action of `as` in turn gets its parents.
 abbrev pub with_actions : Parents → List ResolvedAction → Parents
 with_actions parents [] = parents
 with_actions parents (a ∷ rest) = with_actions (with_parents parents a.uid a.parents) rest
@@ -67,7 +68,8 @@ action_parents s = with_actions no_parents s.actions
 abbrev pub type_uid : List ℕ → EntityUid
 type_uid name = record { type_name = name; id = [] }
 
--- `with_types parents es` are the edges by `memberOfTypes`: each entity type in turn gets its parents.
+-- `with_types parents es` is `parents` with the edges by `memberOfTypes`: each entity type of `es` in turn gets its
+-- parents.
 abbrev pub with_types : Parents → List ResolvedEntityType → Parents
 with_types parents [] = parents
 with_types parents (e ∷ rest) =
@@ -115,7 +117,7 @@ IsAction s u = (a : ResolvedAction) × Contains s.actions a × (a.uid ≡ u)
 abbrev pub IsShape : ResolvedSchema → List ℕ → Cedar → Type 0
 IsShape s n t = (e : ResolvedEntityType) × Contains s.entity_types e × (e.name ≡ n) × IsRecordOf s.commons e.shape t
 
--- `Applies s p applied` holds if some action applies to the place `p` by `applied`.
+-- `Applies s p applied` holds if `applied` is the `appliesTo` of the action of `p`, and lists the types of `p`.
 pub record Applies (s : ResolvedSchema) (p : Place) (applied : ResolvedUse) : Type 0 where
   pub action : ResolvedAction
   pub declared : Contains s.actions action
@@ -124,11 +126,11 @@ pub record Applies (s : ResolvedSchema) (p : Place) (applied : ResolvedUse) : Ty
   pub principal : Contains applied.principals p.principal
   pub resource : Contains applied.resources p.resource
 
--- `IsEnvironment s e` holds if some action applies to the place of `e`, with this context.
+-- `IsEnvironment s e` holds if `e` is an environment of `s`: its action applies to its types, and has its context.
 abbrev pub IsEnvironment : ResolvedSchema → EnvironmentOf → Type 0
 IsEnvironment s e = (applied : ResolvedUse) × Applies s e.place applied × IsRecordOf s.commons applied.context e.context
 
--- `IsPlace s p` holds if some action applies to the place `p`.
+-- `IsPlace s p` holds if the action of `p` applies to the types of `p`.
 abbrev pub IsPlace : ResolvedSchema → Place → Type 0
 IsPlace s p = (applied : ResolvedUse) × Applies s p applied
 
@@ -193,7 +195,7 @@ pub data RefusedFor (bytes : List ℕ) : SchemaFault → Type 0 where
   -- 21: the JSON states no file, or some shape or context is not a record
   no_file : (d : Data) → json_of bytes ≡ Some d → IsNoFile d → RefusedFor bytes BadShape
   no_record : (ns : List NamespaceOf) → HasContent bytes ns → SomeIsNotRecord ns → RefusedFor bytes BadShape
-  -- 22: some name means nothing that is declared
+  -- 22: some name denotes no declaration
   unknown_name : (ns : List NamespaceOf) → HasContent bytes ns → (SomeIsNotRecord ns → ⊥) → FileHasUnknown ns
       → RefusedFor bytes UnknownName
   -- 23: some common type leads back to itself

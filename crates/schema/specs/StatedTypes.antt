@@ -69,12 +69,13 @@ pub data IsEither : List ℕ → Raw → Type 0 where
 
 -- ---- parts
 
--- `IsClosed d` holds if `d` is not said to have more attributes than it lists.
+-- `IsClosed d` holds if `additionalAttributes` of `d` is absent or false.
 pub data IsClosed (d : Data) : Type 0 where
   unsaid : IsAbsent (codes "additionalAttributes") d → IsClosed d
   said : get (codes "additionalAttributes") d ≡ Some (json.boolean false) → IsClosed d
 
--- `IsRequired d required` holds if the attribute `d` is required, or says that it is not.
+-- `IsRequired d required` holds if `required` is the boolean `required` of the attribute `d`, or true if that is
+-- absent.
 pub data IsRequired (d : Data) : Bool → Type 0 where
   unsaid : IsAbsent (codes "required") d → IsRequired d true
   said : (required : Bool) → get (codes "required") d ≡ Some (json.boolean required) → IsRequired d required

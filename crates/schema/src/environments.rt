@@ -1,4 +1,4 @@
-//! The places of a schema (an action with the types of principal and resource), with their contexts.
+//! The environments of a schema (an action with the types of principal and resource), with their contexts.
 ghost use Rattle.std.specs.Prelude.{◌≢◌, OnOk, MatchResult, map, option_map};
 ghost use Rattle.schema_types.specs.QualifiedViews.{qualified_view};
 ghost use Rattle.schema_types.specs.WrittenOut.{Declarations};
@@ -22,7 +22,7 @@ use std::alloc::Global;
 use std::collections::BTreeMap;
 use values::{EntityUid, TypeName};
 
-/// Adds one place with the type of its context.
+/// Adds one environment with the type of its context.
 fn add_place(
     action: &EntityUid,
     principal: &TypeName,
@@ -38,7 +38,7 @@ fn add_place(
     Ok(())
 }
 
-/// Adds the places of a principal type.
+/// Adds the environments of a principal type.
 fn add_resources(
     action: &EntityUid,
     principal: &TypeName,
@@ -54,7 +54,7 @@ fn add_resources(
     Ok(())
 }
 
-/// Adds the places of each principal type with each resource type.
+/// Adds the environments of each principal type with each resource type.
 fn add_principals(
     action: &EntityUid,
     principals: &[TypeName],
@@ -70,8 +70,12 @@ fn add_principals(
     Ok(())
 }
 
-/// Adds the places to which an action applies. The only errors are that the type of its context is too large, and
-/// `NoMemory`.
+/// Adds the environments to which an action applies.
+///
+/// # Errors
+///
+/// - `TypeTooLarge`: the type of its context is too large.
+/// - `NoMemory`: an allocation failed.
 fn add_use(
     alloc: Global,
     action: &EntityUid,
@@ -93,7 +97,7 @@ fn add_use(
     Ok(())
 }
 
-/// Adds the places of an action; none if it does not apply to anything.
+/// Adds the environments of an action. An action without `appliesTo` has none.
 fn add_action(
     alloc: Global,
     action: &ResolvedAction,
@@ -112,8 +116,12 @@ fn add_action(
     }
 }
 
-/// Returns the places of all actions, each with the type of its context. The only errors are that one of these types
-/// is too large, and `NoMemory`.
+/// Returns the environments of all actions, each with the type of its context.
+///
+/// # Errors
+///
+/// - `TypeTooLarge`: one of these types is too large.
+/// - `NoMemory`: an allocation failed.
 pub(crate) fn make_places(
     alloc: Global,
     actions: &[ResolvedAction],

@@ -5,7 +5,7 @@ ghost use Rattle.schema.specs.Spans.{in_span, has_number};
 use plain::{Items, NoMemory};
 use std::alloc::Global;
 
-/// The numbers from the first to the last, inclusive; none if the last is less than the first.
+/// The numbers from the first to the last, inclusive; empty if the last is less than the first.
 #[derive(Clone, Copy, PartialEq, Eq, PartialOrd, Ord)]
 pub struct Span {
     pub first: usize,

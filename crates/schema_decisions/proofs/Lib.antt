@@ -6,4 +6,4 @@ pub mod OutcomeLemmas
 pub mod UnderSchemaLemmas
 -- Lemmas of lower crates, re-exported.
 pub use Rattle.decision_texts.proofs as of_decision_texts
-pub use Rattle.decision_texts.proofs.of_json_values
+pub use Rattle.decision_texts.proofs.of_json_words

@@ -1,4 +1,4 @@
--- Defines the errors of a schema's text and of policies that do not pass validation, by code and place.
+-- Defines the code and the place with which errors of a schema and of validation are reported.
 -- Rules of this product: codes and places.
 use Rattle.std.specs.Prelude.{ℕ, Some, None}
 use Rattle.validator.specs.schema_types.declared.fault.SchemaFault.{SchemaFault}

@@ -12,7 +12,7 @@ pub mod Outcomes
 pub use Rattle.decision_texts.specs as decision_texts
 pub use Rattle.decision_texts.specs.answer_lines
 pub use Rattle.decision_texts.specs.entity_data
-pub use Rattle.decision_texts.specs.json_values
+pub use Rattle.decision_texts.specs.json_words
 pub use Rattle.decision_texts.specs.policy_grammar
 pub use Rattle.decision_texts.specs.entity_uids
 pub use Rattle.validator.specs as validator

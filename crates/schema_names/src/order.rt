@@ -140,8 +140,8 @@ fn uses_of(
     Ok(edges)
 }
 
-/// Returns the indices of common types, without duplicates, each after that of the one that it is a name of, except
-/// if that leads back: in this order one round finds each that is not a record.
+/// Returns the indices of common types, without duplicates, each after that of the common type that it names, if it
+/// names one that does not lead back to it: in this order one round finds each that is not a record.
 pub(crate) fn order_of(
     alloc: Global,
     names: &Names,

@@ -1,16 +1,16 @@
--- Defines the abstract view of an expanded type, without its addresses in memory.
+-- Defines the abstract value of an expanded type (a `Cedar` for a `CedarType`).
 use Rattle.std.specs.Prelude.{List, [], ◌∷◌, ℕ, map, Bool}
 use Rattle.schema_types.specs.Cedar.{Cedar, text, long, boolean, decimal, ipaddr, set, record_of, entity, CedarFields}
 use Rattle.schema_types.specs.Cedar.{no_fields, field}
 use Rattle.schema_types.specs.declared.cedar.CedarType.{CedarType, fold-CedarType}
 use Rattle.schema_types.specs.declared.cedar.CedarType.TheOpen.{CedarType-F}
 
--- `fields_of fs` are these fields, as a record type has them.
+-- `fields_of fs` is the list `fs` as the fields of a record type.
 abbrev pub fields_of : List (List ℕ × Cedar × Bool) → CedarFields
 fields_of [] = no_fields
 fields_of (f ∷ fs) = field (f.0) f.1 f.2 (fields_of fs)
 
--- `cedar_step t` is a node of the code over expanded types.
+-- `cedar_step t` is the abstract value of the node `t`, given those of its parts.
 abbrev pub cedar_step : CedarType-F Cedar → Cedar
 cedar_step CedarType-F.Text = text
 cedar_step CedarType-F.Long = long
@@ -21,10 +21,10 @@ cedar_step (CedarType-F.Set t) = set t
 cedar_step (CedarType-F.Record fs) = record_of (fields_of fs)
 cedar_step (CedarType-F.Entity n) = entity n
 
--- `cedar_view t` is the type `t` of the code.
+-- `cedar_view t` is the abstract value of the type `t`.
 abbrev pub cedar_view : CedarType → Cedar
 cedar_view = fold-CedarType Cedar cedar_step
 
--- `cedar_fields_view fs` are the fields `fs` of the code.
+-- `cedar_fields_view fs` is the abstract value of the fields `fs`.
 abbrev pub cedar_fields_view : List (List ℕ × CedarType × Bool) → CedarFields
 cedar_fields_view fs = fields_of (map (λ f. (f.0, cedar_view f.1, f.2)) fs)

@@ -28,7 +28,7 @@ CyclesStandForNone =
 abbrev pub AreClosed : Declarations → Type 0
 AreClosed commons = (q : List ℕ) (r : Qualified) → Declares commons q r → IsClosed commons r
 
--- `WhatStandsForNoneLeadsBack`: conversely, if that is so, a common type without an expansion leads to one that
+-- `WhatStandsForNoneLeadsBack`: conversely, if `AreClosed` holds, a common type without an expansion leads to one that
 -- refers to itself.
 abbrev pub WhatStandsForNoneLeadsBack : Type 0
 WhatStandsForNoneLeadsBack =

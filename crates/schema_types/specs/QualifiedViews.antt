@@ -1,4 +1,4 @@
--- Defines the abstract view of a type with resolved names, without its addresses in memory.
+-- Defines the abstract value of a type with resolved names (a `Qualified` for a `QualifiedType`).
 use Rattle.std.specs.Prelude.{ℕ, List, [], ◌∷◌, map, Bool, String, string_bytes}
 use Rattle.std.specs.declared.alloc.Global.{Global}
 use Rattle.schema_types.specs.Qualified.{Qualified, text, long, boolean, decimal, ipaddr, set, record_of, entity}
@@ -7,12 +7,12 @@ use Rattle.schema_types.specs.declared.qualified.QualifiedType.{QualifiedType, f
 use Rattle.schema_types.specs.declared.qualified.FoundCommon.{FoundCommon}
 use Rattle.schema_types.specs.declared.qualified.QualifiedType.TheOpen.{QualifiedType-F}
 
--- `fields_of fs` are these fields, as a record type has them.
+-- `fields_of fs` is the list `fs` as the fields of a record type.
 abbrev pub fields_of : List (String Global × Qualified × Bool) → QualifiedFields
 fields_of [] = no_fields
 fields_of (f ∷ fs) = field (string_bytes f.0) f.1 f.2 (fields_of fs)
 
--- `qualified_step t` is a node of the code over types with resolved names.
+-- `qualified_step t` is the abstract value of the node `t`, given those of its parts.
 abbrev pub qualified_step : QualifiedType-F Qualified → Qualified
 qualified_step QualifiedType-F.Text = text
 qualified_step QualifiedType-F.Long = long
@@ -24,11 +24,11 @@ qualified_step (QualifiedType-F.Record fs) = record_of (fields_of fs.items)
 qualified_step (QualifiedType-F.Entity n) = entity n
 qualified_step (QualifiedType-F.Common n) = common n
 
--- `qualified_view t` is the type `t` of the code.
+-- `qualified_view t` is the abstract value of the type `t`.
 abbrev pub qualified_view : QualifiedType → Qualified
 qualified_view = fold-QualifiedType Qualified qualified_step
 
--- `qualified_fields_view fs` are the fields `fs` of the code.
+-- `qualified_fields_view fs` is the abstract value of the fields `fs`.
 abbrev pub qualified_fields_view : List (String Global × QualifiedType × Bool) → QualifiedFields
 qualified_fields_view fs = fields_of (map (λ f. (f.0, qualified_view f.1, f.2)) fs)
 

@@ -99,7 +99,7 @@ formed is_attribute d element fields = do
   keys ← demand BadShape (has_only (keys_of is_attribute (form_named w)) d)
   by_form (form_named w) w d element fields
 
--- `required_in d`: an attribute is required unless it says that it is not.
+-- `required_in d` is whether the attribute `d` is required: its boolean `required`, true if that is absent.
 abbrev pub required_in : Data → Result Bool SchemaFault
 required_in d = truth_or true (optional (codes "required") d)
 

@@ -24,9 +24,9 @@ fn known_type(name: &str, table: &Table) -> Result<Option<CedarType>, NoMemory>
     }
 }
 
-/// Returns a type that is not too large, with each common type in it replaced, if all are in the table.
+/// Returns the type with each common type in it replaced, or `None` if one of them is not in the table.
 ///
-/// So nothing that is too large is ever built: the caller has computed the size before.
+/// The caller has computed the size of the result, so that no type that is too large is built.
 pub(crate) fn write(
     alloc: Global,
     ty: &QualifiedType,
@@ -38,7 +38,7 @@ pub(crate) fn write(
     write_type(alloc, ty, table)
 }
 
-/// Returns the type, with each common type in it replaced, if all are in the table.
+/// Returns the type with each common type in it replaced, or `None` if one of them is not in the table.
 #[cycle(write_type)]
 #[tactic(auto, unfolding(crate::specs::inner::Table::written_in))]
 fn write_type(

@@ -1,4 +1,5 @@
 mod Filing
 mod Meeting
 mod Offering
+mod Placing
 mod Standing

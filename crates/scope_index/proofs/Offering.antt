@@ -1,8 +1,10 @@
 -- What is offered, as lists of policies with their ids.
 use Rattle.std.proofs.Common.{◌≡◌, ◌∙◌, refl, sym, ap, subst, true, false, cond, List, [], ◌∷◌, ◌++◌, map, inl, inr}
 use Rattle.std.specs.Prelude.{ℕ, ◌↔◌, ◌⊎◌, Contains, string_bytes, Option, Some, None, Result, Ok, Err, OnOk, IfOk, Vec}
-use Rattle.std.specs.List.{All}
-use Rattle.std.specs.BTreeMap.{get}
+use Rattle.std.specs.List.{All, AllByRecursion}
+use Rattle.std.specs.List.Sorted.{IsStrictlySortedBy}
+use Rattle.std.specs.BTreeMap.{get, keys}
+use Rattle.std.specs.Map.{keys_of}
 use Rattle.std.specs.String.{string_cmp}
 use Rattle.std.specs.Ordering.{is_eq}
 use Rattle.std.specs.declared.cmp.Ordering.{Ordering}
@@ -20,9 +22,9 @@ use Rattle.ancestor_search.proofs.Members.{names-push}
 use Rattle.values.specs.declared.request.Request.{Request}
 use Rattle.policy_grammar.specs.declared.policy.Policy.{Policy}
 use Rattle.scope_index.specs.declared.buckets.Buckets.{Buckets}
-use Rattle.scope_index.specs.Keys.{IndexKey, Always, Principal, Resource, index_key, IsMet, Kept, kept_at, Offer, lent, IsOffered}
+use Rattle.scope_index.specs.Keys.{IndexKey, Always, Principal, Resource, index_key, IsMet, Kept, kept_at, Offer, ids, lent, IsOffered}
 use Rattle.scope_index.specs.Scopes.{IsScopeTrue}
-use Rattle.scope_index.specs.Buckets.{Bucket, held_in, held_under, is_key, in_bucket, due_in, AreFiled, HaveOnePolicy, AreOneAtEach}
+use Rattle.scope_index.specs.Buckets.{Bucket, held_in, is_key, in_bucket, due_in, AreFiled, HaveOnePolicy, AreOneAmong, AreOneAtEach, IsUnder}
 use Rattle.scope_index.proofs.Filing.{key_self, key_same}
 use Rattle.scope_index.proofs.Meeting.{scope_meets}
 
@@ -46,7 +48,7 @@ Lent = Bor (List ℕ) × Bor Policy
 abbrev pub behind : Lent → Offer
 behind x = (x.0.now, x.1.now)
 
-lent-push : (xs : List Lent) (x : Lent) → lent (xs ++ x ∷ []) ≡ lent xs ++ behind x ∷ []
+pub lent-push : (xs : List Lent) (x : Lent) → lent (xs ++ x ∷ []) ≡ lent xs ++ behind x ∷ []
 lent-push [] x = refl
 lent-push (y ∷ ys) x = ap (λ r. behind y ∷ r) (lent-push ys x)
 
@@ -167,6 +169,22 @@ all_lent w xs whole all o =
       (λ e. subst (λ l. Contains l o) (sym shown) (entry_found w.entries o e)),
     )
 
+-- a bucket's entries ascend
+texts_ascend : (k : String Global) (es : Kept) → AllByRecursion (λ y. string_cmp k y ≡ Less) (keys_of es)
+    → AllByRecursion (λ y. text_cmp (string_bytes k) y ≡ Less) (ids (offers_of es))
+texts_ascend k [] all = tt
+texts_ascend k (e ∷ es) all = (all.0, texts_ascend k es all.1)
+
+entries_ascend : (es : Kept) → IsStrictlySortedBy string_cmp (keys_of es) → IsStrictlySortedBy text_cmp (ids (offers_of es))
+unfolding IsStrictlySortedBy
+entries_ascend [] s = tt
+entries_ascend (e ∷ es) s = (texts_ascend e.0 es s.0, entries_ascend es s.1)
+
+pub lent_ascend : (w : Bucket) (xs : List Pair) → map deref_pair xs ≡ w.entries → IsStrictlySortedBy string_cmp (keys w)
+    → IsStrictlySortedBy text_cmp (ids (offers_lent xs))
+lent_ascend w xs whole s =
+    subst (λ os. IsStrictlySortedBy text_cmp (ids os)) (sym (lent-is xs ∙ ap offers_of whole)) (entries_ascend w.entries s)
+
 -- ---- the turns of the loops
 
 -- has says of each entity which policies are under it
@@ -212,29 +230,62 @@ none_under held none before = nothing_more (λ o. held_in held o.0 ≡ Some o.1)
 abbrev pub IsFound : Parents → Request → Buckets → Offer → Type 0
 IsFound parents q b o = (k : IndexKey) × IsMet parents q k × (in_bucket b k o.0 ≡ Some o.1)
 
-pub offered_in_all : (parents : Parents) (q : Request) (b : Buckets) (none always principals all : List Offer) → none ≡ []
-    → Offers (λ o. kept_at b.always.entries o.0 ≡ Some o.1) none always
-    → Offers (λ o. (e : EntityUid) × IsIn parents q.principal e × (held_under b.principals e o.0 ≡ Some o.1)) always principals
-    → Offers (λ o. (e : EntityUid) × IsIn parents q.resource e × (held_under b.resources e o.0 ≡ Some o.1)) principals all
-    → (o : Offer) → Contains all o ↔ IsFound parents q b o
-offered_in_all parents q b none always principals all is a p r o = (
-  (λ h. elim ((r o).0 h) [
-    | inl before ↦ elim ((p o).0 before) [
-      | inl before ↦ elim ((a o).0 before) [
-        | inl before ↦ Contains-none o (subst (λ l. Contains l o) is before)
-        | inr t ↦ (Always, tt, t)
-      ]
-      | inr f ↦ (Principal f.0, f.1, f.2)
-    ]
-    | inr f ↦ (Resource f.0, f.1, f.2)
+found_under : (parents : Parents) (q : Request) (b : Buckets) (o : Offer) → ((kept_at b.always.entries o.0 ≡ Some o.1) ⊎ IsUnder parents q b o) ↔ IsFound parents q b o
+found_under parents q b o = (
+  (λ s. elim s [
+    | inl t ↦ (Always, tt, t)
+    | inr u ↦ elim u [ inl f ↦ (Principal f.0, f.1, f.2) | inr f ↦ (Resource f.0, f.1, f.2) ]
   ]),
   (λ f. by_kind f.0 f.1 f.2),
 )
   where
-    by_kind : (k : IndexKey) → IsMet parents q k → in_bucket b k o.0 ≡ Some o.1 → Contains all o
-    by_kind Always met t = (r o).1 (inl ((p o).1 (inl ((a o).1 (inr t)))))
-    by_kind (Principal e) met t = (r o).1 (inl ((p o).1 (inr (e, met, t))))
-    by_kind (Resource e) met t = (r o).1 (inr (e, met, t))
+    by_kind : (k : IndexKey) → IsMet parents q k → in_bucket b k o.0 ≡ Some o.1 → (kept_at b.always.entries o.0 ≡ Some o.1) ⊎ IsUnder parents q b o
+    by_kind Always met t = inl t
+    by_kind (Principal e) met t = inr (inl (e, met, t))
+    by_kind (Resource e) met t = inr (inr (e, met, t))
+
+pub offered_in_all : (parents : Parents) (q : Request) (b : Buckets) (none always all : List Offer) → none ≡ []
+    → Offers (λ o. kept_at b.always.entries o.0 ≡ Some o.1) none always
+    → Offers (λ o. IsUnder parents q b o) always all
+    → (o : Offer) → Contains all o ↔ IsFound parents q b o
+offered_in_all parents q b none always all is a u o =
+    let found = found_under parents q b o in (
+      (λ h. elim ((u o).0 h) [
+        | inl before ↦ elim ((a o).0 before) [
+          | inl before ↦ Contains-none o (subst (λ l. Contains l o) is before)
+          | inr t ↦ found.0 (inl t)
+        ]
+        | inr f ↦ found.0 (inr f)
+      ]),
+      (λ f. elim (found.1 f) [ inl t ↦ (u o).1 (inl ((a o).1 (inr t))) | inr f ↦ (u o).1 (inr f) ]),
+    )
+
+-- those of every request in one list, the others in another
+module _ (parents : Parents) (q : Request) (b : Buckets) (none others always : List Offer) (is : none ≡ [])
+    (u : Offers (λ o. IsUnder parents q b o) none others)
+    (a : (o : Offer) → Contains always o ↔ (kept_at b.always.entries o.0 ≡ Some o.1)) where
+  in_either : (o : Offer) → (Contains always o ⊎ Contains others o) ↔ IsFound parents q b o
+  in_either o =
+      let found = found_under parents q b o in (
+        (λ s. elim s [
+          | inl t ↦ found.0 (inl ((a o).0 t))
+          | inr t ↦ elim ((u o).0 t) [
+            | inl before ↦ Contains-none o (subst (λ l. Contains l o) is before)
+            | inr f ↦ found.0 (inr f)
+          ]
+        ]),
+        (λ f. elim (found.1 f) [ inl t ↦ inl ((a o).1 t) | inr f ↦ inr ((u o).1 (inr f)) ]),
+      )
+
+  pub offered_beside : (all : List Offer) → ((o : Offer) → Contains all o ↔ Contains always o ⊎ Contains others o)
+      → (o : Offer) → Contains all o ↔ IsFound parents q b o
+  offered_beside all j o = ((λ h. (in_either o).0 ((j o).0 h)), (λ f. (j o).1 ((in_either o).1 f)))
+
+  pub one_among : HaveOnePolicy b → AreOneAmong always others
+  one_among one id p r has_p has_r =
+      let f = (in_either (id, p)).0 has_p in
+      let g = (in_either (id, r)).0 has_r in
+      one f.0 g.0 id p r f.2 g.2
 
 -- ---- what is in a bucket is kept, under its key
 

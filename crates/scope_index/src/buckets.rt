@@ -58,7 +58,7 @@ fn put_named(
     Ok(())
 }
 
-// Returns the buckets of a type, of which one entity has one policy.
+// Returns the buckets of a type in which one entity has one policy.
 fn only(alloc: Global, entity: &SharedText, id: String, policy: Policy) -> Result<Named, NoMemory>
     ensures { IfOk result (λ named. (e q : List ℕ) → held_at named e q
         ≡ cond (is_text entity.now e && bytes_eq (string_bytes id) q) (Some policy) None) }

@@ -5,8 +5,10 @@ ghost use Rattle.std.specs.List.Sorted.{IsPermutation, IsSortedByKey, IsStrictly
 ghost use Rattle.values.specs.declared.entity_uid.EntityUid.{EntityUid as PlainUid};
 ghost use Rattle.values.specs.Names.{text_cmp};
 ghost use Rattle.ancestor_search.specs.Hierarchy.{IsIn, names};
+ghost use Rattle.policy_grammar.specs.declared.policy.Policy.{Policy as PlainPolicy};
 ghost use Rattle.scope_index.specs.Keys.{IndexKey, IsMet, Offer, ids, kept_at, lent};
-ghost use Rattle.scope_index.specs.Buckets.{AreOneAtEach, HaveOnePolicy, bucket_at, held_under, in_bucket};
+ghost use Rattle.scope_index.specs.Buckets.{HaveOnePolicy, AreOneAmong, AreOneAtEach, IsUnder};
+ghost use Rattle.scope_index.specs.Buckets.{bucket_at, held_under, in_bucket};
 
 use crate::buckets::{Buckets, Under};
 use ancestor_search::Ancestry;
@@ -15,6 +17,12 @@ use policy_grammar::Policy;
 use std::alloc::Global;
 use std::collections::BTreeMap;
 use values::{EntityUid, Request};
+
+// If at least this many policies are candidates of every request, they keep their order and are not sorted.
+const MANY: usize = 64;
+
+// At most this many other candidates are placed among them one by one.
+const FEW: usize = 128;
 
 // Adds the policies of a bucket.
 fn offer<'a>(
@@ -112,6 +120,21 @@ fn offer_above<'a, A: Ancestry>(
     Ok(())
 }
 
+// Adds the policies under the principal and under the resource of a request, and under each of their ancestors.
+fn offer_bound<'a, A: Ancestry>(
+    buckets: &'a Buckets,
+    request: &Request,
+    ancestry: &A,
+    found: &mut Vec<(&'a str, &'a Policy)>,
+) -> Result<(), NoMemory>
+    ensures { OnOk result ((o : Offer) → Contains (lent found.new.items) o
+        ↔ Contains (lent found.old.items) o ⊎ IsUnder (A.parents ancestry.now) request.now buckets.now o) }
+{
+    offer_above(&buckets.principals, ancestry, &request.principal, found)?;
+    offer_above(&buckets.resources, ancestry, &request.resource, found)?;
+    Ok(())
+}
+
 // Returns the candidate policies of a request, in any order.
 fn found_by<'a, A: Ancestry>(
     alloc: Global,
@@ -124,13 +147,7 @@ fn found_by<'a, A: Ancestry>(
 {
     let mut found = Vec::new(alloc);
     offer_unbound(buckets, &mut found)?;
-    offer_above(
-        &buckets.principals,
-        ancestry,
-        &request.principal,
-        &mut found,
-    )?;
-    offer_above(&buckets.resources, ancestry, &request.resource, &mut found)?;
+    offer_bound(buckets, request, ancestry, &mut found)?;
     Ok(found)
 }
 
@@ -158,6 +175,103 @@ fn in_order<'a>(found: Vec<(&'a str, &'a Policy)>) -> Vec<(&'a str, &'a Policy)>
     policies
 }
 
+// Returns the policies of a bucket, ascending, in a list with room for a few more.
+fn all_of<'a>(
+    alloc: Global,
+    bucket: &'a BTreeMap<String, Policy>,
+) -> Result<Vec<(&'a str, &'a Policy)>, NoMemory>
+    ensures all { IfOk result (λ ps. (o : Offer) → Contains (lent ps.items) o
+        ↔ (kept_at bucket.now.entries o.0 ≡ Some o.1)) }
+    ensures ascending { IfOk result (λ ps. IsStrictlySortedBy text_cmp (ids (lent ps.items))) }
+{
+    let mut all = Vec::with_capacity(alloc, bucket.len() + FEW)?;
+    for (id, policy) in bucket {
+        all.push((id.as_str(), policy))?;
+    }
+    Ok(all)
+}
+
+// Puts a policy at its place in an ascending list, unless the list has it.
+fn place<'a>(
+    all: &mut Vec<(&'a str, &'a Policy)>,
+    id: &'a str,
+    policy: &'a Policy,
+) -> Result<(), NoMemory>
+    requires ascending { IsStrictlySortedBy text_cmp (ids (lent all.old.items)) }
+    requires one { (p : PlainPolicy) → Contains (lent all.old.items) (id.now, p) → p ≡ policy.now }
+    ensures ascending { OnOk result (IsStrictlySortedBy text_cmp (ids (lent all.new.items))) }
+    ensures same { OnOk result ((o : Offer) → Contains (lent all.new.items) o
+        ↔ Contains (lent all.old.items) o ⊎ ((id.now, policy.now) ≡ o)) }
+{
+    match all.binary_search_by_key(&id, |other| other.0) {
+        Ok(_) => Ok(()),
+        Err(at) => {
+            all.insert(at, (id, policy))?;
+            Ok(())
+        }
+    }
+}
+
+// Puts policies at their places in an ascending list.
+fn place_each<'a>(
+    all: &mut Vec<(&'a str, &'a Policy)>,
+    policies: &[(&'a str, &'a Policy)],
+) -> Result<(), NoMemory>
+    requires ascending { IsStrictlySortedBy text_cmp (ids (lent all.old.items)) }
+    requires one { AreOneAmong (lent all.old.items) (lent policies.now) }
+    ensures ascending { OnOk result (IsStrictlySortedBy text_cmp (ids (lent all.new.items))) }
+    ensures same { OnOk result ((o : Offer) → Contains (lent all.new.items) o
+        ↔ Contains (lent all.old.items) o ⊎ Contains (lent policies.now) o) }
+{
+    for (id, policy) in policies {
+        place(all, id, policy)?;
+    }
+    Ok(())
+}
+
+// Returns whether placing the others one by one costs less than sorting all: each moves those that follow it.
+fn are_few(others: usize, all: usize) -> bool {
+    others <= FEW && others <= all / 4
+}
+
+// Returns the policies of an ascending list and others, ascending and without duplicates.
+fn joined<'a>(
+    all: Vec<(&'a str, &'a Policy)>,
+    others: &[(&'a str, &'a Policy)],
+) -> Result<Vec<(&'a str, &'a Policy)>, NoMemory>
+    requires ascending { IsStrictlySortedBy text_cmp (ids (lent all.items)) }
+    requires one { AreOneAmong (lent all.items) (lent others.now) }
+    ensures same { IfOk result (λ ps. (o : Offer) → Contains (lent ps.items) o
+        ↔ Contains (lent all.entry.items) o ⊎ Contains (lent others.now) o) }
+    ensures ascending { IfOk result (λ ps. IsStrictlySortedBy text_cmp (ids (lent ps.items))) }
+{
+    let mut all = all;
+    if are_few(others.len(), all.len()) {
+        place_each(&mut all, others)?;
+        return Ok(all);
+    }
+    all.extend_from_slice(others)?;
+    Ok(in_order(all))
+}
+
+// Returns the candidate policies of a request, ascending by id, where many are candidates of every request.
+fn offered_among<'a, A: Ancestry>(
+    alloc: Global,
+    buckets: &'a Buckets,
+    request: &Request,
+    ancestry: &A,
+) -> Result<Vec<(&'a str, &'a Policy)>, NoMemory>
+    requires { HaveOnePolicy buckets.now }
+    ensures found { IfOk result (λ ps. (o : Offer) → Contains (lent ps.items) o
+        ↔ ((k : IndexKey) × IsMet (A.parents ancestry.now) request.now k × (in_bucket buckets.now k o.0 ≡ Some o.1))) }
+    ensures ascending { IfOk result (λ ps. IsStrictlySortedBy text_cmp (ids (lent ps.items))) }
+{
+    let mut others = Vec::new(alloc);
+    offer_bound(buckets, request, ancestry, &mut others)?;
+    let all = all_of(alloc, &buckets.always)?;
+    Ok(joined(all, &others)?)
+}
+
 /// Returns the candidate policies of a request, ascending by id.
 pub(crate) fn offered<'a, A: Ancestry>(
     alloc: Global,
@@ -170,5 +284,8 @@ pub(crate) fn offered<'a, A: Ancestry>(
         ↔ ((k : IndexKey) × IsMet (A.parents ancestry.now) request.now k × (in_bucket buckets.now k o.0 ≡ Some o.1))) }
     ensures ascending { IfOk result (λ ps. IsStrictlySortedBy text_cmp (ids (lent ps.items))) }
 {
+    if buckets.always.len() >= MANY {
+        return offered_among(alloc, buckets, request, ancestry);
+    }
     Ok(in_order(found_by(alloc, buckets, request, ancestry)?))
 }

@@ -61,7 +61,11 @@ fn entry_of(alloc: Global, id: &str, policy: &Policy) -> Result<(String, Policy)
     beside(String::from_str(alloc, id)?, policy.share())
 }
 
-/// Adds a shared reference to a policy, replacing the policy of its id. If an allocation fails, the id has no policy.
+/// Adds a shared reference to a policy, replacing the policy of its id.
+///
+/// # Errors
+///
+/// - `NoMemory`: an allocation failed. The id then has no policy.
 pub(crate) fn keep(
     alloc: Global,
     kept: &mut BTreeMap<String, Policy>,

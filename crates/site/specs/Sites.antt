@@ -42,8 +42,8 @@ pub record SentSummary : Type 0 where
   pub site : ℕ
   pub store : Store
 
--- A `SentMessage` is a message that was made: its bytes, the store that it was made from, and the summary that a
--- delta was made against; for a state there is none.
+-- A `SentMessage` is a message that was made: its bytes, the store that it was made from, and the summary that a delta
+-- was made against (`None` for a state).
 pub record SentMessage : Type 0 where
   pub bytes : List ℕ
   pub whole : Store

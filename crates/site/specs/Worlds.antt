@@ -28,7 +28,7 @@ HasTexts (operation.PutPolicy id text) = IsUtf8 id × IsUtf8 text
 HasTexts _ = Unit {0}
 
 -- `input_by message summary d` is the input of the operation `d` to its site, given the messages and summaries by
--- number; none if the one that it names does not exist.
+-- number; `None` if the one that `d` names does not exist.
 abbrev pub input_by : (ℕ → Option (List ℕ)) → (ℕ → Option (List ℕ)) → Operation → Option Input
 input_by message summary (operation.PutPolicy id text) = Some (input.PutPolicy id text)
 input_by message summary (operation.DeletePolicy id) = Some (input.DeletePolicy id)

@@ -5,20 +5,20 @@ use Rattle.std.specs.Str.{IsUtf8, is_utf8}
 use Rattle.std.proofs.lemmas.Str.{IsUtf8-from_is_utf8}
 use Rattle.http.specs.declared.status.StatusCode.{StatusCode}
 use Rattle.values.specs.declared.entity_uid.EntityUid.{EntityUid}
-use Rattle.http_replies.specs.policy_grammar.declared.fault.ReadFault.{ReadFault}
-use Rattle.http_replies.specs.policy_grammar.declared.fault.ReadFault.TheVariants.{BadId}
-use Rattle.http_replies.specs.site_steps.entities.declared.fault.EntityFault.TheVariants.{BadShape}
-use Rattle.http_replies.specs.site_steps.SiteViews.{SiteView, schema_of, store_in, IsSameSite}
-use Rattle.http_replies.specs.site_steps.declared.fault.SiteFault.{SiteFault}
-use Rattle.http_replies.specs.site_steps.declared.fault.SiteFault.TheVariants as fault
-use Rattle.http_replies.specs.site_steps.stamped_store.Store.{Store}
-use Rattle.http_replies.specs.site_steps.schema.Schemas.{StatedSchema}
-use Rattle.http_replies.specs.site_steps.Runs.{Step}
-use Rattle.http_replies.specs.site_steps.Inputs.{Input}
-use Rattle.http_replies.specs.site_steps.Inputs as input
-use Rattle.http_replies.specs.site_steps.declared.reply.Reply.{Reply}
-use Rattle.http_replies.specs.site_steps.declared.reply.Reply.TheVariants as reply
-use Rattle.http_replies.specs.Replies.{fault_reply}
+use Rattle.site_calls.specs.policy_grammar.declared.fault.ReadFault.{ReadFault}
+use Rattle.site_calls.specs.policy_grammar.declared.fault.ReadFault.TheVariants.{BadId}
+use Rattle.site_calls.specs.site_steps.entities.declared.fault.EntityFault.TheVariants.{BadShape}
+use Rattle.site_calls.specs.site_steps.SiteViews.{SiteView, schema_of, store_in, IsSameSite}
+use Rattle.site_calls.specs.site_steps.declared.fault.SiteFault.{SiteFault}
+use Rattle.site_calls.specs.site_steps.declared.fault.SiteFault.TheVariants as fault
+use Rattle.site_calls.specs.site_steps.stamped_store.Store.{Store}
+use Rattle.site_calls.specs.site_steps.schema.Schemas.{StatedSchema}
+use Rattle.site_calls.specs.site_steps.Runs.{Step}
+use Rattle.site_calls.specs.site_steps.Inputs.{Input}
+use Rattle.site_calls.specs.site_steps.Inputs as input
+use Rattle.site_calls.specs.site_steps.declared.reply.Reply.{Reply}
+use Rattle.site_calls.specs.site_steps.declared.reply.Reply.TheVariants as reply
+use Rattle.site_calls.specs.Replies.{fault_reply}
 use Rattle.site_calls.specs.Asked.{Asked, gives, rejects, put_asked, removal_asked, not_text}
 use Rattle.site_calls.specs.Calls.{upon}
 use Rattle.site_calls.specs.inner.Reporting.{Reports, lacking}

@@ -1,3 +1,4 @@
 pub mod CallSteps
+pub mod LineLemmas
 -- crates below, passed on to those above
-pub use Rattle.http_replies.proofs as of_http_replies
+pub use Rattle.site.proofs.of_site_steps

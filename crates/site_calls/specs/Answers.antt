@@ -4,16 +4,16 @@
 -- unchanged, and may get `NoMemory` first.
 use Rattle.std.specs.Prelude.{◌≡◌, ◌⊎◌, ℕ, List, ◌++◌}
 use Rattle.http.specs.declared.status.StatusCode.{StatusCode}
-use Rattle.http_replies.specs.Replies.{fault_reply, status_reply}
-use Rattle.http_replies.specs.site_steps.Runs.{Step}
-use Rattle.http_replies.specs.site_steps.SiteViews.{SiteView, schema_of, store_in, IsSameSite}
-use Rattle.http_replies.specs.site_steps.declared.fault.SiteFault.TheVariants as fault
-use Rattle.http_replies.specs.site_steps.declared.reply.Reply.{Reply}
+use Rattle.site_calls.specs.Replies.{fault_reply, status_reply}
+use Rattle.site_calls.specs.site_steps.Runs.{Step}
+use Rattle.site_calls.specs.site_steps.SiteViews.{SiteView, schema_of, store_in, IsSameSite}
+use Rattle.site_calls.specs.site_steps.declared.fault.SiteFault.TheVariants as fault
+use Rattle.site_calls.specs.site_steps.declared.reply.Reply.{Reply}
 use Rattle.site_calls.specs.Asked.{Asked, gives, rejects, unserved}
 use Rattle.site_calls.specs.Reports.{reported}
 
--- `Replies old asked status body new`: the site `old` may answer what is asked by this status and body, and then be
--- `new`.
+-- `Replies old asked status body new` holds if the site `old` may answer what is asked with this status and body, and
+-- be `new` afterwards.
 abbrev pub Replies : SiteView → Asked → StatusCode → List ℕ → SiteView → Type 0
 Replies old (gives i) status body new =
     (r : Reply) × Step (schema_of old) old.name (store_in old) i r (store_in new) × IsSameSite old new

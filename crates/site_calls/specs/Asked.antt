@@ -6,14 +6,14 @@ use Rattle.std.specs.Prelude.{ℕ, Bool, ◌&&◌, List, length, Option, Some, N
 use Rattle.std.specs.Str.{is_utf8}
 use Rattle.values.specs.declared.entity_uid.EntityUid.{EntityUid}
 use Rattle.http.specs.declared.status.StatusCode.{StatusCode}
-use Rattle.http_replies.specs.policy_grammar.Limits.{most_id_bytes, most_policy_bytes}
-use Rattle.http_replies.specs.policy_grammar.declared.fault.ReadFault.{ReadFault}
-use Rattle.http_replies.specs.policy_grammar.declared.fault.ReadFault.TheVariants.{BadId, BadToken, TooLong}
-use Rattle.http_replies.specs.site_steps.entities.declared.fault.EntityFault.TheVariants.{BadShape}
-use Rattle.http_replies.specs.site_steps.declared.fault.SiteFault.{SiteFault}
-use Rattle.http_replies.specs.site_steps.declared.fault.SiteFault.TheVariants as fault
-use Rattle.http_replies.specs.site_steps.Inputs.{Input}
-use Rattle.http_replies.specs.site_steps.Inputs as input
+use Rattle.site_calls.specs.policy_grammar.Limits.{most_id_bytes, most_policy_bytes}
+use Rattle.site_calls.specs.policy_grammar.declared.fault.ReadFault.{ReadFault}
+use Rattle.site_calls.specs.policy_grammar.declared.fault.ReadFault.TheVariants.{BadId, BadToken, TooLong}
+use Rattle.site_calls.specs.site_steps.entities.declared.fault.EntityFault.TheVariants.{BadShape}
+use Rattle.site_calls.specs.site_steps.declared.fault.SiteFault.{SiteFault}
+use Rattle.site_calls.specs.site_steps.declared.fault.SiteFault.TheVariants as fault
+use Rattle.site_calls.specs.site_steps.Inputs.{Input}
+use Rattle.site_calls.specs.site_steps.Inputs as input
 
 -- What is asked of a site.
 pub data Asked : Type 0 where

@@ -4,10 +4,10 @@
 use Rattle.std.specs.Prelude.{ℕ, List, option_and_then, if◌then◌else◌}
 use Rattle.std.specs.Str.{is_utf8}
 use Rattle.json_words.specs.Json.{json_of}
-use Rattle.http_replies.specs.entity_uids.Uids.{uid_in}
-use Rattle.http_replies.specs.policy_grammar.declared.fault.ReadFault.TheVariants.{BadId}
-use Rattle.http_replies.specs.site_steps.declared.fault.SiteFault.TheVariants as fault
-use Rattle.http_replies.specs.site_steps.Inputs as input
+use Rattle.site_calls.specs.entity_uids.Uids.{uid_in}
+use Rattle.site_calls.specs.policy_grammar.declared.fault.ReadFault.TheVariants.{BadId}
+use Rattle.site_calls.specs.site_steps.declared.fault.SiteFault.TheVariants as fault
+use Rattle.site_calls.specs.site_steps.Inputs as input
 use Rattle.site_calls.specs.Asked.{Asked, gives, rejects, put_asked, removal_asked}
 use Rattle.site_calls.specs.declared.call.Call as code
 use Rattle.site_calls.specs.declared.call.Call.TheVariants as borrowed

@@ -3,6 +3,15 @@ pub mod Asked
 pub mod Calls
 pub mod Reports
 pub mod Answers
--- crates below, passed on to those above
-pub use Rattle.http_replies.specs as http_replies
-pub use Rattle.http_replies.specs.site_steps
+pub mod Lines
+pub mod Replies
+pub mod Statuses
+-- Specifications of lower crates, re-exported.
+pub use Rattle.answer_lines.specs as answer_lines
+pub use Rattle.answer_lines.specs.policy_grammar
+pub use Rattle.answer_lines.specs.entity_uids
+pub use Rattle.http_streams.specs as http_streams
+pub use Rattle.site.specs.site_steps
+pub use Rattle.site.specs.site_steps.entity_data
+pub use Rattle.site.specs.site_steps.message_format
+pub use Rattle.site.specs as site

@@ -3,10 +3,10 @@
 -- Rules of this product: the status and the body of each reply.
 use Rattle.std.specs.Prelude.{ℕ, List, Ok, Err, option_map}
 use Rattle.http.specs.declared.status.StatusCode.{StatusCode}
-use Rattle.http_replies.specs.Replies.{fault_reply, put_reply, stamp_reply, taken_reply, answer_reply, found_reply}
-use Rattle.http_replies.specs.Replies.{message_reply}
-use Rattle.http_replies.specs.site_steps.declared.reply.Reply.{Reply}
-use Rattle.http_replies.specs.site_steps.declared.reply.Reply.TheVariants as reply
+use Rattle.site_calls.specs.Replies.{fault_reply, put_reply, stamp_reply, taken_reply, answer_reply, found_reply}
+use Rattle.site_calls.specs.Replies.{message_reply}
+use Rattle.site_calls.specs.site_steps.declared.reply.Reply.{Reply}
+use Rattle.site_calls.specs.site_steps.declared.reply.Reply.TheVariants as reply
 
 -- The status and the body of a reply.
 abbrev pub reported : Reply → StatusCode × List ℕ

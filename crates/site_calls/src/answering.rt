@@ -5,22 +5,22 @@ ghost use Rattle.std.specs.Str.{is_utf8};
 ghost use Rattle.std.specs.Vec.{vec_capacity};
 ghost use Rattle.serde_json.specs.View.{view};
 ghost use Rattle.json_words.specs.Json.{json_of};
-ghost use Rattle.http_replies.specs.entity_uids.Uids.{uid_in};
-ghost use Rattle.http_replies.specs.site_steps.Inputs.{input_of, Authorize, GetPolicy, DeletePolicy};
-ghost use Rattle.http_replies.specs.site_steps.SiteViews.{schema_of, store_in};
-ghost use Rattle.http_replies.specs.site_steps.Steps.{Answers};
+ghost use Rattle.site_calls.specs.entity_uids.Uids.{uid_in};
+ghost use Rattle.site_calls.specs.site_steps.Inputs.{input_of, Authorize, GetPolicy, DeletePolicy};
+ghost use Rattle.site_calls.specs.site_steps.SiteViews.{schema_of, store_in};
+ghost use Rattle.site_calls.specs.site_steps.Steps.{Answers};
 ghost use Rattle.site_calls.specs.Asked.{gives, put_asked, removal_asked, not_text};
 ghost use Rattle.site_calls.specs.Calls.{asked, call_of, upon};
 ghost use Rattle.site_calls.specs.Answers.{Appends};
 
 use crate::call::Call;
 use crate::replying::report_reply;
-use http::StatusCode;
-use http_replies::{
+use crate::{
     Answer, EntityFault, Input, LINE_ROOM, MOST_ID_BYTES, MOST_POLICY_BYTES, ReadFault, Reply,
     Site, SiteFault, answer as answer_input, read_uid, report_fault,
 };
-use json_values::{Scratch, read_json_by};
+use http::StatusCode;
+use json_words::{Scratch, read_json_by};
 use plain::NoMemory;
 use serde_json::Value;
 use std::alloc::Global;

@@ -3,11 +3,11 @@ ghost use Rattle.std.specs.Prelude.{◌≤◌, ◌+◌, vec_len, Ok};
 ghost use Rattle.std.specs.Vec.{vec_capacity};
 ghost use Rattle.site_calls.specs.inner.Reporting.{Reports};
 
-use http::StatusCode;
-use http_replies::{
+use crate::{
     Found, LINE_ROOM, Reply, report_answer, report_fault, report_found, report_message, report_put,
     report_stamp, report_taken,
 };
+use http::StatusCode;
 use std::alloc::Global;
 
 /// Reports a policy that was looked up.

@@ -11,7 +11,7 @@ use Rattle.serde_json.specs.Find.{as_array}
 use Rattle.json_words.specs.Json.{json_of}
 use Rattle.json_words.specs.Each.{list_of}
 use Rattle.json_words.specs.ReadsAs.{◌>>=◌, or_fault}
-use Rattle.schema_decisions.specs.json_values.Arrays.{array_of}
+use Rattle.schema_decisions.specs.json_words.Arrays.{array_of}
 use Rattle.schema_decisions.specs.schema.Schemas.{StatedSchema}
 use Rattle.schema_decisions.specs.schema.Views.{schema_view}
 use Rattle.schema_decisions.specs.entity_data.declared.entity.Entity.{Entity}

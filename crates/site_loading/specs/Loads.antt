@@ -38,7 +38,7 @@ policy_puts (name ∷ names) (text ∷ texts) = policy_put name text ∷ policy_
 
 -- ---- entities
 
--- `items_of bytes` is the list of the items of the JSON array `bytes`; none if it is not one.
+-- `items_of bytes` is the list of the items of the JSON array `bytes`; `None` if `bytes` is not one.
 abbrev pub items_of : List ℕ → Option (List Data)
 items_of bytes = option_map list_of (option_and_then as_array (json_of bytes))
 

@@ -53,7 +53,7 @@ module _ {bytes : List ℕ} {schema : StatedSchema} (stated : IsSchemaOf bytes s
       pub are_entities : AreEntities Entities s entities
       pub none : IsOnCycle (stated_parents_with entities e) e.uid → ⊥
 
--- ---- theorems, whatever the texts of the store are read as
+-- ---- theorems, for any way to parse the texts of the store
 
 -- The answers over a store are those by `memberOf`.
 abbrev pub StoredActionsAnswerAlike : (List ℕ → List ℕ → Policy → Type 0) → (EntityUid → List ℕ → Entity → Type 0)

@@ -15,5 +15,4 @@ pub use Rattle.entity_hierarchy.specs.schema
 pub use Rattle.entity_hierarchy.specs.schema_file
 pub use Rattle.entity_hierarchy.specs.schema_names
 pub use Rattle.entity_hierarchy.specs.schema_types
-pub use Rattle.entity_hierarchy.specs.entity_values
 pub use Rattle.stamped_store.specs as stamped_store

@@ -58,8 +58,8 @@ pub fn requests_have_one_answer<R: Readings<Policy, Entity>>()
 /// `memberOf` states.
 ///
 /// Under a schema that bytes state, an answer over a store is an answer over that data, and the converse; and putting
-/// an entity makes a cycle, or makes none, if and only if it does so there. This holds whatever the texts are read
-/// as, and whatever uid the entity has. No-op.
+/// an entity makes a cycle, or makes none, if and only if it does so there. This holds for any way to parse the texts,
+/// and for any uid. No-op.
 pub fn stored_actions_answer_alike<R: Readings<Policy, Entity>>()
     ensures answers { (r : R) → StoredActionsAnswerAlike (R.reads_policy r) (R.reads_entity r) }
     ensures cycles { (r : R) → StoredActionsCycleAlike (R.reads_entity r) }

@@ -1,7 +1,7 @@
 //! The meaning of a store of stamped texts: its policies, its entities, and the one answer to each request.
 //!
-//! The store holds each text with its parsed form. What a text may be read as is a parameter of the contracts.
-//! `site_store` answers requests by these definitions.
+//! The store holds each text with its parsed form. The relation between a text and its parsed form is a parameter of
+//! the contracts. `site_store` answers requests by these definitions.
 #![tactic(auto)]
 
 mod laws;

@@ -9,7 +9,7 @@ use Rattle.serde_json.specs.Find.{get, as_object}
 use Rattle.values.specs.declared.entity_uid.EntityUid.{EntityUid}
 use Rattle.site_meaning.specs.schema.declared.parts.Place.{Place}
 use Rattle.site_meaning.specs.schema.Schemas.{EnvironmentOf, StatedSchema}
-use Rattle.site_meaning.specs.entity_values.declared.fault.ValueFault.{ValueFault}
+use Rattle.site_meaning.specs.entities.declared.value_fault.ValueFault.{ValueFault}
 use Rattle.site_meaning.specs.entities.declared.fault.EntityFault.TheVariants.{UnknownType, ActionEntity, TagsLeftOut}
 use Rattle.site_meaning.specs.entities.declared.fault.EntityFault.TheVariants.{NotApplicable}
 use Rattle.site_meaning.specs.entity_data.declared.entity.Entity.{Entity}
@@ -29,9 +29,9 @@ use Rattle.values.specs.Fields.{Field}
 use Rattle.values.specs.Laws.{SetsHoldTheirMembers}
 use Rattle.site_meaning.specs.schema_types.Cedar as cedar
 use Rattle.site_meaning.specs.schema_types.Cedar.{Cedar, CedarFields}
-use Rattle.site_meaning.specs.entity_values.declared.fault.ValueFault.TheVariants.{WrongType, Missing}
-use Rattle.site_meaning.specs.entity_values.Parts as parts
-use Rattle.site_meaning.specs.entity_values.Typing.{all_there, typed_members, record_in}
+use Rattle.site_meaning.specs.entities.declared.value_fault.ValueFault.TheVariants.{WrongType, Missing}
+use Rattle.site_meaning.specs.entities.Parts as parts
+use Rattle.site_meaning.specs.entities.Typing.{all_there, typed_members, record_in}
 use Rattle.sync_messages.specs.typing.Types.{FieldTypes, no_field_types, record_type}
 use Rattle.sync_messages.specs.typing.Membership.{Of}
 use Rattle.site_soundness.specs.Laws.{RecordsAreOfTheirTypes, EntitiesAreOfTheirTypes, RequestsAreOfAnEnvironment}

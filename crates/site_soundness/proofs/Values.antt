@@ -16,16 +16,16 @@ use Rattle.values.specs.Fields.{Field, find_field}
 use Rattle.values.specs.Uids.{text_cmp, text_cmp-IsAntisymmetric}
 use Rattle.values.specs.Sets.{set_list}
 use Rattle.values.specs.Laws.{SetsHoldTheirMembers}
-use Rattle.site_meaning.specs.entity_values.declared.fault.ValueFault.{ValueFault}
-use Rattle.site_meaning.specs.entity_values.declared.fault.ValueFault.TheVariants.{WrongType, Undeclared}
+use Rattle.site_meaning.specs.entities.declared.value_fault.ValueFault.{ValueFault}
+use Rattle.site_meaning.specs.entities.declared.value_fault.ValueFault.TheVariants.{WrongType, Undeclared}
 use Rattle.site_meaning.specs.schema_types.Cedar as cedar
 use Rattle.site_meaning.specs.schema_types.Cedar.{Cedar, CedarFields, no_fields, field}
-use Rattle.site_meaning.specs.entity_values.Parts.{element_of, fields_in, declared_at}
+use Rattle.site_meaning.specs.entities.Parts.{element_of, fields_in, declared_at}
 use Rattle.sync_messages.specs.entity_uids.Uids.{uid_in}
 use Rattle.values.specs.extensions.TextsDecided.{decimal_of, network_of}
-use Rattle.site_meaning.specs.entity_values.Typing.{argument_in, boolean_in, is_long, long_of, long_in, text_in}
-use Rattle.site_meaning.specs.entity_values.Typing.{entity_in, decimal_in, ipaddr_in, leaf, all_there, with_or, inside}
-use Rattle.site_meaning.specs.entity_values.Typing.{typed_value, typed_items, typed_members}
+use Rattle.site_meaning.specs.entities.Typing.{argument_in, boolean_in, is_long, long_of, long_in, text_in}
+use Rattle.site_meaning.specs.entities.Typing.{entity_in, decimal_in, ipaddr_in, leaf, all_there, with_or, inside}
+use Rattle.site_meaning.specs.entities.Typing.{typed_value, typed_items, typed_members}
 use Rattle.sync_messages.specs.typing.Types as static_type
 use Rattle.sync_messages.specs.typing.Types.{StaticType, Declared, declared_as, boolean_type, long_type, text_type}
 use Rattle.sync_messages.specs.typing.Types.{entity_type, set_type, record_type, decimal_type, ipaddr_type, undeclared}

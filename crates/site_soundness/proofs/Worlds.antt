@@ -25,7 +25,7 @@ use Rattle.site_meaning.specs.entities.Entities.{is_action_type, shape_of, attri
 use Rattle.site_meaning.specs.entities.Entities.{parents_in, entity_stated_in}
 use Rattle.site_meaning.specs.entities.Laws.{ActionTypeTestIsExact, SetsHoldTheirMembers}
 use Rattle.site_meaning.specs.entity_data.UidSets.{uid_set}
-use Rattle.site_meaning.specs.entity_values.Typing.{record_in}
+use Rattle.site_meaning.specs.entities.Typing.{record_in}
 use Rattle.site_meaning.specs.entity_data.declared.data.EntityData.{EntityData}
 use Rattle.site_meaning.specs.entity_data.Entities.{EntityMap, action_or}
 use Rattle.site_meaning.specs.entity_data.Entities as store

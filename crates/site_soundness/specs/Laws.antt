@@ -8,7 +8,7 @@ use Rattle.values.specs.Fields.{Field}
 use Rattle.values.specs.Values.{PlainValue, record_of, fields_of}
 use Rattle.site_meaning.specs.schema_types.Cedar.{Cedar}
 use Rattle.site_meaning.specs.schema.Schemas.{EnvironmentOf, StatedSchema}
-use Rattle.site_meaning.specs.entity_values.Typing.{typed_value, record_in}
+use Rattle.site_meaning.specs.entities.Typing.{typed_value, record_in}
 use Rattle.site_meaning.specs.entity_data.declared.entity.Entity.{Entity}
 use Rattle.site_meaning.specs.entities.Entities.{entity_stated_in}
 use Rattle.site_meaning.specs.entities.Requests.{StatesRequest}
@@ -21,7 +21,7 @@ use Rattle.sync_messages.specs.type_checker.FromSchemas.{static, field_types_in,
 abbrev pub ValuesAreOfTheirTypes : Type 0
 ValuesAreOfTheirTypes = (t : Cedar) (d : Data) (v : PlainValue) → typed_value t d ≡ Ok v → Of v (static t)
 
--- The fields of a record that JSON is read as are of the record's type: each required one is present, and only
+-- The fields of a record that is parsed from JSON are of the record's type: each required one is present, and only
 -- declared ones are.
 abbrev pub RecordsAreOfTheirTypes : Type 0
 RecordsAreOfTheirTypes = (t : Cedar) (d : Data) (fs : List Field) → record_in t d ≡ Ok fs

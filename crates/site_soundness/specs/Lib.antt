@@ -19,4 +19,4 @@ pub use Rattle.site_meaning.specs.schema
 pub use Rattle.site_meaning.specs.schema_file
 pub use Rattle.site_meaning.specs.schema_names
 pub use Rattle.site_meaning.specs.schema_types
-pub use Rattle.site_meaning.specs.entity_values
+pub use Rattle.site_meaning.specs.entities

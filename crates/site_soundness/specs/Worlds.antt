@@ -40,7 +40,7 @@ WhatIsReadConforms = (bytes : List ℕ) (s : StatedSchema) → IsSchemaOf bytes 
     → AreRead s entities → (d : Data) (q : Request) → StatesRequest s d q
     → (e : EnvironmentOf) × Contains s.environments e × Conforms (typing_environment_of s e) (closed_world s entities) q
 
--- So over finitely many such entities, a policy that passes gives a boolean, `EntityDoesNotExist` or
+-- So over finitely many such entities, a policy that passes validation gives a boolean, `EntityDoesNotExist` or
 -- `ArithBoundsError`; if it is impossible, it is never true.
 abbrev pub WhatIsStoredIsSound : Type 0
 WhatIsStoredIsSound = (bytes : List ℕ) (s : StatedSchema) → IsSchemaOf bytes s → (entities : EntityMap)

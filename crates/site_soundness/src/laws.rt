@@ -12,9 +12,9 @@ use sync_messages::{
 };
 use values::sets_hold_their_members;
 
-/// Proves that what JSON is read as by a declared type has that type by the typing rules: a value, the attributes of
-/// an entity, and the context of a request, whose principal, action and resource are those of an environment of the
-/// schema. No-op.
+/// Proves that a value parsed from JSON under a declared type has that type by the typing rules: a value, the
+/// attributes of an entity, and the context of a request, whose principal, action and resource are those of an
+/// environment of the schema. No-op.
 pub fn what_is_read_is_of_its_type()
     ensures values { ValuesAreOfTheirTypes }
     ensures records { RecordsAreOfTheirTypes }
@@ -24,7 +24,7 @@ pub fn what_is_read_is_of_its_type()
     sets_hold_their_members();
 }
 
-/// Proves that entities that were each read under a schema, with the schema's actions, and a request that was read
+/// Proves that entities that were each parsed under a schema, with the schema's actions, and a request that was parsed
 /// under it conform to the schema: the premise of the soundness of validation. No-op.
 pub fn what_is_read_conforms()
     ensures { WhatIsReadConforms }
@@ -36,9 +36,9 @@ pub fn what_is_read_conforms()
     parents_tell_ancestors();
 }
 
-/// Proves that validation is sound over what is stored: if each stored entity and the request were read under the
-/// schema, a policy that passes gives a boolean, `EntityDoesNotExist` or `ArithBoundsError`; if it is impossible, it
-/// is never true. No-op.
+/// Proves that validation is sound over what is stored: if each stored entity and the request were parsed under the
+/// schema, a policy that passes validation gives a boolean, `EntityDoesNotExist` or `ArithBoundsError`; if it is
+/// impossible, it is never true. No-op.
 pub fn what_is_stored_is_sound()
     ensures { WhatIsStoredIsSound }
 {
@@ -50,9 +50,9 @@ pub fn what_is_stored_is_sound()
 
 /// Proves that answers over a store are sound.
 ///
-/// If each text of the store was read under the schema, each policy gives a boolean, `EntityDoesNotExist` or
-/// `ArithBoundsError`, and an impossible one is never true. So no answer over the store reports an error of type, of
-/// an attribute or of an extension function. No-op.
+/// If each text of the store was parsed under the schema, each policy gives a boolean, `EntityDoesNotExist` or
+/// `ArithBoundsError`, and an impossible one is never true. So no answer over the store reports an error of type, of an
+/// attribute or of an extension function. No-op.
 pub fn stored_answers_are_sound()
     ensures policies { StoredPoliciesAreSound }
     ensures answers { StoredAnswersAreSound }

@@ -14,7 +14,9 @@ pub use laws::{
 pub use site_meaning::declarations_are_read_as_stated;
 pub use sync_messages::{
     MessageFault, SchemaTexts, Summary, TypeFault, Update, canonical_texts_are_read, check,
-    json_texts_are_utf8, messages_have_one_outcome, messages_read_back, names_read_back,
-    policies_have_one_outcome, read_summary, read_updates, stored_texts_have_one_reading,
-    summaries_read_back, valid_messages_are_read, write_delta, write_state, write_summary,
+    entity_texts_are_read_as_stated, json_texts_are_utf8, messages_are_read_as_stated,
+    messages_have_one_outcome, messages_read_back, names_read_back, policies_have_one_outcome,
+    read_summary, read_updates, stored_texts_have_one_reading, summaries_are_read_as_stated,
+    summaries_read_back, updates_are_read_as_stated, valid_messages_are_read, write_delta,
+    write_state, write_summary,
 };

@@ -10,7 +10,7 @@ use Rattle.site_soundness.specs.ancestor_search.Deciding.{Contains-here, same_ui
 use Rattle.json_words.specs.Each.{each}
 use Rattle.site_soundness.specs.entity_uids.Uids.{uid_json, plain_uid_in, uid_in, IsUid}
 use Rattle.site_soundness.specs.entity_uids.Laws.{WrittenIsRead}
-use Rattle.site_soundness.specs.entity_values.Typing.{record_in, typed_value, typed_items, typed_members, long_in}
+use Rattle.site_soundness.specs.entities.Typing.{record_in, typed_value, typed_items, typed_members, long_in}
 use Rattle.site_soundness.specs.entities.Entities.{entity_stated_in, shape_of, attributes_in, parents_in, parents_fit}
 use Rattle.site_soundness.specs.entities.Entities.{parent_fits}
 use Rattle.site_soundness.specs.entities.Stated.{stated_in, uids_of}

@@ -43,8 +43,8 @@ IsEntityUnder schema uid text e = ReadsEntity schema uid text e
 
 -- ---- policies
 
--- `IsAdmitted schema id text p` holds if `text` may be put under `id`: it is the text of the policy `p`, which
--- passes.
+-- `IsAdmitted schema id text p` holds if `text` may be put under `id`: it is the text of the policy `p`, which passes
+-- validation.
 pub record IsAdmitted (schema : StatedSchema) (id text : List ℕ) (p : Policy) : Type 0 where
   pub named : IsId id
   pub reads : ReadsPolicy schema text p
@@ -82,7 +82,7 @@ IsNoRequest schema (Some d) f = RequestRefused schema d f
 -- ---- updates that another site sent
 
 -- `IsValidUnder schema u` holds if the name and stamp of `u` are in their ranges, and its text, if it has one, is
--- read as its parsed form. (`IsValid` of message_format is the second half alone.)
+-- parsed as the form stored with it. (`IsValid` of message_format is the second half alone.)
 pub record IsValidUnder (schema : StatedSchema) (u : Update Policy Entity) : Type 0 where
   pub in_range : IsStamped (stamped (plain_update u))
   pub is_read : IsUpdateRead (IsPolicyUnder schema) (IsEntityUnder schema) u

@@ -16,11 +16,11 @@ abbrev pub IsPermittedReply : Reply → Type 0
 IsPermittedReply (reply.Answered (Ok a)) = HasPermittedErrors a
 IsPermittedReply _ = Unit {0}
 
--- `AreHarmlessReplies rs` holds if each reply of `rs` is such a reply.
+-- `AreHarmlessReplies replies` holds if `IsPermittedReply` does for each of `replies`.
 abbrev pub AreHarmlessReplies : List Reply → Type 0
 AreHarmlessReplies replies = AllByRecursion IsPermittedReply replies
 
--- Under a schema that bytes state, all replies of a run are such replies, whatever the site held before.
+-- Under a schema that bytes state, all replies of a run are permitted, whatever the site held before.
 abbrev pub RunsAreSound : Type 0
 RunsAreSound = (bytes : List ℕ) (schema : StatedSchema) → IsSchemaOf bytes schema → (n : List ℕ) (s : Store)
     (inputs : List Input) (replies : List Reply) (t : Store) → Run schema n s inputs replies t

@@ -35,8 +35,8 @@ IsSameSite a b = (b.schema ≡ a.schema) × (b.name ≡ a.name)
 abbrev pub IsHeld : StatedSchema → StoreEntries Policy Entity → Type 0
 IsHeld schema k = AreEntriesRead (IsPolicyUnder schema) (IsEntityUnder schema) k
 
--- `IsSite schema name k` is the invariant of a site: its texts are read as their parsed forms, each name and stamp of
--- its store is in its range, and its name is that of a site.
+-- `IsSite schema name k` is the invariant of a site: each of its texts is parsed as the form that is stored with it,
+-- each name and stamp of its store is in its range, and its name is that of a site.
 pub record IsSite (schema : StatedSchema) (name : List ℕ) (k : StoreEntries Policy Entity) : Type 0 where
   pub held : IsHeld schema k
   pub in_range : AreInRange (updates (abstract_store k))

@@ -23,7 +23,7 @@ use crate::laws::runs_are_sound;
 use crate::outcome::Taken;
 use crate::reply::{Found, Reply};
 use crate::site::Site;
-use json_values::{Scratch, read_json_by};
+use json_words::{Scratch, read_json_by};
 use plain::{Items, NoMemory, Text};
 use site_soundness::{MessageFault, Summary, Update, read_summary, read_updates};
 use site_store::{Answer, Entity, EntityFault, Policy, Schema, Stamp, updates_have_one_store};

@@ -140,7 +140,7 @@ fn entity_of(alloc: Global, schema: &Schema, json: &Value) -> Result<Entity, Sit
     }
 }
 
-/// Returns the canonical text of an entity that some JSON states; it is read as this entity again.
+/// Returns the canonical text of an entity that some JSON states; it is parsed as this entity again.
 fn text_of(alloc: Global, schema: &Schema, entity: &Entity) -> Result<Text, NoMemory>
     requires { IsStated (schema_view schema.now) entity.now }
     ensures text { IfOk result (λ t. t ≡ canonical_text entity.now) }

@@ -25,15 +25,16 @@ mod updates;
 pub use answering::{answer, run, take_bytes};
 pub use fault::SiteFault;
 pub use input::Input;
-pub use json_values::Scratch;
+pub use json_words::Scratch;
 pub use laws::{equal_updates_leave_equal_stores, inputs_have_one_outcome, runs_are_sound};
 pub use leaving::runs_leave_what_they_took;
 pub use outcome::{Put, Taken};
 pub use reply::{Found, Reply};
 pub use site::Site;
 pub use site_soundness::{
-    SchemaTexts, canonical_texts_are_read, json_texts_are_utf8, messages_read_back,
-    names_read_back, summaries_read_back, valid_messages_are_read,
+    SchemaTexts, canonical_texts_are_read, entity_texts_are_read_as_stated, json_texts_are_utf8,
+    messages_are_read_as_stated, messages_read_back, names_read_back, summaries_are_read_as_stated,
+    summaries_read_back, updates_are_read_as_stated, valid_messages_are_read,
 };
 pub use site_store::{
     Entity, EntityFault, Policy, Schema, SiteName, Stamp, deltas_are_joined, is_site_name,

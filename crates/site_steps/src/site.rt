@@ -25,7 +25,8 @@ use std::marker::Model;
 
 /// A site: a schema, a name, and a store of stamped texts with their parsed forms.
 ///
-/// Contracts see these three, and state properties of the abstract store: at most one stamped body a name.
+/// Contracts see these three as a `SiteView`. They describe the store abstractly, as at most one stamped body for each
+/// name.
 #[derive(Drop)]
 pub struct Site {
     pub(crate) alloc: Global,
@@ -105,7 +106,7 @@ impl Site {
         }
     }
 
-    /// Returns whether some update of the store, a deletion too, was stamped at the site of this name.
+    /// Returns whether some entry of the store, a tombstone included, has a stamp of the site `name`.
     ///
     /// O(n). Does not allocate.
     pub fn has_stamps_of(&self, name: SiteName) -> bool
@@ -157,9 +158,9 @@ impl Site {
     /// texts of the store are parsed as, and the actions of the schema. No policy in it has an error of type, of an
     /// attribute or of an extension function.
     ///
-    /// Evaluates the policies whose scope names no entity, or one that the request finds, and looks up ancestors in
-    /// the cache. If the index is absent, every policy is evaluated; if the cache is, the hierarchy is searched for
-    /// cycles: linear in the store.
+    /// Evaluates only the policies whose key in the index matches the request, and looks up ancestors in the cache. If
+    /// the index is absent, every policy is evaluated; if the cache is absent, the hierarchy is searched for cycles.
+    /// Both are linear in the store.
     ///
     /// # Errors
     ///

@@ -22,7 +22,7 @@ use site_soundness::SchemaTexts;
 use site_store::{Answer, Entity, IndexedStore, Policy, readings_are_kept};
 use values::Request;
 
-/// Proves that each text of a store remains one that is read as its parsed form when such an entry is joined. No-op.
+/// Proves that each text of a store is still parsed as the form stored with it after such an entry is joined. No-op.
 pub(crate) fn readings_stay()
     ensures empty { (schema : SchemaKept) → IsHeld (schema_view schema) (kept [] []) }
     ensures policy { (schema : SchemaKept) (k : StoreEntries Policy Entity) (id : String Global) (entry : Entry Policy)

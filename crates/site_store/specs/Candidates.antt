@@ -12,8 +12,8 @@ use Rattle.site_meaning.specs.authoriser.declared.answer.Answer.{Answer}
 use Rattle.site_meaning.specs.authoriser.Answers.{NamedPolicy, IsAnswer}
 use Rattle.site_meaning.specs.authoriser.Laws.{AreIdsAscending}
 
--- `AreCandidates parents q ps qs` holds if `qs` are some of the policies `ps`, with each whose scope is true of the
--- request `q`.
+-- `AreCandidates parents q ps qs` holds if `qs` are some of the policies `ps`, among them each whose scope is true of
+-- the request `q`.
 pub record AreCandidates (parents : Parents) (q : Request) (ps qs : List NamedPolicy) : Type 0 where
   pub among : (p : NamedPolicy) → Contains qs p → Contains ps p
   pub all : (p : NamedPolicy) → Contains ps p → IsScopeTrue parents p.policy.scope q → Contains qs p

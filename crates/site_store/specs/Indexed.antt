@@ -1,7 +1,7 @@
--- Defines when an index is that of a store's policies.
+-- Defines the relation between a store's policies and their index.
 -- Source: Cedar reference guide 4.0, "Policies", for what a policy is.
--- Rules of this product: the index has under each id exactly the parsed policy of the store's entry; a deleted policy
--- has none.
+-- Rules of this product: the index has, for each id, exactly the parsed policy of the store's entry, and none for a
+-- deleted policy.
 use Rattle.std.specs.Prelude.{◌≡◌, ℕ, List, Option, option_map, option_and_then}
 use Rattle.std.specs.declared.alloc.Global.{Global}
 use Rattle.std.specs.declared.string.String.{String}
@@ -14,7 +14,7 @@ use Rattle.stamped_store.specs.Stored.{value_at_text}
 abbrev pub PolicyEntries : Type 0
 PolicyEntries = List (String Global × Entry Policy)
 
--- `policy_in e` is the parsed policy of the entry `e`; none if `e` is a tombstone.
+-- `policy_in e` is the parsed policy of the entry `e`; `None` if `e` is a tombstone.
 abbrev pub policy_in : Entry Policy → Option Policy
 policy_in e = option_map (λ t. t.read) e.body
 

@@ -8,8 +8,9 @@ const AN_ENTITY: usize = 64;
 /// The most cached ancestors in total, beyond those for each entity.
 const BESIDE: usize = 1_000_000;
 
-/// The number of changes of entities, besides one for each entity, before the next attempt if there would be more. An
-/// attempt ends once it has found the most ancestors, so that it costs 64 for each of these changes.
+/// The number of changes of entities, in addition to one for each entity, before the next attempt after one that found
+/// too many ancestors. An attempt ends once it has found too many, so it costs some 64 ancestors for each of these
+/// changes.
 const PAUSE: usize = BESIDE / AN_ENTITY;
 
 /// The most ancestors that incremental updates for a message may write beyond those of a rebuild.

@@ -64,7 +64,7 @@ impl StoredWorld<'_, '_> {
         }
     }
 
-    /// Returns whether an entity is cyclic once its edges are those that it states.
+    /// Returns whether an entity would be cyclic with the parents that it states.
     ///
     /// With the cache: two look-ups for each parent, and no allocation.
     ///

@@ -20,8 +20,8 @@ use Rattle.site.specs.site_steps.Permitted.{RunsAreSound}
 use Rattle.site.specs.site_steps.entities.AsStated.{EntitiesAreRead}
 use Rattle.site.proofs.of_site_steps.of_stamped_store.Greatests.{entry_order}
 use Rattle.site.proofs.of_site_steps.of_stamped_store.GreatestsBy.{is_store_of-store_of, store_of-same_members}
-use Rattle.message_theorems.specs.Updates.{StatesUpdates}
-use Rattle.message_theorems.specs.Laws.{UpdatesAreRead}
+use Rattle.site.specs.site_steps.sync_messages.StatedUpdates.{StatesUpdates}
+use Rattle.site.specs.site_steps.sync_messages.AsStated.{UpdatesAreRead}
 use Rattle.site_theorems.specs.Steps.{IsStep}
 use Rattle.site_theorems.specs.Laws.{StepsAreAsStated}
 use Rattle.site_theorems.specs.Runs.{IsRun, Applies, Applied, LeavesApplied, RunsLeaveApplied, Holds}

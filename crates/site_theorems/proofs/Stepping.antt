@@ -21,8 +21,8 @@ use Rattle.site.specs.site_steps.Inputs as input
 use Rattle.site.specs.site_steps.declared.reply.Reply.{Reply}
 use Rattle.site.specs.site_steps.declared.reply.Reply.TheVariants as reply
 use Rattle.site.specs.site_steps.entities.AsStated.{EntitiesAreRead, RequestsAreRead}
-use Rattle.message_theorems.specs.Texts.{StatesText}
-use Rattle.message_theorems.specs.Laws.{TextsAreRead, SummariesAreRead, MessagesAreRead}
+use Rattle.site.specs.site_steps.sync_messages.StatedTexts.{StatesText}
+use Rattle.site.specs.site_steps.sync_messages.AsStated.{TextsAreRead, SummariesAreRead, MessagesAreRead}
 use Rattle.site_theorems.specs.Steps.{PutsEntity, IsNoMessageOf, TakesMessage, Answers, WritesDelta, IsStep}
 use Rattle.site_theorems.specs.Laws.{StepsAreAsStated}
 use Rattle.site_theorems.proofs.Readings.{answer_as, cycle_as, no_cycle_as, entity_value, entity_fault}

@@ -27,8 +27,8 @@ use Rattle.site.specs.Promises.{KeepsPromises, StatesBy, IssuesBy, SystemsKeepPr
 use Rattle.site.specs.Promises as site
 use Rattle.site.specs.site_steps.entities.StatedEntities.{StatesEntity}
 use Rattle.site.specs.site_steps.entities.AsStated.{EntitiesAreRead}
-use Rattle.message_theorems.specs.Updates.{StatesUpdates}
-use Rattle.message_theorems.specs.Laws.{UpdatesAreRead}
+use Rattle.site.specs.site_steps.sync_messages.StatedUpdates.{StatesUpdates}
+use Rattle.site.specs.site_steps.sync_messages.AsStated.{UpdatesAreRead}
 use Rattle.site_theorems.specs.Steps.{JsonStates, IsStep}
 use Rattle.site_theorems.specs.Laws.{StepsAreAsStated}
 use Rattle.site_theorems.specs.Promises.{Issues, WorldsKeepPromises}

@@ -15,7 +15,7 @@ use Rattle.site.specs.declared.event.Operation.{Operation}
 use Rattle.site.specs.declared.event.Operation.TheVariants as operation
 use Rattle.site.specs.Promises.{SystemsKeepPromises}
 use Rattle.site.specs.site_steps.entities.StatedEntities.{StatesEntity}
-use Rattle.message_theorems.specs.Updates.{StatesUpdates}
+use Rattle.site.specs.site_steps.sync_messages.StatedUpdates.{StatesUpdates}
 use Rattle.site_theorems.specs.Steps.{JsonStates, IsStep}
 
 -- `Issues schema d r u` holds if the reply `r` to the local command `d` is a stamp, for the update `u`.

@@ -16,7 +16,7 @@ use Rattle.site.specs.site_steps.declared.reply.Reply.{Reply}
 use Rattle.site.specs.site_steps.declared.reply.Reply.TheVariants as reply
 use Rattle.site.specs.site_steps.Permitted.{AreHarmlessReplies}
 use Rattle.site.specs.site_steps.entities.StatedEntities.{StatesEntity}
-use Rattle.message_theorems.specs.Updates.{StatesUpdates}
+use Rattle.site.specs.site_steps.sync_messages.StatedUpdates.{StatesUpdates}
 use Rattle.site_theorems.specs.Steps.{JsonStates, IsStep}
 
 -- ---- runs

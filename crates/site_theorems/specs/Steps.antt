@@ -33,9 +33,9 @@ use Rattle.site.specs.site_steps.declared.reply.Reply.{Reply}
 use Rattle.site.specs.site_steps.declared.reply.Reply.TheVariants as reply
 use Rattle.site.specs.site_steps.entities.StatedEntities.{StatesEntity, RefusesEntity}
 use Rattle.site.specs.site_steps.entities.StatedRequests.{DescribesRequest, RefusesRequest}
-use Rattle.message_theorems.specs.Texts.{StatesText}
-use Rattle.message_theorems.specs.Summaries.{StatesSummary, RefusesSummary}
-use Rattle.message_theorems.specs.Messages.{StatesMessage, RefusesMessage}
+use Rattle.site.specs.site_steps.sync_messages.StatedTexts.{StatesText}
+use Rattle.site.specs.site_steps.sync_messages.StatedSummaries.{StatesSummary, RefusesSummary}
+use Rattle.site.specs.site_steps.sync_messages.StatedMessages.{StatesMessage, RefusesMessage}
 
 -- ---- JSON, where `None` is bytes that are not JSON
 

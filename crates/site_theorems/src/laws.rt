@@ -5,13 +5,10 @@ ghost use Rattle.site_theorems.specs.SiteStores.{SitesHoldApplied};
 ghost use Rattle.site_theorems.specs.Promises.{AllWorldsKeepPromises};
 ghost use Rattle.site_theorems.specs.Headline.{SitesAreAsStated};
 
-use message_theorems::{
-    entity_texts_are_read_as_stated, messages_are_read_as_stated, summaries_are_read_as_stated,
-    updates_are_read_as_stated,
-};
 use site::{
-    entities_are_read_as_stated, requests_are_read_as_stated, runs_are_sound,
-    runs_leave_what_they_took, worlds_keep_promises,
+    entities_are_read_as_stated, entity_texts_are_read_as_stated, messages_are_read_as_stated,
+    requests_are_read_as_stated, runs_are_sound, runs_leave_what_they_took,
+    summaries_are_read_as_stated, updates_are_read_as_stated, worlds_keep_promises,
 };
 
 /// Proves that the steps that the contracts of a site cite are those that bytes state: of each input, with each

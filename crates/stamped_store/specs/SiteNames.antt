@@ -19,7 +19,7 @@ pub record IsSiteName (name : List ℕ) : Type 0 where
   pub short : length name ≤ 32
   pub bytes : AllAre is_site_byte name
 
--- `is_site_name name` is the same, computed.
+-- `is_site_name name` tests whether `name` is the name of a site.
 unfoldable pub is_site_name : List ℕ → Bool
 is_site_name name = (nat_le 1 (length name) && nat_le (length name) 32) && list_all is_site_byte name
 

@@ -1,11 +1,12 @@
 -- Defines which sites stamped the updates of a store.
--- Rules of this product: a name belongs to one site, once; so a store with stamps of it was that site's before.
+-- Rules of this product: a name belongs to one site, and is used once; so a store with stamps of a name was the store
+-- of that site before.
 use Rattle.std.specs.Prelude.{ℕ, Bool, List}
 use Rattle.std.specs.List.{list_any}
 use Rattle.std.specs.Str.{bytes_eq}
 use Rattle.stamped_store.specs.Store.{Store, Update, updates}
 
--- `is_stamped_at site u` tests whether the update `u`, or its tombstone, was stamped by `site`.
+-- `is_stamped_at site u` tests whether the update `u`, with a text or a tombstone, was stamped by `site`.
 abbrev pub is_stamped_at : List ℕ → Update → Bool
 is_stamped_at site u = bytes_eq u.1.site site
 

@@ -57,7 +57,7 @@ pub fn joins_have_laws<V: Join>()
     ensures { IsJoin (λ a b. V.is_below a b ≡ true) V.joined }
 {}
 
-/// Proves the same of the join of stores, each seen as its value at each key. No-op.
+/// Proves the laws of [`joins_have_laws`] for the join of stores, where a store is a map from keys to values. No-op.
 pub fn stamped_are_joined<K: Ord, V: Join>()
     ensures { IsJoin (IsBelowAt {K = K} V.is_below) (joined_at V.joined) }
 {}
@@ -67,7 +67,7 @@ pub fn stamped_are_joined<K: Ord, V: Join>()
 /// - `greatest`, `only`: this store has, for each name, the greatest entry that the updates have for it, and is the
 ///   only one that does.
 /// - `same_updates`, `grouped`: order, repeats and grouping of the updates do not matter.
-/// - `own`: a store is that of its own updates.
+/// - `own`: a store is the store of its own updates.
 /// - `union`: the store of two lists of updates together is the join of their stores.
 pub fn updates_have_one_store()
     ensures greatest { (us : List Update) → IsStoreOf us (store_of us) }

@@ -17,8 +17,8 @@ const NAME_MAX: usize = 32;
 
 /// The name of a site: 1 to 32 bytes, each an ASCII letter, a digit, `-`, `_` or `.`. Contracts see its bytes.
 ///
-/// Names are compared as they are: `1` is another site than `00001`. They are equal if their bytes are, and ordered
-/// by bytes. A name is `Copy` and does not allocate.
+/// Names are equal if their bytes are, and ordered by bytes: `1` and `00001` are two sites. A name is `Copy` and does
+/// not allocate.
 #[derive(Clone, Copy)]
 pub struct SiteName {
     // The name, followed by zeros.
@@ -82,7 +82,7 @@ pub fn is_site_name(text: &str) -> bool
 }
 
 impl SiteName {
-    /// Returns the site of this name, for which [`is_site_name`] must hold. Does not allocate.
+    /// Creates the name with these bytes, for which [`is_site_name`] must hold. Does not allocate.
     pub fn new(name: &str) -> SiteName
         requires { IsSiteName name.now }
         ensures { result ≡ name.now }
@@ -95,7 +95,7 @@ impl SiteName {
         }
     }
 
-    /// Returns the site of this name, or `None` if the string is not a site's name. Does not allocate.
+    /// Parses a name; returns `None` if the string is not the name of a site. Does not allocate.
     pub fn parse(text: &str) -> Option<SiteName>
         ensures { MatchOption result (IsSiteName text.now → ⊥) (λ n. IsSiteName text.now × (n ≡ text.now)) }
     {
@@ -106,8 +106,8 @@ impl SiteName {
         }
     }
 
-    /// Returns the name of the site that had this number: five digits, with leading zeros. Numbers of sites were 1 to
-    /// 65,535; 0, which no site had, gives `00000`. Does not allocate.
+    /// Returns the name of the site that has this number in a message of version 1: five digits, with leading zeros. No
+    /// site has the number 0, which gives `00000`. Does not allocate.
     pub fn from_number(number: u16) -> SiteName
         ensures { result ≡ five_digits number }
     {
@@ -141,8 +141,8 @@ impl SiteName {
     }
 }
 
-// Names are compared by words of eight bytes, of which a name with its trailing zeros has four. As big-endian numbers
-// these are ordered as their bytes, and no byte of a name is 0.
+// Names are compared by words of eight bytes: a name with its trailing zeros has four. As big-endian numbers these are
+// ordered as their bytes are. No byte of a name is 0, so a prefix of a name comes before it.
 impl SiteName {
     // The eight bytes at this offset, as a number.
     fn word(&self, at: usize) -> u64

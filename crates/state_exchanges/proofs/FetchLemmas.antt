@@ -5,19 +5,19 @@ use Rattle.std.specs.Prelude.{codes, decimal}
 use Rattle.std.specs.Borrow.{Bor}
 use Rattle.std.specs.Io.KnownBytes.{Appends, Consumes, IsAtEnd}
 use Rattle.std.proofs.KnownBytes.{Appends-nil, Consumes-nil}
-use Rattle.http_streams.specs.http_devices.Devices.{FailsAtLast}
-use Rattle.http_streams.specs.http_framing.Reply.{IsBadReply, IsUnfinishedReply, ReadsReply}
+use Rattle.http_streams.specs.Devices.{FailsAtLast}
+use Rattle.http_streams.specs.Reply.{IsBadReply, IsUnfinishedReply, ReadsReply}
 use Rattle.http_streams.specs.Reads.{EndsByOneRead}
 use Rattle.http_streams.specs.declared.fetch.FetchFault.{FetchFault}
 use Rattle.http_streams.specs.declared.fetch.FetchFault.TheVariants as fetch
-use Rattle.http_streams.specs.http_texts.declared.parts.Ask.{Ask}
-use Rattle.http_streams.specs.http_texts.RequestText.{request_start, length_field, body_bytes, request_text}
+use Rattle.http_streams.specs.declared.parts.Ask.{Ask}
+use Rattle.http_streams.specs.RequestText.{request_start, length_field, body_bytes, request_text}
 use Rattle.state_exchanges.specs.declared.fault.NetworkFault.{NetworkFault}
 use Rattle.state_exchanges.specs.declared.fault.NetworkFault.TheVariants as network
 use Rattle.state_exchanges.specs.declared.fault.PullFault.TheVariants.{Network}
 use Rattle.state_exchanges.specs.declared.asking.Call.{Call}
 use Rattle.state_exchanges.specs.declared.asking.Call.TheVariants as call
-use Rattle.http_streams.specs.http_texts.Parts.{is_method, is_target}
+use Rattle.http_streams.specs.Parts.{is_method, is_target}
 use Rattle.state_exchanges.specs.Requests.{call_body, call_method, call_path, call_request, delta_request, merge_request, summary_request}
 use Rattle.state_exchanges.specs.Exchanges.{IsSent, IsRequestBegun, IsAnswered, IsUnanswered}
 use Rattle.state_exchanges.specs.inner.Faults.{pull_fault}

@@ -2,20 +2,20 @@
 -- Source: RFC 9112, sections 3, 4 and 6; RFC 9110, section 15.3.1.
 use Rattle.std.specs.Prelude.{◌≡◌, ◌≢◌, ◌↔◌, ◌<◌, ℕ, List, ◌++◌, Option, IsFalse, IsTrue}
 use Rattle.std.specs.Io.KnownBytes.{Appends, Consumes, IsAtEnd}
-use Rattle.http_streams.specs.http_devices.Devices.{FailsAtLast}
-use Rattle.http_streams.specs.http_framing.declared.TheConstants.{MAX_BODY}
-use Rattle.http_streams.specs.http_framing.Reply.{IsBadReply, IsUnfinishedReply, ReadsReply}
-use Rattle.http_streams.specs.http_texts.Parts.{is_host}
+use Rattle.http_streams.specs.Devices.{FailsAtLast}
+use Rattle.http_streams.specs.declared.TheConstants.{MAX_BODY}
+use Rattle.http_streams.specs.Reply.{IsBadReply, IsUnfinishedReply, ReadsReply}
+use Rattle.http_streams.specs.Parts.{is_host}
 use Rattle.http_streams.specs.Reads.{EndsByOneRead}
 use Rattle.state_exchanges.specs.declared.fault.NetworkFault.{NetworkFault}
 use Rattle.state_exchanges.specs.declared.fault.NetworkFault.TheVariants as network
 
--- `TellsOfHost host fault` holds if `fault` is `NoHost` exactly if `host` is not a host.
+-- `TellsOfHost host fault` holds if `fault` is `NoHost` when `host` is not a host, and only then.
 abbrev pub TellsOfHost : List ℕ → NetworkFault → Type 0
 TellsOfHost host fault = (fault ≡ network.NoHost) ↔ IsFalse (is_host host)
 
--- `TellsOfSize host size fault` holds if `fault` is `TooLarge` exactly if `host` is a host and a body of `size` bytes
--- is longer than a site accepts.
+-- `TellsOfSize host size fault` holds if `fault` is `TooLarge` when `host` is a host and a body of `size` bytes is
+-- longer than a site accepts, and only then.
 abbrev pub TellsOfSize : List ℕ → ℕ → NetworkFault → Type 0
 TellsOfSize host size fault = (fault ≡ network.TooLarge) ↔ (IsTrue (is_host host) × (MAX_BODY < size))
 

@@ -15,4 +15,3 @@ pub use Rattle.sync_messages.specs.schema
 pub use Rattle.sync_messages.specs.stamped_store
 pub use Rattle.sync_messages.specs.message_format
 pub use Rattle.http_streams.specs as http_streams
-pub use Rattle.http_streams.specs.http_devices

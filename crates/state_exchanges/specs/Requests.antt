@@ -14,7 +14,7 @@ use Rattle.sync_messages.specs.Messages.{IsMessageOf}
 use Rattle.state_exchanges.specs.declared.asking.Call.{Call}
 use Rattle.state_exchanges.specs.declared.asking.Call.TheVariants as call
 
--- `Holds s o m` holds if `m` is the store of the updates of the state `o`, which is empty if absent.
+-- `Holds s o m` holds if `m` is the store of the updates of the state `o`, or the empty store if `o` is absent.
 abbrev pub Holds : StatedSchema → Option (List ℕ) → Store → Type 0
 Holds s None m = m ≡ store_of []
 Holds s (Some bytes) m = (us : List (SentUpdate Policy Entity)) × IsMessageOf s bytes us

@@ -1,6 +1,6 @@
 //! The calls of an exchange: one request each, and its reply.
 ghost use Rattle.std.specs.Prelude.{◌≡◌, ◌≢◌, ◌≤◌, Err, IfOk, OnErr, IsTrue};
-ghost use Rattle.http_streams.specs.http_texts.Parts.{is_host};
+ghost use Rattle.http_streams.specs.Parts.{is_host};
 ghost use Rattle.schema_decisions.specs.answer_lines.declared.refusal.Refusal.{Refusal};
 ghost use Rattle.schema_decisions.specs.answer_lines.Refusals.{no_memory};
 ghost use Rattle.state_exchanges.specs.declared.fault.NetworkFault.{NetworkFault};

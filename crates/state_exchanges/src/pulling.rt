@@ -1,7 +1,7 @@
 //! Pulls the entries that a state lacks from another site.
 ghost use Rattle.std.specs.Prelude.{◌≡◌, ◌≢◌, ◌⊎◌, ℕ, List, Ok, Err, IfOk, IfErr, OnErr, IsTrue, MatchResult};
 ghost use Rattle.std.specs.Prelude.{option_map};
-ghost use Rattle.http_streams.specs.http_texts.Parts.{is_host};
+ghost use Rattle.http_streams.specs.Parts.{is_host};
 ghost use Rattle.sync_messages.specs.schema.Schemas.{StatedSchema};
 ghost use Rattle.sync_messages.specs.schema.Views.{schema_view};
 ghost use Rattle.sync_messages.specs.stamped_store.Store.{Store, abstract_store};

@@ -2,5 +2,16 @@ pub mod CanonicalTexts
 pub mod FaultLemmas
 pub mod MessageLemmas
 pub mod Readings
+mod Steps
+mod OneOutcome
+mod Exact
+mod Parts
+mod FormsRead
+mod UpdatesRead
+mod Ranges
+mod SummariesRead
+mod TextsRead
+mod MessagesRead
+mod SummaryStated
 -- Lemmas of lower crates, re-exported.
 pub use Rattle.validator.proofs.of_grammar_core

@@ -25,7 +25,7 @@ EntitiesHaveOneReading = (s : StatedSchema) (uid : EntityUid) (text : List ℕ)
 abbrev pub PoliciesHaveNoOtherName : Type 0
 PoliciesHaveNoOtherName = (s : StatedSchema) (text : List ℕ) → RefusesPolicy s text OtherName → ⊥
 
--- The canonical text of an entity that was read from bytes is read as that entity, under its uid.
+-- The canonical text of an entity that was parsed from bytes is parsed as that entity, under its uid.
 abbrev pub CanonicalTextsAreRead : Type 0
 CanonicalTextsAreRead = (s : StatedSchema) (bytes : List ℕ) (e : Entity) → IsWellFormed s → IsReadFrom s bytes e
     → ReadsEntity s e.uid (canonical_text e) e

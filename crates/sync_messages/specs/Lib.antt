@@ -1,4 +1,10 @@
 pub mod Laws
+pub mod MessageForms
+pub mod StatedUpdates
+pub mod StatedSummaries
+pub mod StatedTexts
+pub mod StatedMessages
+pub mod AsStated
 pub mod Messages
 pub mod Texts
 -- Specifications of lower crates, re-exported.

@@ -15,7 +15,7 @@ pub fn stored_texts_have_one_reading()
     policies_have_one_outcome();
 }
 
-/// Proves the round trip of entities: the canonical text of an entity that was read from bytes is read as that
+/// Proves the round trip of entities: the canonical text of an entity that was parsed from bytes is parsed as that
 /// entity, under the same schema and its uid. No-op.
 pub fn canonical_texts_are_read()
     ensures { CanonicalTextsAreRead }

@@ -3,17 +3,22 @@
 //! The bodies of messages and the commands of a site are checked by this alone.
 #![tactic(auto)]
 
+mod as_stated;
 mod laws;
 mod messages;
 mod texts;
 
+pub use as_stated::{
+    entity_texts_are_read_as_stated, messages_are_read_as_stated, summaries_are_read_as_stated,
+    updates_are_read_as_stated,
+};
 pub use laws::{canonical_texts_are_read, stored_texts_have_one_reading};
 pub use message_format::{
     MessageFault, StampedStore, Summary, Update, messages_have_one_outcome, messages_read_back,
-    names_read_back, read_message, read_summary, summaries_read_back, updates_have_one_store,
+    names_read_back, read_message, summaries_read_back, updates_have_one_store,
     valid_messages_are_read, write_delta, write_state, write_summary,
 };
-pub use messages::read_updates;
+pub use messages::{read_summary, read_updates};
 pub use texts::SchemaTexts;
 pub use validator::{
     Entity, Schema, TypeFault, action_types_are_told, bytes_have_one_outcome, check,

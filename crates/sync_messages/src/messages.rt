@@ -1,12 +1,17 @@
-//! Reads the messages of a schema.
-ghost use Rattle.std.specs.Prelude.{IfOk, IfErr};
+//! Reads the messages of a schema, and the summaries of its stores.
+ghost use Rattle.std.specs.Prelude.{IfOk, IfErr, MatchResult};
+ghost use Rattle.json_words.specs.ReadsAs.{ReadsAs};
 ghost use Rattle.plain.specs.Refused.{OrNoMemory};
 ghost use Rattle.message_format.specs.declared.fault.MessageFault.TheVariants as MessageFault;
 ghost use Rattle.validator.specs.entities.schema.Views.{schema_view};
+ghost use Rattle.message_format.specs.Summaries.{summary_stated};
 ghost use Rattle.sync_messages.specs.Messages.{IsMessageOf, IsMessageFaultOf};
+ghost use Rattle.sync_messages.specs.StatedMessages.{StatesMessage, RefusesMessage};
+ghost use Rattle.sync_messages.specs.StatedSummaries.{StatesSummary, RefusesSummary};
 
+use crate::as_stated::{messages_are_read_as_stated, summaries_are_read_as_stated};
 use crate::texts::SchemaTexts;
-use message_format::{MessageFault, Policy, Update, read_message};
+use message_format::{MessageFault, Policy, Summary, Update, read_message};
 use std::alloc::Global;
 use validator::{Entity, Schema};
 
@@ -24,10 +29,28 @@ pub fn read_updates(
     ensures read { IfOk result (λ us. IsMessageOf (schema_view schema.now) bytes.now us.items) }
     ensures refused { IfErr result
         (OrNoMemory MessageFault.NoMemory (IsMessageFaultOf (schema_view schema.now) bytes.now)) }
+    ensures stated { MatchResult result (λ us. StatesMessage (schema_view schema.now) bytes.now us.items)
+        (OrNoMemory MessageFault.NoMemory (RefusesMessage (schema_view schema.now) bytes.now)) }
 {
+    messages_are_read_as_stated();
     let texts = SchemaTexts::under(schema);
     match read_message(alloc, schema.label(), &texts, bytes) {
         Ok(updates) => Ok(updates),
         Err(fault) => Err(fault),
     }
+}
+
+/// Reads a summary of the schema with this label. In version 1, each site's number is parsed as the site whose name is
+/// its five digits.
+///
+/// # Errors
+///
+/// As [`message_format::read_summary`]: the first error of the summary, or `NoMemory` (1).
+pub fn read_summary(alloc: Global, label: &str, bytes: &[u8]) -> Result<Summary, MessageFault>
+    ensures read { ReadsAs MessageFault.NoMemory (λ m. m) result (summary_stated label.now bytes.now) }
+    ensures stated { MatchResult result (StatesSummary label.now bytes.now)
+        (OrNoMemory MessageFault.NoMemory (RefusesSummary label.now bytes.now)) }
+{
+    summaries_are_read_as_stated();
+    message_format::read_summary(alloc, label, bytes)
 }

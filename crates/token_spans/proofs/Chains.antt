@@ -10,12 +10,12 @@ use Rattle.grammar_trees.specs.grammar_tokens.Lang.{Lang, many}
 use Rattle.grammar_trees.specs.declared.tree.ExprTree.{ExprTree, out-ExprTree}
 use Rattle.grammar_core.specs.declared.expr.Expr.{Expr}
 use Rattle.grammar_policies.specs.grammar_expressions.Expressions.{any_expr}
-use Rattle.written_forms.specs.TokenCounts.{tree_count, each_count}
-use Rattle.expression_paths.specs.Places.{operands_of}
+use Rattle.token_spans.specs.TokenCounts.{tree_count, each_count}
+use Rattle.typing.specs.Places.{operands_of}
 use Rattle.policy_grammar.specs.grammar_desugaring.Core.{core_of}
-use Rattle.written_forms.specs.inner.Nodes as part
-use Rattle.written_forms.specs.Forms.{Form, kept, whole, left_at, chain_at, operand, operand_step}
-use Rattle.written_forms.proofs.ExpressionCounts.{expr_fits}
+use Rattle.token_spans.specs.inner.Nodes as part
+use Rattle.token_spans.specs.Forms.{Form, kept, whole, left_at, chain_at, operand, operand_step}
+use Rattle.token_spans.proofs.ExpressionCounts.{expr_fits}
 use Rattle.token_spans.proofs.Lists.{ends_here, ends_later, get_middle, snoc, many_snoc, many_count, past, in_two}
 use Rattle.token_spans.proofs.Standing.{Chained, Stands, whole_stands, Next}
 

@@ -7,9 +7,9 @@ use Rattle.grammar_trees.specs.declared.tree.ExprTree.{ExprTree, out-ExprTree}
 use Rattle.grammar_trees.specs.declared.tree.ExprTree.TheOpen.{ExprTree-F as tree}
 use Rattle.grammar_core.specs.declared.expr.Expr.{Expr}
 use Rattle.grammar_policies.specs.grammar_expressions.Expressions.{any_expr}
-use Rattle.expression_paths.specs.Places.{operands_of}
+use Rattle.typing.specs.Places.{operands_of}
 use Rattle.policy_grammar.specs.grammar_desugaring.Core.{core_of}
-use Rattle.written_forms.specs.Forms.{Form, whole, operand, operand_step}
+use Rattle.token_spans.specs.Forms.{Form, whole, operand, operand_step}
 use Rattle.token_spans.proofs.Lists.{Ends, in_none}
 use Rattle.token_spans.proofs.Standing.{whole_stands, Next}
 

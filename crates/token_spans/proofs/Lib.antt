@@ -8,10 +8,27 @@
 --   Walking               the way down a path
 --   Owning                a form's own tokens
 --   SomeTokens            an expression has a token
---   ScopeCounts, Starting, Policies
+--   ScopeCounts, Starting, PolicyNodes
 --                         a policy's parts count their tokens; its effect is found; its nodes stand in its tokens
 --   Naming, OwnNames, NamePlaces
 --                         the same of the name that a node has itself
+-- And of written forms:
+--   Counts             the count of each form of tree
+--   Dropping           tokens skipped in several steps
+--   Opening            a form seen by its tree
+--   Peeling            parentheses round a form
+--   Items              an item of a list by its place
+--   FormWalking        a step of a path
+--   LanguageCounts     how many tokens derive a value, one rule a form of language
+--   ExpressionCounts   an expression's tree counts its tokens, one rule a production
+pub mod Counts
+pub mod Dropping
+pub mod Opening
+pub mod Peeling
+pub mod Items
+pub mod FormWalking
+pub mod LanguageCounts
+pub mod ExpressionCounts
 pub mod Unread
 mod Languages
 mod Lifting
@@ -29,7 +46,7 @@ mod Owning
 mod SomeTokens
 mod ScopeCounts
 mod Starting
-mod Policies
+mod PolicyNodes
 mod Naming
 mod OwnNames
 mod NamePlaces

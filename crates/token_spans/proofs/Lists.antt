@@ -5,7 +5,7 @@ use Rattle.std.proofs.lemmas.List.{append-nil, drop-drop}
 use Rattle.std.proofs.Math.Seq.{drop-append_seam}
 use Rattle.grammar_trees.specs.grammar_tokens.declared.token.Token.{Token}
 use Rattle.grammar_trees.specs.grammar_tokens.Lang.{Lang, many}
-use Rattle.written_forms.specs.TokenCounts.{each_count}
+use Rattle.token_spans.specs.TokenCounts.{each_count}
 
 -- `Ends us ts`: the tokens ts end with us.
 abbrev pub Ends : List Token → List Token → Type 0

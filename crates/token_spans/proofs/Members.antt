@@ -19,13 +19,13 @@ use Rattle.grammar_core.specs.declared.expr.Expr.{Expr}
 use Rattle.grammar_core.specs.declared.expr.Expr.TheVariants as core
 use Rattle.grammar_policies.specs.grammar_expressions.Expressions as g
 use Rattle.grammar_policies.specs.grammar_expressions.Expressions.{expr, any_expr, is_positive, accessed}
-use Rattle.written_forms.specs.TokenCounts.{tree_count, access_tree_count, total}
-use Rattle.expression_paths.specs.Places.{operands_of, operands_in}
+use Rattle.token_spans.specs.TokenCounts.{tree_count, access_tree_count, total}
+use Rattle.typing.specs.Places.{operands_of, operands_in}
 use Rattle.policy_grammar.specs.grammar_desugaring.Names.{method_of}
 use Rattle.policy_grammar.specs.grammar_desugaring.Core.{core_of, method_called}
-use Rattle.written_forms.specs.Forms.{Form, whole, left_at, member_at, access_at, argument_at, operand, operand_step}
-use Rattle.written_forms.proofs.LanguageCounts.{many_fits, or_fits}
-use Rattle.written_forms.proofs.ExpressionCounts.{expr_fits, dotted_fits, indexed_fits}
+use Rattle.token_spans.specs.Forms.{Form, whole, left_at, member_at, access_at, argument_at, operand, operand_step}
+use Rattle.token_spans.proofs.LanguageCounts.{many_fits, or_fits}
+use Rattle.token_spans.proofs.ExpressionCounts.{expr_fits, dotted_fits, indexed_fits}
 use Rattle.token_spans.proofs.Languages.{Shows, both_shows, past_shows, token_shows, end_shows, nothing_shows, or_shows, gate_shows}
 use Rattle.token_spans.proofs.Lifting.{any_inner, primary_up}
 use Rattle.token_spans.proofs.Lists.{ends_here, ends_later, get_middle, past, in_none, in_one, in_two, some_same, none_some}

@@ -33,8 +33,8 @@ use Rattle.grammar_policies.specs.declared.tree.ActionTree.TheVariants as action
 use Rattle.grammar_policies.specs.declared.tree.PolicyTree.{PolicyTree}
 use Rattle.grammar_policies.specs.grammar_expressions.Expressions.{nesting_limit}
 use Rattle.grammar_policies.specs.Grammar as p
-use Rattle.written_forms.specs.TokenCounts.{path_count, uid_count, each_count}
-use Rattle.expression_paths.specs.Places.{operands_of, operands_in, follow, and_then}
+use Rattle.token_spans.specs.TokenCounts.{path_count, uid_count, each_count}
+use Rattle.typing.specs.Places.{operands_of, operands_in, follow, and_then}
 use Rattle.policy_grammar.specs.declared.policy.EntityScope.{EntityScope}
 use Rattle.policy_grammar.specs.declared.policy.EntityScope.TheVariants as entities
 use Rattle.policy_grammar.specs.declared.policy.ActionScope.{ActionScope}
@@ -45,18 +45,18 @@ use Rattle.policy_grammar.specs.grammar_desugaring.Meaning.{uid_of}
 use Rattle.policy_grammar.specs.Conditions.{condition_of, joined, asked_by}
 use Rattle.policy_grammar.specs.CoreOf.{AreUidsOf, IsEntityScopeOf, IsActionScopeOf, IsCoreOf}
 use Rattle.policy_grammar.specs.Whole.{expression_of, falsehood, entity_literal, entity_part, action_part}
-use Rattle.written_forms.specs.Places.{to, part_count, action_count, condition_count}
-use Rattle.written_forms.specs.Places.{Place, in_entity, in_action}
-use Rattle.written_forms.specs.Places.{at_conditions, by_word, unless_at, from_resource, from_action, from_effect}
-use Rattle.written_forms.specs.Names.{named as names_at, uid_tokens}
-use Rattle.written_forms.proofs.LanguageCounts.{path_fits, uid_fits}
+use Rattle.token_spans.specs.Places.{to, part_count, action_count, condition_count}
+use Rattle.token_spans.specs.Places.{Place, in_entity, in_action}
+use Rattle.token_spans.specs.Places.{at_conditions, by_word, unless_at, from_resource, from_action, from_effect}
+use Rattle.token_spans.specs.Names.{named as names_at, uid_tokens}
+use Rattle.token_spans.proofs.LanguageCounts.{path_fits, uid_fits}
 use Rattle.token_spans.specs.NameWritten.{OwnName, entity, tested_type, name_of, IsNameWriting, as_uid, as_path, NameStandsIn}
 use Rattle.token_spans.proofs.Languages.{Shows, both_shows, past_shows, end_shows, nothing_shows, or_shows}
 use Rattle.token_spans.proofs.Lists.{Ends, ends_here, ends_later, past, some_same, none_some, swapped}
 use Rattle.token_spans.proofs.Rows.{row_placed, mapped}
 use Rattle.token_spans.proofs.Walking.{further}
 use Rattle.token_spans.proofs.ScopeCounts.{part_fits, action_fits}
-use Rattle.token_spans.proofs.Policies.{Laid, policy_tokens, place_is, braced, inside_is, condition_length, follow_one, follow_left, follow_right, follow_off, no_operand}
+use Rattle.token_spans.proofs.PolicyNodes.{Laid, policy_tokens, place_is, braced, inside_is, condition_length, follow_one, follow_left, follow_right, follow_off, no_operand}
 use Rattle.token_spans.proofs.OwnNames.{named_in, path_tokens-is, uid_tokens-is, name_has}
 
 -- The name at a place is `mine`, with which some end of the tokens ts begins.

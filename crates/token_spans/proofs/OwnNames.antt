@@ -14,12 +14,12 @@ use Rattle.grammar_core.specs.declared.expr.Expr.{Expr}
 use Rattle.grammar_core.specs.declared.expr.Expr.TheViews.{out-Expr}
 use Rattle.grammar_core.specs.declared.expr.Expr.TheVariants as core
 use Rattle.grammar_policies.specs.grammar_expressions.Expressions.{any_expr}
-use Rattle.written_forms.specs.TokenCounts.{tree_count, path_count, uid_count}
+use Rattle.token_spans.specs.TokenCounts.{tree_count, path_count, uid_count}
 use Rattle.policy_grammar.specs.grammar_desugaring.Core.{core_of}
-use Rattle.expression_paths.specs.Places.{follow}
-use Rattle.written_forms.specs.Forms.{Form, whole, unwrapped, up_to}
-use Rattle.written_forms.specs.Names.{own_name, name_step, name_in, tested, path_tokens, uid_tokens, in_test}
-use Rattle.written_forms.proofs.LanguageCounts.{path_fits, uid_fits}
+use Rattle.typing.specs.Places.{follow}
+use Rattle.token_spans.specs.Forms.{Form, whole, unwrapped, up_to}
+use Rattle.token_spans.specs.Names.{own_name, name_step, name_in, tested, path_tokens, uid_tokens, in_test}
+use Rattle.token_spans.proofs.LanguageCounts.{path_fits, uid_fits}
 use Rattle.token_spans.specs.NameWritten.{OwnName, name_of, IsNameWriting, as_uid, as_path}
 use Rattle.token_spans.proofs.Lifting.{sum_up}
 use Rattle.token_spans.proofs.Lists.{Ends, ends_here, past, some_same, none_some}

@@ -16,13 +16,13 @@ use Rattle.grammar_core.specs.declared.operator.Unary.TheVariants.{Not}
 use Rattle.grammar_core.specs.declared.operator.Binary.TheVariants.{In, Multiply}
 use Rattle.grammar_policies.specs.grammar_expressions.Expressions as g
 use Rattle.grammar_policies.specs.grammar_expressions.Expressions.{any_expr, joined}
-use Rattle.written_forms.specs.TokenCounts.{tree_count, term_count, access_tree_count, path_count, each_count, total}
-use Rattle.written_forms.proofs.Counts.{count-Member, count-Product, count-Sum, count-And, count-Or}
+use Rattle.token_spans.specs.TokenCounts.{tree_count, term_count, access_tree_count, path_count, each_count, total}
+use Rattle.token_spans.proofs.Counts.{count-Member, count-Product, count-Sum, count-And, count-Or}
 use Rattle.policy_grammar.specs.grammar_desugaring.Core.{core_of, accessed, added, in_access, in_term}
 use Rattle.policy_grammar.proofs.of_grammar_desugaring.Cores as cores
-use Rattle.written_forms.specs.inner.Nodes as part
-use Rattle.written_forms.specs.Forms.{Form, kept, up_to, own_tokens, behind_step, behind_test}
-use Rattle.written_forms.proofs.LanguageCounts.{path_fits}
+use Rattle.token_spans.specs.inner.Nodes as part
+use Rattle.token_spans.specs.Forms.{Form, kept, up_to, own_tokens, behind_step, behind_test}
+use Rattle.token_spans.proofs.LanguageCounts.{path_fits}
 use Rattle.token_spans.specs.Written.{IsWritingOf, itself, negated, tested}
 use Rattle.token_spans.proofs.Lifting.{relation_up, sum_up, product_up, unary_up, member_up, primary_up, and_up, or_up}
 use Rattle.token_spans.proofs.Lists.{many_more, many_count, past}

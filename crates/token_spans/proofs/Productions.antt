@@ -19,10 +19,10 @@ use Rattle.grammar_core.specs.declared.expr.Expr.TheVariants as core
 use Rattle.grammar_core.specs.declared.operator.Binary.TheVariants.{Multiply}
 use Rattle.grammar_policies.specs.grammar_expressions.Expressions as g
 use Rattle.grammar_policies.specs.grammar_expressions.Expressions.{expr, any_expr, is_positive, joined, is_in}
-use Rattle.expression_paths.specs.Places.{operands_of, operands_in}
+use Rattle.typing.specs.Places.{operands_of, operands_in}
 use Rattle.policy_grammar.specs.grammar_desugaring.Core.{core_of, accessed, added, in_access, in_term}
 use Rattle.policy_grammar.proofs.of_grammar_desugaring.Cores as cores
-use Rattle.written_forms.specs.Forms.{Form, whole, operand_step}
+use Rattle.token_spans.specs.Forms.{Form, whole, operand_step}
 use Rattle.token_spans.proofs.Languages.{Shows, both_shows, past_shows, end_shows, nothing_shows, or_shows, gate_shows}
 use Rattle.token_spans.proofs.Lifting.{any_inner, and_up, relation_up, sum_up, product_up, unary_up, not_up, minus_up}
 use Rattle.token_spans.proofs.Lists.{snoc, Cut, many_snoc}

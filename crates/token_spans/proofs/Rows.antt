@@ -18,12 +18,12 @@ use Rattle.grammar_core.specs.declared.expr.Expr.TheVariants as core
 use Rattle.grammar_core.specs.declared.operator.UnaryCall.{UnaryCall}
 use Rattle.grammar_policies.specs.grammar_expressions.Expressions as g
 use Rattle.grammar_policies.specs.grammar_expressions.Expressions.{expr, any_expr, is_positive}
-use Rattle.written_forms.specs.TokenCounts.{tree_count, path_count, entry_count, each_count}
-use Rattle.expression_paths.specs.Places.{operands_of, operands_in}
+use Rattle.token_spans.specs.TokenCounts.{tree_count, path_count, entry_count, each_count}
+use Rattle.typing.specs.Places.{operands_of, operands_in}
 use Rattle.policy_grammar.specs.grammar_desugaring.Core.{core_of, called, function, field, in_entry}
 use Rattle.policy_grammar.proofs.of_grammar_desugaring.Cores as cores
-use Rattle.written_forms.specs.Forms.{Form, whole, operand, operand_step, row_at, entry_at}
-use Rattle.written_forms.proofs.LanguageCounts.{path_fits}
+use Rattle.token_spans.specs.Forms.{Form, whole, operand, operand_step, row_at, entry_at}
+use Rattle.token_spans.proofs.LanguageCounts.{path_fits}
 use Rattle.token_spans.proofs.Languages.{Shows, both_shows, past_shows, end_shows, nothing_shows, or_shows}
 use Rattle.token_spans.proofs.Lifting.{any_inner}
 use Rattle.token_spans.proofs.Lists.{Ends, ends_here, ends_later, past, in_none, in_one, some_same, none_some}

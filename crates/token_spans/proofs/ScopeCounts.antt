@@ -8,11 +8,11 @@ use Rattle.grammar_policies.specs.declared.tree.PartTree.TheVariants as part
 use Rattle.grammar_policies.specs.declared.tree.ActionTree.{ActionTree}
 use Rattle.grammar_policies.specs.declared.tree.ActionTree.TheVariants as action
 use Rattle.grammar_policies.specs.Grammar as p
-use Rattle.written_forms.specs.TokenCounts.{path_count, uid_count, lone_count}
-use Rattle.written_forms.proofs.Dropping.{length-mapped}
-use Rattle.written_forms.specs.Places.{part_count, action_count}
-use Rattle.written_forms.proofs.LanguageCounts.{Fits, By, nothing_fits, both_fits, past_fits, giving_fits, or_fits, optional_fits, path_fits, uid_fits}
-use Rattle.written_forms.proofs.ExpressionCounts.{Row, list_fits}
+use Rattle.token_spans.specs.TokenCounts.{path_count, uid_count, lone_count}
+use Rattle.token_spans.proofs.Dropping.{length-mapped}
+use Rattle.token_spans.specs.Places.{part_count, action_count}
+use Rattle.token_spans.proofs.LanguageCounts.{Fits, By, nothing_fits, both_fits, past_fits, giving_fits, or_fits, optional_fits, path_fits, uid_fits}
+use Rattle.token_spans.proofs.ExpressionCounts.{Row, list_fits}
 
 -- behind the variable's word
 abbrev Behind : PartTree → ℕ → Type 0

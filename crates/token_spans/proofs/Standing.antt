@@ -21,8 +21,8 @@ use Rattle.grammar_policies.specs.grammar_expressions.Expressions as g
 use Rattle.grammar_policies.specs.grammar_expressions.Expressions.{expr, any_expr, is_positive}
 use Rattle.policy_grammar.specs.grammar_desugaring.Core.{core_of, accessed, added, in_access, in_term}
 use Rattle.policy_grammar.specs.grammar_desugaring.Meaning.{path_name}
-use Rattle.written_forms.specs.inner.Nodes as part
-use Rattle.written_forms.specs.Forms.{Form, kept, is_negated, operand}
+use Rattle.token_spans.specs.inner.Nodes as part
+use Rattle.token_spans.specs.Forms.{Form, kept, is_negated, operand}
 use Rattle.token_spans.proofs.Lists.{Ends}
 
 -- Of a chain's form, the node with the pieces up to `last`: the tokens of its head, of the pieces before the last one, and

@@ -9,7 +9,7 @@ use Rattle.grammar_trees.specs.grammar_tokens.declared.token.Token.{Token}
 use Rattle.grammar_trees.specs.grammar_tokens.declared.token.TokenKind.{TokenKind}
 use Rattle.grammar_trees.specs.grammar_tokens.Lexing.{IsToken, IsLexed, Lex, finish, gap, token}
 use Rattle.grammar_policies.proofs.of_grammar_tokens.FirstByte.{not_empty}
-use Rattle.written_forms.specs.Places.{from_byte}
+use Rattle.token_spans.specs.Places.{from_byte}
 
 -- the tokens start at n or later, each behind the ones before it
 abbrev Later : ℕ → List Token → Type 0

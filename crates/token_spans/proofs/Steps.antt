@@ -20,16 +20,16 @@ use Rattle.grammar_core.specs.declared.operator.Unary.TheVariants.{Not, Is}
 use Rattle.grammar_core.specs.declared.operator.Binary.TheVariants.{In}
 use Rattle.grammar_policies.specs.grammar_expressions.Expressions as g
 use Rattle.grammar_policies.specs.grammar_expressions.Expressions.{expr, any_expr, is_positive}
-use Rattle.written_forms.specs.TokenCounts.{tree_count, path_count}
-use Rattle.expression_paths.specs.Places.{operands_of, operands_in}
+use Rattle.token_spans.specs.TokenCounts.{tree_count, path_count}
+use Rattle.typing.specs.Places.{operands_of, operands_in}
 use Rattle.policy_grammar.specs.grammar_desugaring.Core.{core_of, negated, compared}
 use Rattle.policy_grammar.specs.grammar_desugaring.Meaning.{path_name}
 use Rattle.policy_grammar.proofs.of_grammar_desugaring.Cores as cores
-use Rattle.written_forms.specs.inner.Nodes.{Node}
-use Rattle.written_forms.specs.inner.Nodes as part
-use Rattle.written_forms.specs.Forms.{Form, whole, part_of, operand, operand_step, is_negated, is_outer, both, compared_at, in_test_at}
-use Rattle.written_forms.proofs.LanguageCounts.{path_fits}
-use Rattle.written_forms.proofs.Opening.{behind_minus-other}
+use Rattle.token_spans.specs.inner.Nodes.{Node}
+use Rattle.token_spans.specs.inner.Nodes as part
+use Rattle.token_spans.specs.Forms.{Form, whole, part_of, operand, operand_step, is_negated, is_outer, both, compared_at, in_test_at}
+use Rattle.token_spans.proofs.LanguageCounts.{path_fits}
+use Rattle.token_spans.proofs.Opening.{behind_minus-other}
 use Rattle.token_spans.proofs.Lifting.{sum_up}
 use Rattle.token_spans.proofs.Lists.{Ends, ends_here, ends_later, past, in_one, in_two, in_three}
 use Rattle.token_spans.proofs.Chains.{any_count}

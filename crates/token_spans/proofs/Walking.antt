@@ -9,12 +9,12 @@ use Rattle.grammar_trees.specs.declared.tree.ExprTree.TheVariants as t
 use Rattle.grammar_trees.specs.declared.tree.ExprTree.TheOpen.{ExprTree-F as tree}
 use Rattle.grammar_core.specs.declared.expr.Expr.{Expr}
 use Rattle.grammar_policies.specs.grammar_expressions.Expressions.{any_expr}
-use Rattle.expression_paths.specs.Places.{operands_of, follow, and_then}
+use Rattle.typing.specs.Places.{operands_of, follow, and_then}
 use Rattle.policy_grammar.specs.grammar_desugaring.Core.{core_of}
 use Rattle.policy_grammar.proofs.of_grammar_desugaring.Cores as cores
-use Rattle.written_forms.specs.inner.Nodes as part
-use Rattle.written_forms.specs.Forms.{Form, depth, peeled, inside, unwrapped, node_at}
-use Rattle.written_forms.proofs.Peeling.{depth-other, depth-Parentheses, formed}
+use Rattle.token_spans.specs.inner.Nodes as part
+use Rattle.token_spans.specs.Forms.{Form, depth, peeled, inside, unwrapped, node_at}
+use Rattle.token_spans.proofs.Peeling.{depth-other, depth-Parentheses, formed}
 use Rattle.token_spans.proofs.Lists.{Ends, ends_here, ends_later, some_same, none_some}
 use Rattle.token_spans.proofs.Chains.{chain_next}
 use Rattle.token_spans.proofs.Members.{member_next}

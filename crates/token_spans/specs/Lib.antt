@@ -1,3 +1,9 @@
 pub mod Spans
 pub mod Written
 pub mod NameWritten
+pub mod TokenCounts
+pub mod Counted
+pub mod Forms
+pub mod Names
+pub mod Places
+pub mod inner

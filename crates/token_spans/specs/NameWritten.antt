@@ -1,4 +1,4 @@
--- Defines what the tokens derive that the name of a core node is written with.
+-- Defines what the tokens of a core node's name derive.
 -- Source: Cedar reference guide 4.0, "Grammar specification for Cedar policy syntax" (Path, Uid).
 -- Rules of this product: a node's own name is the entity of a literal, or the type of an `is`.
 use Rattle.std.specs.Prelude.{◌≡◌, ℕ, List, ◌∷◌, ◌++◌, Option, Some, None}
@@ -22,8 +22,8 @@ use Rattle.policy_grammar.specs.declared.policy.Policy.{Policy}
 use Rattle.policy_grammar.specs.grammar_desugaring.Meaning.{path_name, uid_of}
 use Rattle.policy_grammar.specs.CoreOf.{IsCoreOf}
 use Rattle.policy_grammar.specs.Whole.{expression_of}
-use Rattle.expression_paths.specs.Places.{follow}
-use Rattle.written_forms.specs.Names.{named_at}
+use Rattle.typing.specs.Places.{follow}
+use Rattle.token_spans.specs.Names.{named_at}
 
 -- The name that a core node has itself.
 pub data OwnName : Type 0 where

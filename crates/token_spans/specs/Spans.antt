@@ -12,8 +12,8 @@ use Rattle.grammar_policies.specs.grammar_expressions.Expressions.{nesting_limit
 use Rattle.policy_grammar.specs.declared.fault.ReadFault.{ReadFault}
 use Rattle.policy_grammar.specs.Texts.{Derives, IsUnread, most_policy_bytes}
 use Rattle.token_spans.specs.declared.spans.Span.{Span}
-use Rattle.written_forms.specs.Places.{written_at}
-use Rattle.written_forms.specs.Names.{named_at}
+use Rattle.token_spans.specs.Places.{written_at}
+use Rattle.token_spans.specs.Names.{named_at}
 
 -- `between first last` is the span from the one token's start to the other one's end.
 abbrev pub between : Option Token → Option Token → Option Span
@@ -54,7 +54,8 @@ abbrev pub IsNoPolicy : List ℕ → Type 0
 IsNoPolicy text =
     (why : ReadFault) × IsUnread (grammar.policy nesting_limit) (at_any grammar.policy) most_policy_bytes text why
 
--- `IsSpanBy way text found` holds if that holds, or if `text` is not a policy and `found` is None.
+-- `IsSpanBy way text found` holds if `IsSpanInPolicy way text found` does, or if `text` is not a policy and `found` is
+-- `None`.
 abbrev pub IsSpanBy : Written → List ℕ → Option Span → Type 0
 IsSpanBy way text found = IsSpanInPolicy way text found ⊎ (IsNoPolicy text × (found ≡ None))
 

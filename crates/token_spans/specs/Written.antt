@@ -1,4 +1,4 @@
--- Defines what the tokens derive that a core node is written with.
+-- Defines what the tokens of a core node derive.
 -- Source: Cedar reference guide 4.0, "Grammar specification for Cedar policy syntax" and "Operators and functions".
 -- Rules of this product: desugaring makes a core node of the least expression that is written for it; where it makes
 -- two, as `!(a <= b)` of `a > b`, the inner one has no expression of its own.
@@ -25,8 +25,8 @@ use Rattle.policy_grammar.specs.grammar_desugaring.Core.{core_of}
 use Rattle.policy_grammar.specs.Conditions.{condition_of}
 use Rattle.policy_grammar.specs.CoreOf.{IsCoreOf}
 use Rattle.policy_grammar.specs.Whole.{expression_of}
-use Rattle.expression_paths.specs.Places.{follow}
-use Rattle.written_forms.specs.Places.{written_at}
+use Rattle.typing.specs.Places.{follow}
+use Rattle.token_spans.specs.Places.{written_at}
 
 -- `IsWritingOf text x e` holds if x is the least expression that the core node e is written with.
 pub data IsWritingOf (text : List ℕ) (x : ExprTree) (e : Expr) : Type 0 where
@@ -47,7 +47,7 @@ pub data IsPlacedIn (text : List ℕ) (tree : PolicyTree) (path : List ℕ) (e :
   -- in a condition: the least expression
   of_expression : (x : ExprTree) → any_expr mine x → IsWritingOf text x e
       → IsPlacedIn text tree path e before mine behind
-  -- the negation that `unless` asks: the condition
+  -- the negation of an `unless`: the whole condition
   of_unless : (c : Condition) → condition nesting_limit mine c → c.word ≡ Unless → e ≡ condition_of text c
       → IsPlacedIn text tree path e before mine behind
   -- in the scope: one of its three parts

@@ -7,11 +7,11 @@ ghost use Rattle.grammar_policies.specs.grammar_tokens.Lexing.{IsLexed, IsBadAt}
 ghost use Rattle.policy_grammar.specs.Texts.{Derives, most_policy_bytes};
 ghost use Rattle.token_spans.specs.Spans as spec;
 
+use crate::policies::{named_at, written_at};
 use grammar_policies::{LexFault, PolicyTree, Token, tokens};
 use plain::NoMemory;
 use policy_grammar::{ReadFault, policy_tree};
 use std::alloc::Global;
-use written_forms::{named_at, written_at};
 
 /// A span of a text, in bytes.
 #[derive(Clone, Copy, PartialEq, Eq)]

@@ -84,7 +84,7 @@ each_cmp [] ys = Equal
 each_cmp (f ∷ fs) [] = Equal
 each_cmp (f ∷ fs) (y ∷ ys) = ordering_then (f y) (each_cmp fs ys)
 
--- `layers_cmp x y` compares an expression, whose operands compare so, with another.
+-- `layers_cmp x y` compares the expression `x`, given how its operands compare with others, with `y`.
 abbrev pub layers_cmp : Expr-F (Expr → Ordering) → Expr-F Expr → Ordering
 layers_cmp (Expr-F.Literal l) (Expr-F.Literal m) = literal_cmp l m
 layers_cmp (Expr-F.Variable x) (Expr-F.Variable y) = nat_cmp (variable_rank x) (variable_rank y)

@@ -118,7 +118,7 @@ abbrev pub joined : List (List Token) → List Token
 joined [] = []
 joined (ts ∷ tss) = ts ++ joined tss
 
--- `tokens_step l` are the tokens of a node over expressions with these tokens.
+-- `tokens_step l` are the tokens of the node `l`, given those of its operands.
 abbrev pub tokens_step : Expr-F (List Token) → List Token
 tokens_step l = head l ∷ joined (operands l)
 

@@ -40,7 +40,7 @@ leaf_view (leaf.Entity n) = entity_type n.now
 leaf_view leaf.Decimal = decimal_type
 leaf_view leaf.Ipaddr = ipaddr_type
 
--- `built_fields fs` are these fields, as a record type has them.
+-- `built_fields fs` is the list `fs` as the fields of a record type.
 abbrev pub built_fields : List (Bor (List ℕ) × types.StaticType × Bool) → FieldTypes
 built_fields [] = no_field_types
 built_fields (f ∷ fs) = field_type f.0.now f.1 f.2 (built_fields fs)
@@ -70,7 +70,7 @@ abbrev pub held_in : List (Bor (List ℕ) × Holding × Bool) → List ℕ → B
 held_in [] k = false
 held_in (f ∷ fs) k = if bytes_eq k f.0.now then f.1.is_held else held_in fs k
 
--- `holding_step t` says what is shared of a node over types of which this is known.
+-- `holding_step t` says whether the node `t` and its fields are shared, given this for its parts.
 abbrev pub holding_step : StaticType-F Holding → Holding
 holding_step (StaticType-F.Leaf l) = record { is_held = false; at = λ k. false }
 holding_step (StaticType-F.DeclaredSet t) = record { is_held = false; at = λ k. false }
@@ -78,7 +78,7 @@ holding_step (StaticType-F.DeclaredRecord fs) = record { is_held = false; at = �
 holding_step (StaticType-F.Set t) = record { is_held = true; at = λ k. false }
 holding_step (StaticType-F.Record fs) = record { is_held = true; at = held_in fs }
 
--- `holding t` says what of the type `t` is shared.
+-- `holding t` says whether the type `t` and its fields are shared.
 abbrev pub holding : StaticType → Holding
 holding = fold-StaticType Holding holding_step
 

@@ -79,7 +79,8 @@ pub(crate) fn type_of<'a>(
     }
 }
 
-/// Returns the judgement on an expression under further known capabilities, which are in front of what it gains.
+/// Returns the judgement on an expression under the capabilities `known` and then `learns`; the capabilities that it
+/// gains follow those of `learns`.
 #[cycle(judge)]
 #[inline(never)]
 fn type_behind<'a>(

@@ -1,4 +1,4 @@
-//! The parts of a type, layer by layer, built by an expression or declared.
+//! Types and their parts, one layer at a time, both those that expressions build and those that the schema declares.
 ghost use Rattle.std.specs.Prelude.{◌≡◌, suc, IsTrue, IfOk, IfErr};
 ghost use Rattle.schema_types.specs.CedarViews.{cedar_view, cedar_fields_view};
 ghost use Rattle.type_checker.specs.FromSchemas.{static, static_fields};
@@ -41,7 +41,7 @@ pub(crate) struct FieldPart<'r, 'a> {
     pub(crate) required: bool,
 }
 
-/// Two fields of one key with the same requirement.
+/// Two fields with one key, both required or both optional.
 #[derive(Clone, Copy)]
 pub(crate) struct FieldPair<'r, 's, 'a> {
     pub(crate) key: &'a str,
@@ -51,7 +51,7 @@ pub(crate) struct FieldPair<'r, 's, 'a> {
 }
 
 impl<'r, 'a> Part<'r, 'a> {
-    /// Returns the type by its kind.
+    /// Returns the kind of the type, with its parts.
     pub(crate) fn kind(self) -> TypeKind<'r, 'a>
         ensures { kind_view result ≡ part_view self.entry }
     {
@@ -61,7 +61,11 @@ impl<'r, 'a> Part<'r, 'a> {
         }
     }
 
-    /// Returns the type, owned.
+    /// Returns an owned copy of the type.
+    ///
+    /// # Errors
+    ///
+    /// - `NoMemory`: an allocation failed; never for a declared type.
     pub(crate) fn taken(self) -> Result<StaticType<'a>, NoMemory>
         ensures same { IfOk result (λ t. static_view t ≡ part_view self.entry) }
         ensures memory { IfErr result (λ _. IsTrue (part_held self.entry)) }

@@ -4,11 +4,17 @@ pub mod Ancestors
 pub mod Conforming
 pub mod Existing
 pub mod Fitting
+pub mod Going
 pub mod InOrder
 pub mod Inverting
+pub mod Items
 pub mod Judging
 pub mod KnownPairs
+pub mod Layers
+pub mod Lower
 pub mod Members
+pub mod OnePlace
+pub mod Placed
 pub mod Policies
 pub mod Sound
 pub mod Same

@@ -27,7 +27,7 @@ pub record Environment : Type 0 where
 pub data ExpressionFault : Type 0 where
   -- 42: another type is required
   unexpected : ExpressionFault
-  -- 43
+  -- 43: the operands have no common type
   no_common_type : ExpressionFault
   -- 44: not declared, or optional without a capability
   attribute_may_be_missing : ExpressionFault

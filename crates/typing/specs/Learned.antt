@@ -5,7 +5,7 @@ use Rattle.std.specs.Prelude.{ℕ, List, [], ◌∷◌, Contains}
 use Rattle.evaluator.specs.grammar_core.declared.expr.Expr.{Expr}
 use Rattle.typing.specs.Types.{StaticType, true_type, false_type, boolean_type}
 
--- A `Capability` is a capability: an expression and the name of a field that it has.
+-- A `Capability` is an expression and the name of a field that it has.
 abbrev pub Capability : Type 0
 Capability = Expr × List ℕ
 

@@ -1,3 +1,4 @@
+pub mod Blamed
 pub mod Conforming
 pub mod Environment
 pub mod Example
@@ -8,6 +9,8 @@ pub mod Learned
 pub mod Literals
 pub mod Membership
 pub mod Ordered
+pub mod PathLaws
+pub mod Places
 pub mod Rows
 pub mod Types
 pub mod Typing

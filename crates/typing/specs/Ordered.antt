@@ -20,7 +20,7 @@ abbrev mutual
   AreOrdered no_field_types = ⊤
   AreOrdered (field_type k t r ts) = IsOrdered t × IsBefore k ts × AreOrdered ts
 
--- `HasOrderedTypes env` holds if the types that the schema states are so.
+-- `HasOrderedTypes env` holds if the keys ascend in the types that the schema states.
 pub record HasOrderedTypes (env : Environment) : Type 0 where
   pub context : AreOrdered env.context
   pub attributes : (n : List ℕ) → AreOrdered (env.attributes n)

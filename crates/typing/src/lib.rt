@@ -1,10 +1,15 @@
 //! The rules of the strict validator: types, the values of a type, the typing relation with its errors, and the
-//! theorem that it is sound. The crate has only definitions and theorems.
+//! theorem that it is sound; paths in expressions, by the indexes of operands, and the expression that a typing error
+//! blames. Of functions that compute, the crate has only the walk along a path.
 #![tactic(auto)]
 
 mod laws;
+mod operands;
+mod path_laws;
 
 pub use laws::{
     expressions_have_one_judgement, known_pairs_are_a_set, parents_tell_ancestors,
     something_conforms, typed_expressions_are_sound, types_are_ordered,
 };
+pub use operands::{at_path, operand};
+pub use path_laws::{blames_are_placed, faults_blame_one_place};

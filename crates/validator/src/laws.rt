@@ -15,8 +15,8 @@ pub fn policies_have_one_outcome()
     expressions_have_one_judgement();
 }
 
-/// Proves that validation is sound: on a request and entities that conform, a policy that passes gives a boolean,
-/// `EntityDoesNotExist` or `ArithBoundsError`; one that is impossible never gives true. No-op.
+/// Proves that validation is sound: on a request and entities that conform, a policy that passes validation gives a
+/// boolean, `EntityDoesNotExist` or `ArithBoundsError`; one that is impossible never gives true. No-op.
 pub fn passing_policies_are_sound()
     ensures { PassingPoliciesAreSound }
 {

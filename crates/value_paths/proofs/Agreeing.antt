@@ -10,10 +10,10 @@ use Rattle.values.specs.Fields.{Field}
 use Rattle.values.specs.Sets.{set_list}
 use Rattle.schema_types.specs.Cedar as type
 use Rattle.schema_types.specs.Cedar.{Cedar, CedarFields}
-use Rattle.entity_values.specs.declared.fault.ValueFault.{ValueFault}
-use Rattle.entity_values.specs.declared.fault.ValueFault.TheVariants.{WrongType, Undeclared, Missing}
-use Rattle.entity_values.specs.Parts.{declared_at, element_of, fields_in}
-use Rattle.entity_values.specs.Typing.{all_there, inside, with_or, typed_value, typed_items, typed_members, record_in}
+use Rattle.entities.specs.declared.value_fault.ValueFault.{ValueFault}
+use Rattle.entities.specs.declared.value_fault.ValueFault.TheVariants.{WrongType, Undeclared, Missing}
+use Rattle.entities.specs.Parts.{declared_at, element_of, fields_in}
+use Rattle.entities.specs.Typing.{all_there, inside, with_or, typed_value, typed_items, typed_members, record_in}
 use Rattle.value_paths.specs.declared.steps.Step.{Step}
 use Rattle.value_paths.specs.declared.steps.Step.TheVariants.{Key, Index}
 use Rattle.value_paths.specs.Paths.{is_set, is_record, FirstAbsent, FaultAt, ItemFaultAt, MemberFaultAt, RecordFaultAt}

@@ -8,8 +8,8 @@ use Rattle.json_words.specs.ReadsAs.{◌>>=◌, or_fault, demand}
 use Rattle.json_words.specs.Each.{each, list_of}
 use Rattle.json_words.proofs.EachLemmas.{bind_ok}
 use Rattle.values.specs.declared.entity_uid.EntityUid.{EntityUid}
-use Rattle.entity_values.specs.entity_uids.Uids.{uid_in}
-use Rattle.entity_values.specs.Typing.{with_or}
+use Rattle.entities.specs.entity_uids.Uids.{uid_in}
+use Rattle.entities.specs.Typing.{with_or}
 use Rattle.entities.specs.declared.fault.EntityFault.{EntityFault}
 use Rattle.entities.specs.declared.fault.EntityFault.TheVariants.{BadShape}
 use Rattle.entities.specs.declared.stated.StatedEntity.{StatedEntity}

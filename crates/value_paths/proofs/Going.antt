@@ -4,8 +4,8 @@ use Rattle.std.proofs.lemmas.List.{drop_more, drop_all}
 use Rattle.serde_json.specs.View.{view, items_view, members_view}
 use Rattle.serde_json.specs.declared.value.Value.{Value}
 use Rattle.schema_types.specs.Cedar.{Cedar, CedarFields}
-use Rattle.entity_values.specs.Parts.{declared_at}
-use Rattle.entity_values.specs.Typing.{with_or}
+use Rattle.entities.specs.Parts.{declared_at}
+use Rattle.entities.specs.Typing.{with_or}
 use Rattle.value_paths.specs.declared.steps.Step.{Step}
 use Rattle.value_paths.specs.declared.steps.Step.TheVariants.{Key, Index}
 use Rattle.value_paths.specs.inner.FoundPaths.{or_else, under, value_path, item_path, member_path}

@@ -7,10 +7,10 @@ use Rattle.json_words.specs.ReadsAs.{◌>>=◌, or_fault, demand}
 use Rattle.values.specs.declared.entity_uid.EntityUid.{EntityUid}
 use Rattle.values.specs.Fields.{Field}
 use Rattle.schema_types.specs.Cedar.{Cedar}
-use Rattle.entity_values.specs.declared.fault.ValueFault.{ValueFault}
-use Rattle.entity_values.specs.declared.fault.ValueFault.TheVariants as value
-use Rattle.entity_values.specs.entity_uids.Uids.{uid_in}
-use Rattle.entity_values.specs.Typing.{with_or, record_in}
+use Rattle.entities.specs.declared.value_fault.ValueFault.{ValueFault}
+use Rattle.entities.specs.declared.value_fault.ValueFault.TheVariants as value
+use Rattle.entities.specs.entity_uids.Uids.{uid_in}
+use Rattle.entities.specs.Typing.{with_or, record_in}
 use Rattle.entities.specs.entity_data.UidSets.{uid_set}
 use Rattle.entities.specs.entity_data.ancestor_search.Decided.{is_same}
 use Rattle.entities.specs.entity_data.declared.entity.Entity.{Entity}

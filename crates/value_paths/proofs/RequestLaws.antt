@@ -6,11 +6,11 @@ use Rattle.serde_json.specs.Data as json
 use Rattle.serde_json.specs.Find.{get, as_object, as_str}
 use Rattle.values.specs.declared.entity_uid.EntityUid.{EntityUid}
 use Rattle.schema_types.specs.Cedar.{Cedar}
-use Rattle.entity_values.specs.policy_grammar.declared.fault.ReadFault.{ReadFault}
-use Rattle.entity_values.specs.policy_grammar.PolicyText.{IsUidText, IsUidRefused}
-use Rattle.entity_values.specs.policy_grammar.Unique.{HasOneReading}
-use Rattle.entity_values.specs.entity_uids.Uids.{IsUid, NamesEntity, IsRead, uid_in}
-use Rattle.entity_values.specs.entity_uids.Laws.{UidsAreFound, OneName}
+use Rattle.entities.specs.policy_grammar.declared.fault.ReadFault.{ReadFault}
+use Rattle.entities.specs.policy_grammar.PolicyText.{IsUidText, IsUidRefused}
+use Rattle.entities.specs.policy_grammar.Unique.{HasOneReading}
+use Rattle.entities.specs.entity_uids.Uids.{IsUid, NamesEntity, IsRead, uid_in}
+use Rattle.entities.specs.entity_uids.Laws.{UidsAreFound, OneName}
 use Rattle.entities.specs.schema.Schemas.{StatedSchema}
 use Rattle.entities.specs.declared.fault.EntityFault.{EntityFault}
 use Rattle.entities.specs.declared.fault.EntityFault.TheVariants.{NoMemory, BadShape, UnknownType, ActionEntity, Undeclared, Missing, WrongType, BadParent, SelfParent, TagsLeftOut, NotApplicable}

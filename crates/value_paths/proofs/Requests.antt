@@ -7,11 +7,11 @@ use Rattle.json_words.specs.ReadsAs.{◌>>=◌, or_fault}
 use Rattle.values.specs.declared.entity_uid.EntityUid.{EntityUid}
 use Rattle.values.specs.Fields.{Field}
 use Rattle.schema_types.specs.Cedar.{Cedar}
-use Rattle.entity_values.specs.declared.fault.ValueFault.{ValueFault}
-use Rattle.entity_values.specs.declared.fault.ValueFault.TheVariants as value
-use Rattle.entity_values.specs.entity_uids.Laws.{OneName}
-use Rattle.entity_values.specs.entity_uids.Uids.{IsRead}
-use Rattle.entity_values.specs.Typing.{with_or, record_in}
+use Rattle.entities.specs.declared.value_fault.ValueFault.{ValueFault}
+use Rattle.entities.specs.declared.value_fault.ValueFault.TheVariants as value
+use Rattle.entities.specs.entity_uids.Laws.{OneName}
+use Rattle.entities.specs.entity_uids.Uids.{IsRead}
+use Rattle.entities.specs.Typing.{with_or, record_in}
 use Rattle.entities.specs.schema.Schemas.{StatedSchema}
 use Rattle.entities.specs.declared.fault.EntityFault.{EntityFault}
 use Rattle.entities.specs.declared.fault.EntityFault.TheVariants.{NoMemory, BadShape, UnknownType, ActionEntity, Undeclared, Missing, WrongType, BadParent, SelfParent, TagsLeftOut, NotApplicable}

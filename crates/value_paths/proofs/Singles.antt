@@ -6,9 +6,9 @@ use Rattle.json_words.specs.ReadsAs.{◌>>=◌, demand, Fails}
 use Rattle.values.specs.Values.{PlainValue}
 use Rattle.values.specs.Fields.{Field}
 use Rattle.schema_types.specs.Cedar.{Cedar, record_of, field, no_fields}
-use Rattle.entity_values.specs.declared.fault.ValueFault.{ValueFault}
-use Rattle.entity_values.specs.declared.fault.ValueFault.TheVariants.{NoMemory, Missing}
-use Rattle.entity_values.specs.Typing.{typed_value, record_in}
+use Rattle.entities.specs.declared.value_fault.ValueFault.{ValueFault}
+use Rattle.entities.specs.declared.value_fault.ValueFault.TheVariants.{NoMemory, Missing}
+use Rattle.entities.specs.Typing.{typed_value, record_in}
 
 abbrev alone : Result PlainValue ValueFault → Result (List Field) ValueFault
 alone (Ok v) = Ok (([], v) ∷ [])

@@ -1,8 +1,7 @@
 -- Defines the path to the part of an entity's JSON that is at fault under a schema.
 -- Source: Cedar reference guide 4.0, "Entities and context: JSON format".
--- Rules of this product: a uid is one part. An error of the form leads to the first part that has not the form; 31
--- and 32 to `uid`, 38 to `tags`; 33, 34 and 35 into `attrs`; 36 and 37 to the first parent that the entity may not
--- have.
+-- Rules of this product: a uid is one part. An error of the form leads to the first part without the form; 31 and 32 to
+-- `uid`, 38 to `tags`; 33, 34 and 35 into `attrs`; 36 and 37 to the first parent that the entity may not have.
 use Rattle.std.specs.Prelude.{◌≡◌, ℕ, ◌+◌, List, [], ◌∷◌, Bool, true}
 use Rattle.std.specs.Prelude.{false, is_some, Option, Some, None, Ok, Err, codes}
 use Rattle.std.specs.Prelude.{if◌then◌else◌}
@@ -10,8 +9,8 @@ use Rattle.serde_json.specs.Data.{Data, Items, no_items, item}
 use Rattle.serde_json.specs.Find.{get, as_array, as_object}
 use Rattle.values.specs.declared.entity_uid.EntityUid.{EntityUid}
 use Rattle.schema_types.specs.Cedar.{Cedar}
-use Rattle.entity_values.specs.entity_uids.Uids.{uid_in}
-use Rattle.entity_values.specs.Typing.{with_or}
+use Rattle.entities.specs.entity_uids.Uids.{uid_in}
+use Rattle.entities.specs.Typing.{with_or}
 use Rattle.entities.specs.schema.Schemas.{StatedSchema}
 use Rattle.entities.specs.declared.fault.EntityFault.{EntityFault}
 use Rattle.entities.specs.declared.fault.EntityFault.TheVariants.{BadShape, UnknownType, ActionEntity, TagsLeftOut}

@@ -7,7 +7,7 @@ use Rattle.entities.specs.schema.Schemas.{StatedSchema}
 use Rattle.entities.specs.Entities.{entity_stated_in}
 use Rattle.entities.specs.Requests.{RequestRefused}
 use Rattle.entities.specs.declared.fault.EntityFault.{EntityFault}
-use Rattle.entity_values.specs.Typing.{typed_value, record_in}
+use Rattle.entities.specs.Typing.{typed_value, record_in}
 use Rattle.value_paths.specs.declared.steps.Step.{Step}
 use Rattle.value_paths.specs.Paths.{FaultAt, RecordFaultAt}
 use Rattle.value_paths.specs.EntityPaths.{IsPathOf}

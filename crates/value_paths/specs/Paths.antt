@@ -1,9 +1,9 @@
 -- Defines the path to the part of a JSON value that is at fault under a type.
 -- Source: Cedar reference guide 4.0, "Entities and context: JSON format"; items are counted from 0, as in RFC 6901.
--- Rules of this product: the parts of an array that is read as a set are its items, in order; those of an object that
--- is read as a record are its members, ascending by key, and then the required keys that are absent, in the order of
--- the type. No other value has parts. The path leads to the first part that is rejected and has no rejected part of
--- its own, and each part before it is read.
+-- Rules of this product: the parts of an array under a set type are its items, in order; those of an object under a
+-- record type are its members, ascending by key, and then the required keys that are absent, in the order of the type.
+-- No other value has parts. The path leads to the first part that is rejected and has no rejected part of its own, and
+-- each part before it is accepted.
 use Rattle.std.specs.Prelude.{◌≡◌, ℕ, ◌+◌, List, [], ◌∷◌, Bool, true, false, not, ◌&&◌, ◌||◌}
 use Rattle.std.specs.Prelude.{is_some, Some, None, Ok, Err}
 use Rattle.serde_json.specs.Data.{Data, Items, item, Members, member, array, object}
@@ -12,9 +12,9 @@ use Rattle.values.specs.Values.{PlainValue}
 use Rattle.values.specs.Fields.{Field}
 use Rattle.schema_types.specs.Cedar as type
 use Rattle.schema_types.specs.Cedar.{Cedar, CedarFields}
-use Rattle.entity_values.specs.declared.fault.ValueFault.{ValueFault}
-use Rattle.entity_values.specs.Parts.{element_of, fields_in, declared_at}
-use Rattle.entity_values.specs.Typing.{typed_value, typed_members}
+use Rattle.entities.specs.declared.value_fault.ValueFault.{ValueFault}
+use Rattle.entities.specs.Parts.{element_of, fields_in, declared_at}
+use Rattle.entities.specs.Typing.{typed_value, typed_members}
 use Rattle.value_paths.specs.declared.steps.Step.{Step}
 use Rattle.value_paths.specs.declared.steps.Step.TheVariants.{Key, Index}
 
@@ -65,7 +65,7 @@ mutual
         (path : List Step) → declared_at key fs ≡ Some t → typed_value t d ≡ Ok v → MemberFaultAt fs ms path
         → MemberFaultAt fs (member key d ms) path
 
--- `RecordFaultAt t d path`: the same of `d` read as attributes or as a context, by the type `t`. If `d` is not an
+-- `RecordFaultAt t d path`: the same of `d` parsed as attributes or as a context, by the type `t`. If `d` is not an
 -- object, or `t` not a record type, `d` is at fault as a whole.
 pub data RecordFaultAt : Cedar → Data → List Step → Type 0 where
   no_record : (t : Cedar) (d : Data) → is_record t d ≡ false → RecordFaultAt t d []

@@ -2,7 +2,7 @@
 -- Source: Cedar reference guide 4.0, "Schema JSON format": `element`, `attributes`.
 use Rattle.std.specs.Prelude.{List, [], ◌∷◌, Option, Some, option_and_then}
 use Rattle.schema_types.specs.Cedar.{Cedar}
-use Rattle.entity_values.specs.Parts.{element_of, fields_in, declared_at}
+use Rattle.entities.specs.Parts.{element_of, fields_in, declared_at}
 use Rattle.value_paths.specs.declared.steps.Step.{Step}
 use Rattle.value_paths.specs.declared.steps.Step.TheVariants.{Key, Index}
 

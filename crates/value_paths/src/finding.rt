@@ -2,7 +2,7 @@
 ghost use Rattle.std.specs.Prelude.{◌≡◌, IfOk, option_map};
 ghost use Rattle.serde_json.specs.View.{view, items_view, members_view};
 ghost use Rattle.schema_types.specs.CedarViews.{cedar_view, cedar_fields_view};
-ghost use Rattle.entity_values.specs.Parts.{element_of, fields_in, declared_at};
+ghost use Rattle.entities.specs.Parts.{element_of, fields_in, declared_at};
 ghost use Rattle.value_paths.specs.inner.FoundPaths.{absent_path, value_path, item_path, member_path, record_path};
 
 use crate::steps::{Trail, at_key, under_index, under_key};

@@ -7,7 +7,7 @@ ghost use Rattle.value_paths.specs.EntityPaths.{is_uid, to_parent, parent_demand
 ghost use Rattle.value_paths.specs.EntityPaths.{first_unmet};
 
 use crate::steps::{Trail, at_key, under_index, under_key};
-use entity_values::read_uid;
+use entities::read_uid;
 use plain::NoMemory;
 use serde_json::Value;
 use std::alloc::Global;

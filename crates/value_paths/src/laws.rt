@@ -2,7 +2,7 @@
 ghost use Rattle.value_paths.specs.Laws.{ValuesHavePaths, RecordsHavePaths, EntitiesHavePaths};
 ghost use Rattle.value_paths.specs.Laws.{RequestsHavePaths, EntitiesAreToldOnce};
 
-use entity_values::{names_read_back, texts_have_one_reading};
+use entities::{names_read_back, texts_have_one_reading};
 
 /// Proves that a value that a type rejects has exactly one path to the part at fault, and a value of the type has no
 /// path; and the same of attributes and contexts. No-op.

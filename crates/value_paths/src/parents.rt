@@ -2,15 +2,14 @@
 ghost use Rattle.std.specs.Prelude.{◌≡◌, ◌&&◌, not, IfOk, Some, None, option_map, codes};
 ghost use Rattle.serde_json.specs.View.{view, items_view};
 ghost use Rattle.serde_json.specs.Find.{get};
-ghost use Rattle.entity_values.specs.Typing.{with_or};
+ghost use Rattle.entities.specs.Typing.{with_or};
 ghost use Rattle.entities.specs.schema.Views.{schema_view};
 ghost use Rattle.value_paths.specs.EntityPaths.{items_at};
 ghost use Rattle.value_paths.specs.inner.FoundParts.{uid_at, fits, unfit_path, parents_path};
 
 use crate::forms::at_parent;
 use crate::steps::Trail;
-use entities::Schema;
-use entity_values::read_uid;
+use entities::{Schema, read_uid};
 use plain::NoMemory;
 use serde_json::Value;
 use std::alloc::Global;
@@ -55,7 +54,8 @@ fn find_unfit(
     Ok(None)
 }
 
-/// Returns the same of the value at `parents`.
+/// Returns the path to the first parent that an entity may not have, where the parents are the value `found`, if there
+/// is one.
 #[tactic(auto, unfolding(crate::specs::inner::FoundParts::unfit_path))]
 fn find_unfit_at(
     alloc: Global,

@@ -2,7 +2,7 @@
 ghost use Rattle.std.specs.Prelude.{◌≡◌, IfOk, option_map};
 ghost use Rattle.serde_json.specs.View.{view};
 ghost use Rattle.schema_types.specs.CedarViews.{cedar_view};
-ghost use Rattle.entity_values.specs.entity_uids.Uids.{IsRead};
+ghost use Rattle.entities.specs.entity_uids.Uids.{IsRead};
 ghost use Rattle.entities.specs.schema.Views.{schema_view};
 ghost use Rattle.entities.specs.Contexts.{context_where, is_place};
 ghost use Rattle.entities.specs.Requests.{RequestRefused};
@@ -15,8 +15,7 @@ use crate::entity_paths::find_in_fields;
 use crate::forms::{is_absent_or_object, is_object};
 use crate::placed::{PlacedFault, fault_of, placed};
 use crate::steps::{Trail, at_key, under_key};
-use entities::{EntityFault, Environment, Schema, read_request};
-use entity_values::{names_read_back, read_name};
+use entities::{EntityFault, Environment, Schema, names_read_back, read_name, read_request};
 use plain::NoMemory;
 use schema_types::CedarType;
 use serde_json::Value;
@@ -134,7 +133,7 @@ fn find_in_context_of(
     }
 }
 
-/// Returns the same if all three names are given.
+/// Returns the path to the fault of the context of a request, if all three names are given and there is a fault.
 fn find_in_context_named(
     alloc: Global,
     schema: &Schema,

@@ -4,12 +4,12 @@ ghost use Rattle.serde_json.specs.Data.{object, member, no_members};
 ghost use Rattle.serde_json.specs.View.{view};
 ghost use Rattle.schema_types.specs.Cedar.{record_of, field, no_fields};
 ghost use Rattle.schema_types.specs.CedarViews.{cedar_view};
-ghost use Rattle.entity_values.specs.declared.fault.ValueFault.TheVariants as ValueFault;
-ghost use Rattle.entity_values.specs.Typing.{typed_value};
+ghost use Rattle.entities.specs.declared.value_fault.ValueFault.TheVariants as ValueFault;
+ghost use Rattle.entities.specs.Typing.{typed_value};
 ghost use Rattle.value_paths.specs.inner.FoundPaths.{whole_path};
 
 use crate::steps::Trail;
-use entity_values::{ValueFault, read_record};
+use entities::{ValueFault, read_record};
 use plain::{Items, NoMemory, Shared, Text};
 use schema_types::CedarType;
 use serde_json::{Map, Value, put};

@@ -13,7 +13,7 @@ use Rattle.values.specs.WellFormed.{IsWellFormed}
 abbrev pub SetsHoldTheirMembers : Type 0
 SetsHoldTheirMembers = (vs : List PlainValue) → IsSetOf vs (set_list vs)
 
--- `SetsAreOneList`: it is the only list that does.
+-- `SetsAreOneList`: the set of some values is the only list that ascends strictly and has exactly these members.
 abbrev pub SetsAreOneList : Type 0
 SetsAreOneList = (vs s : List PlainValue) → IsSetOf vs s → s ≡ set_list vs
 
@@ -34,7 +34,7 @@ abbrev pub KeysStayAscending : Type 0
 KeysStayAscending = (key : List ℕ) (value : PlainValue) (fields : List Field) → AreKeysAscending fields
     → AreKeysAscending (put key value fields)
 
--- `FieldsTellRecords`: two records with the same value, or none, at each key are equal.
+-- `FieldsTellRecords`: two records are equal if each key has the same value in both, or is in neither.
 abbrev pub FieldsTellRecords : Type 0
 FieldsTellRecords = (a b : List Field) → AreKeysAscending a → AreKeysAscending b
     → ((key : List ℕ) → find_field key a ≡ find_field key b) → a ≡ b

@@ -6,9 +6,9 @@ use Rattle.std.proofs.Common.{ap}
 use Rattle.extensions.specs.Network.{Network}
 use Rattle.values.specs.declared.entity_uid.EntityUid.{EntityUid}
 
--- A `PlainValue` has a string as its bytes, a set as its members, a record as its keys with their values, a decimal
--- as its number of ten-thousandths. The lists of members and of fields are types of their own, since a data type
--- cannot contain lists of itself.
+-- A `PlainValue` represents a string by its bytes, a set by its members, a record by its keys with their values, and a
+-- decimal by its number of ten-thousandths. The lists of members and of fields are types of their own, since a data
+-- type cannot contain lists of itself.
 mutual
   pub data PlainValue : Type 0 where
     boolean : Bool → PlainValue
@@ -33,7 +33,7 @@ abbrev pub list_of : PlainValues → List PlainValue
 list_of no_values = []
 list_of (value v vs) = v ∷ list_of vs
 
--- `values_of vs` are these members, as a set has them.
+-- `values_of vs` is the list `vs` as the members of a set.
 abbrev pub values_of : List PlainValue → PlainValues
 values_of [] = no_values
 values_of (v ∷ vs) = value v (values_of vs)
@@ -43,7 +43,7 @@ abbrev pub pairs_of : PlainFields → List (List ℕ × PlainValue)
 pairs_of no_fields = []
 pairs_of (field k v fs) = (k, v) ∷ pairs_of fs
 
--- `fields_of fs` are these fields, as a record has them.
+-- `fields_of fs` is the list `fs` as the fields of a record.
 abbrev pub fields_of : List (List ℕ × PlainValue) → PlainFields
 fields_of [] = no_fields
 fields_of (f ∷ fs) = field f.0 f.1 (fields_of fs)
@@ -64,7 +64,7 @@ pub pairs_of-fields_of : (fs : List (List ℕ × PlainValue)) → pairs_of (fiel
 pairs_of-fields_of [] = refl
 pairs_of-fields_of (f ∷ fs) = ap (λ w. f ∷ w) (pairs_of-fields_of fs)
 
--- `height v` is how deeply sets and records nest in `v`.
+-- `height v` is the depth to which sets and records nest in `v`.
 abbrev mutual
   pub height : PlainValue → ℕ
   height (boolean b) = 0

@@ -13,7 +13,7 @@ use extensions::NoMemory;
 pub struct EntityUid {
     /// The entity's type.
     pub type_name: TypeName,
-    /// Any string.
+    /// The entity's id: any string.
     pub id: SharedText,
 }
 
@@ -26,8 +26,11 @@ impl EntityUid {
         self.id.same(&other.id) && self.type_name.same(&other.type_name)
     }
 
-    /// Returns a copy that shares its strings, without allocating. `NoMemory` only if the count of references to a
-    /// string would overflow.
+    /// Returns a copy that shares its strings. Does not allocate.
+    ///
+    /// # Errors
+    ///
+    /// - `NoMemory`: the count of references to a string would overflow.
     pub fn copy(&self) -> Result<EntityUid, NoMemory>
         ensures { IfOk result (λ u. u ≡ self.now) }
     {

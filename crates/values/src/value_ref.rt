@@ -14,8 +14,8 @@ use std::alloc::Global;
 use std::cmp::Ordering;
 use std::marker::Model;
 
-/// A value by its kind, with its content borrowed if that owns memory. A part alone, such as a string or the uid of
-/// an entity, is a value without a copy. Contracts see the value by `of_borrowed`.
+/// A value by its kind, with its content borrowed if that owns memory. So a string, or the uid of an entity, is a value
+/// without a copy. Contracts see the value by `of_borrowed`.
 #[derive(Clone, Copy)]
 pub enum BorrowedKind<'a> {
     /// True or false.
@@ -36,8 +36,8 @@ pub enum BorrowedKind<'a> {
     IpAddr(IpNet),
 }
 
-/// A borrowed value: a whole one, or a part alone, such as the string of a literal or the uid in a request, as a
-/// value without a copy. Contracts see the value.
+/// A borrowed value: a whole value, or a part that is a value by itself, such as the string of a literal or the uid in
+/// a request. Nothing is copied. Contracts see the value.
 #[derive(Drop)]
 pub struct ValueRef<'a> {
     kind: BorrowedKind<'a>,

@@ -3,7 +3,7 @@
 -- Rules of this product: bytes are copied whole or not at all.
 use Rattle.std.specs.Prelude.{ℕ, List, ◌++◌, drop, length, if◌then◌else◌, nat_le}
 
--- `copied bytes memory`: the bytes, followed by the rest of the memory; or the unchanged memory, if it is too short.
+-- `copied bytes memory` is `bytes`, followed by the rest of `memory`; or `memory` unchanged, if it is too short.
 abbrev pub copied : List ℕ → List ℕ → List ℕ
 copied bytes memory =
     if nat_le (length bytes) (length memory) then bytes ++ drop (length bytes) memory else memory

@@ -7,6 +7,7 @@ use Rattle.site_calls.specs.Answers.{Appends}
 use Rattle.site_calls.specs.Calls.{Call, asked}
 use Rattle.weirbowl.specs.declared.embedded.EmbeddedSite.{EmbeddedSite}
 
--- `IsCalled old call status new`: the site answers the call, and keeps the body of the reply.
+-- `IsCalled old call status new` holds if the site `old` answers `call` with `status` and becomes `new`, which keeps
+-- the body of the reply.
 abbrev pub IsCalled : EmbeddedSite → Call → StatusCode → EmbeddedSite → Type 0
 IsCalled old call status new = Appends old.site (asked call) status [] new.body.items new.site

@@ -13,21 +13,21 @@ use Rattle.weirbowl.specs.declared.embedded.EmbeddedSite.{EmbeddedSite}
 use Rattle.weirbowl.specs.declared.opening.OpenError.{OpenError}
 use Rattle.weirbowl.specs.declared.opening.OpenError.TheVariants.{SiteName, Schema}
 
--- `IsOpened schema name e`: `e` is a site of this name, under the schema that the bytes describe, with nothing stored
--- and no reply yet.
+-- `IsOpened schema name e` holds if `e` is an empty site of this name, under the schema that the bytes describe,
+-- without a reply yet.
 pub record IsOpened (schema name : List ℕ) (e : EmbeddedSite) : Type 0 where
   pub described : IsSchemaOf schema (schema_of e.site)
   pub named : e.site.name ≡ name
   pub empty : store_in e.site ≡ store_of []
   pub fresh : e.body.items ≡ []
 
--- `IsOpenError schema name f`: no site of this name is opened under these bytes, because of `f`. `NoMemory` may be the
--- cause for any bytes.
+-- `IsOpenError schema name f` holds if `f` is why no site of this name is opened under these bytes. `NoMemory` may be
+-- the cause for any bytes.
 abbrev pub IsOpenError : List ℕ → List ℕ → OpenError → Type 0
 IsOpenError schema name SiteName = IsSiteName name → ⊥
 IsOpenError schema name (Schema r) = (r ≡ no_memory → ⊥) → IsSiteName name × IsSchemaRefused schema r
 
--- The number of an error: 2 for a name, 1 for `NoMemory`, 20 to 25 for a schema.
+-- `code_of f` is the number of the error `f`: 2 for a name, 1 for `NoMemory`, 20 to 25 for a schema.
 abbrev pub code_of : OpenError → ℕ
 code_of SiteName = 2
 code_of (Schema r) = r.code

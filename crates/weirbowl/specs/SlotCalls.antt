@@ -15,29 +15,30 @@ use Rattle.weirbowl.specs.declared.opening.OpenError.{OpenError}
 abbrev pub not_open : CallResult
 not_open = record { status = 0; length = 0 }
 
--- `Calls old call r before after new`: the site of the slot answers the call, the status and the length of the body are
--- returned, and the body is copied. If no site is open, nothing happens.
+-- `Calls old call r before after new` holds if the site in the slot answers `call`: `r` is the status and the length of
+-- the body, and `after` is `before` with the body copied into it. If no site is open, nothing happens.
 abbrev pub Calls : Option EmbeddedSite → Call → CallResult → List ℕ → List ℕ → Option EmbeddedSite → Type 0
 Calls (Some old) call r before after new =
     (e : EmbeddedSite) × (status : StatusCode) × (new ≡ Some e) × IsCalled old call status e
     × (r ≡ record { status = status; length = length e.body.items }) × (after ≡ copied e.body.items before)
 Calls None call r before after new = (r ≡ not_open) × (after ≡ before) × (new ≡ None)
 
--- `RepeatsBody old r before after new`: the body of the last reply is copied again, and the site stays as it was.
+-- `RepeatsBody old r before after new` holds if the body of the last reply is copied again: `r` is 200 and its length,
+-- `after` is `before` with the body copied into it, and the site is unchanged. If no site is open, nothing happens.
 abbrev pub RepeatsBody : Option EmbeddedSite → CallResult → List ℕ → List ℕ → Option EmbeddedSite → Type 0
 RepeatsBody (Some old) r before after new =
     (r ≡ record { status = 200; length = length old.body.items }) × (after ≡ copied old.body.items before)
     × (new ≡ Some old)
 RepeatsBody None r before after new = (r ≡ not_open) × (after ≡ before) × (new ≡ None)
 
--- `Opens old schema name code new`: a site is opened with nothing stored (0); a site is already open there (3); or no
--- site is opened, and the number says why.
+-- `Opens old schema name code new` holds if an empty site is opened (`code` 0), or a site is open already (3), or no
+-- site is opened and `code` is that of the error.
 abbrev pub Opens : Option EmbeddedSite → List ℕ → List ℕ → ℕ → Option EmbeddedSite → Type 0
 Opens (Some old) schema name code new = (code ≡ 3) × (new ≡ Some old)
 Opens None schema name code new =
     ((code ≡ 0) × ((e : EmbeddedSite) × (new ≡ Some e) × IsOpened schema name e))
     ⊎ ((0 < code) × (new ≡ None) × ((f : OpenError) × IsOpenError schema name f × (code ≡ code_of f)))
 
--- `Closes old was_open new`: no site is open any more.
+-- `Closes old was_open new` holds if no site is open any more, and `was_open` is whether one was.
 abbrev pub Closes : Option EmbeddedSite → Bool → Option EmbeddedSite → Type 0
 Closes old was_open new = (was_open ≡ is_some old) × (new ≡ None)

@@ -16,13 +16,14 @@ use Rattle.weirbowl.specs.declared.call_result.CallResult.{CallResult}
 abbrev pub no_memory : CallResult
 no_memory = record { status = 503; length = 0 }
 
--- `Returns status text r before after`: the status and the length of a text are returned, and the text is copied.
+-- `Returns status text r before after` holds if `r` is `status` and the length of `text`, and `after` is `before` with
+-- `text` copied into it.
 abbrev pub Returns : ℕ → List ℕ → CallResult → List ℕ → List ℕ → Type 0
 Returns status text r before after =
     (r ≡ record { status = status; length = length text }) × (after ≡ copied text before)
 
--- `Rejects IsDue r before after`: an error for which `IsDue` holds is returned, or lack of memory, and nothing is
--- written.
+-- `Rejects IsDue r before after` holds if the call returns 422 with the line of an error for which `IsDue` holds, or
+-- 503 without a body.
 abbrev pub Rejects : (Refusal → Type 0) → CallResult → List ℕ → List ℕ → Type 0
 Rejects IsDue r before after =
     ((f : Refusal) × IsDue f × Returns 422 (error_line f) r before after) ⊎ ((r ≡ no_memory) × (after ≡ before))
@@ -33,7 +34,7 @@ Decides policies entities request r before after =
     ((line : List ℕ) × bare.IsDecided bare_reading policies entities request line × Returns 200 line r before after)
     ⊎ Rejects (bare.IsDecisionRefused bare_reading policies entities request) r before after
 
--- The same under a schema.
+-- Policies, entities and a request under a schema: the line of the answer.
 abbrev pub DecidesUnder : List ℕ → List ℕ → List ℕ → List ℕ → CallResult → List ℕ → List ℕ → Type 0
 DecidesUnder schema policies entities request r before after =
     ((line : List ℕ) × typed.IsDecided schema policies entities request line × Returns 200 line r before after)

@@ -1,7 +1,7 @@
 //! A site in the process of its caller.
 ghost use Rattle.std.specs.Prelude.{◌≡◌, ◌≤◌};
 ghost use Rattle.std.specs.Vec.{vec_capacity};
-ghost use Rattle.site_calls.specs.http_replies.declared.TheConstants.{LINE_ROOM};
+ghost use Rattle.site_calls.specs.declared.TheConstants.{LINE_ROOM};
 
 use http::StatusCode;
 use site_calls::{Call, Scratch, Site, answer_call};

@@ -1,4 +1,4 @@
-//! A box taken apart.
+//! The pointer of a box that was taken apart.
 ghost use Rattle.std.specs.Prelude.{◌≡◌};
 ghost use Rattle.weirbowl.specs.Ownership.{owned_at};
 

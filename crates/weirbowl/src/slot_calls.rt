@@ -24,7 +24,7 @@ fn not_open() -> CallResult
     }
 }
 
-/// Returns the result of a reply, whose body is copied.
+/// Copies the body of a reply into `out`, and returns its status and length.
 fn report(status: StatusCode, body: &[u8], out: &mut [u8]) -> CallResult
     ensures told { result ≡ record { status = status; length = length body.now } }
     ensures copied { out.new ≡ copied body.now out.old }
@@ -69,7 +69,7 @@ pub(crate) fn close_in(alloc: Global, slot: &mut SiteSlot) -> bool
     true
 }
 
-/// Makes a call of the site of a slot, and copies the body of its reply.
+/// Calls the site in a slot, and copies the body of its reply into `out`.
 pub(crate) fn call_in(
     alloc: Global,
     slot: &mut SiteSlot,

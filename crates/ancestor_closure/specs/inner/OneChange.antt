@@ -8,8 +8,8 @@ use Rattle.ancestor_search.specs.Hierarchy.{Parents, IsAncestor, IsAscending}
 use Rattle.ancestor_closure.specs.Lists.{IsListOf, AgreeBut}
 use Rattle.ancestor_closure.specs.declared.changing.Change.{Change}
 
--- `TakesChild xs ps child before after` holds if `child` was removed from those of `xs` that are not in `ps`, and
--- nothing else.
+-- `TakesChild xs ps child before after` holds if `after` is `before`, without `child` among the children of the
+-- entities of `xs` that are not in `ps`.
 pub record TakesChild (xs ps : List EntityUid) (child : EntityUid)
     (before after : EntityUid → List EntityUid) : Type 0 where
   pub from : (x y : EntityUid) → Contains (after x) y → Contains (before x) y
@@ -17,7 +17,7 @@ pub record TakesChild (xs ps : List EntityUid) (child : EntityUid)
       Contains (after x) y ⊎ ((child ≡ y) × Contains xs x × (Contains ps x → ⊥))
   pub taken : (x : EntityUid) → Contains xs x → (Contains ps x → ⊥) → Contains (after x) child → ⊥
 
--- `firsts xs` are the entities of lists.
+-- `firsts xs` are the entities of the pairs `xs` (an entity with its list).
 abbrev pub firsts : List (EntityUid × Vec EntityUid Global) → List EntityUid
 firsts xs = map (λ x. x.0) xs
 
@@ -26,7 +26,7 @@ abbrev pub written : List (EntityUid × Vec EntityUid Global) → EntityUid → 
 written [] q old = old
 written (x ∷ xs) q old = if is_eq (uid_cmp x.0 q) then x.1.items else written xs q old
 
--- `IsInOwn lists x` holds if `x` is in its own one of these lists.
+-- `IsInOwn lists x` holds if `lists` pairs `x` with a list that contains `x`.
 abbrev pub IsInOwn : List (EntityUid × Vec EntityUid Global) → EntityUid → Type 0
 IsInOwn lists x = (list : Vec EntityUid Global) × Contains lists (x, list) × Contains list.items x
 
@@ -34,13 +34,14 @@ IsInOwn lists x = (list : Vec EntityUid Global) × Contains lists (x, list) × C
 abbrev pub ListsAscend : List (EntityUid × Vec EntityUid Global) → Type 0
 ListsAscend lists = (x : EntityUid) (list : Vec EntityUid Global) → Contains lists (x, list) → IsAscending list.items
 
--- `Enters lists before after` holds if some that are in their own lists were added, and nothing else.
+-- `Enters lists before after` holds if `after` has the entities of `before` and possibly others, each in its own list
+-- of `lists`.
 pub record Enters (lists : List (EntityUid × Vec EntityUid Global)) (before after : List EntityUid) : Type 0 where
   pub kept : (x : EntityUid) → Contains before x → Contains after x
   pub from : (x : EntityUid) → Contains after x → Contains before x ⊎ IsInOwn lists x
 
--- `Leaves entities ancestors before after` holds if those of `entities` that are not in their own lists were removed,
--- and nothing else.
+-- `Leaves entities ancestors before after` holds if `after` is `before` without those of `entities` that are not their
+-- own ancestors.
 pub record Leaves (entities : List EntityUid) (ancestors : EntityUid → List EntityUid)
     (before after : List EntityUid) : Type 0 where
   pub from : (x : EntityUid) → Contains after x → Contains before x

@@ -1,5 +1,4 @@
--- Defines how it is decided whether a string is a decimal, or an IP address, and of which value, and whether a range
--- is within another. None of it is trusted: the type of each says what it decides.
+-- Defines the decision procedures of TextsDecided. None of it is trusted: the type of each says what it decides.
 use Prim.Native.Char.{code}
 use Rattle.std.specs.Prelude.{◌≡◌, ◌⊎◌, ℕ, zero, suc, pos, ℤ, neg_ℤ, ◌+◌, ◌-◌, ◌*◌, ◌^◌, ◌<◌, ◌≤◌, List, [], ◌∷◌, ◌++◌}
 use Rattle.std.specs.Prelude.{length, replicate, codes, FitsSigned, refl}

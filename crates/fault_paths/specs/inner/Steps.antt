@@ -16,8 +16,8 @@ use Rattle.type_checker.specs.declared.fault.ExpressionFault.{ExpressionFault as
 use Rattle.type_checker.specs.declared.fault.ExpressionFault.TheVariants.{NoMemory}
 use Rattle.fault_paths.specs.declared.steps.Step.{Step}
 use Rattle.fault_paths.specs.declared.steps.Step.TheVariants as step
-use Rattle.expression_paths.specs.Blamed.{Blame, under, blamed}
-use Rattle.expression_paths.specs.Places.{operands_of}
+use Rattle.typing.specs.Blamed.{Blame, under, blamed}
+use Rattle.typing.specs.Places.{operands_of}
 
 -- a type with its capabilities, or `None` if the expression has no type
 abbrev pub IsFound : Environment → Pairs → Expr → Option Typed → Type 0

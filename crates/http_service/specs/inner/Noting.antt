@@ -2,7 +2,7 @@
 use Rattle.std.specs.Prelude.{◌≡◌, ℕ, List, ◌++◌, Option, Some, None}
 use Rattle.http.specs.declared.status.StatusCode.{StatusCode}
 use Rattle.http_logs.specs.LogLines.{IsLogLine, IsUndone, tail_of}
-use Rattle.site_calls.specs.http_replies.site_steps.SiteViews.{SiteView}
+use Rattle.site_calls.specs.site_steps.SiteViews.{SiteView}
 use Rattle.http_routes.specs.Routes.{route_stated}
 use Rattle.http_routes.specs.declared.route.Route.{Route}
 use Rattle.http_routes.specs.declared.route.Route.TheVariants as route

@@ -1,8 +1,8 @@
 -- Defines the events of an exchange that goes on.
 use Rattle.std.specs.Prelude.{◌≡◌, ℕ, ◌+◌, ◌++◌, List, [], ◌∷◌, Some, true}
 use Rattle.std.specs.Borrow.{Bor}
-use Rattle.state_exchanges.specs.http_devices.declared.devices.Source.{Ghosts as Source}
-use Rattle.state_exchanges.specs.http_devices.declared.devices.Sink.{Ghosts as Sink}
+use Rattle.state_exchanges.specs.http_streams.declared.devices.Source.{Ghosts as Source}
+use Rattle.state_exchanges.specs.http_streams.declared.devices.Sink.{Ghosts as Sink}
 use Rattle.state_exchanges.specs.declared.asking.Call.TheVariants as call
 use Rattle.program.specs.declared.device.Link.{Link}
 use Rattle.program.specs.declared.device.Stream.TheVariants.{Answers}

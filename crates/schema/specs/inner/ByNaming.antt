@@ -19,7 +19,7 @@ pub data IsUnsound (s : ResolvedSchema) : SchemaFault → Type 0 where
   too_large : (SomeStandsForNone s.commons → ⊥) → (SomeActionIsOnCycle s → ⊥) → SomeTypeIsTooLarge s
       → IsUnsound s TypeTooLarge
 
--- `IsParsedAs bytes v` holds if the functions give a file for `bytes` of which `v` is the schema.
+-- `IsParsedAs bytes v` holds if the functions parse `bytes` as a file with the schema `v`.
 pub record IsParsedAs (bytes : List ℕ) (v : StatedSchema) : Type 0 where
   pub named : ResolvedSchema
   pub states : StatesNamed bytes named

@@ -78,7 +78,7 @@ AddsParents at reached [] old new = new ≡ old
 AddsParents at reached (p ∷ ps) old new =
     (mid : List Span) × AddsParent at reached p old mid × AddsParents at reached ps mid new
 
--- `single_of o` is the span of a number, none if it is missing.
+-- `single_of o` is the list of the span of the number `o`; `[]` if it is missing.
 abbrev pub single_of : Option ℕ → List Span
 single_of None = []
 single_of (Some i) = single i ∷ []

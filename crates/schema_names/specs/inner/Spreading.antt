@@ -18,7 +18,7 @@ abbrev pub means_by : Option (List ℕ) → (List ℕ → Bool) → Bool → Boo
 means_by (Some q) known otherwise = known q
 means_by None known otherwise = otherwise
 
--- `means_now known s own r` tests whether `r` is not a record, where `known` says it of common types.
+-- `means_now known s own r` tests whether `r` is not a record, where `known` tests the same of common types.
 abbrev pub means_now : (List ℕ → Bool) → Scope → Option (List ℕ) → Raw → Bool
 means_now known s own r = means_by (common_meant s own r) known (is_no_record s own r)
 

@@ -3,9 +3,9 @@
 -- a change, and any error, is reported without an allocation.
 use Rattle.std.specs.Prelude.{◌≡◌, ◌⊎◌, ℕ, List, ◌++◌, Err}
 use Rattle.http.specs.declared.status.StatusCode.{StatusCode}
-use Rattle.http_replies.specs.site_steps.declared.fault.SiteFault.TheVariants as fault
-use Rattle.http_replies.specs.site_steps.declared.reply.Reply.{Reply}
-use Rattle.http_replies.specs.site_steps.declared.reply.Reply.TheVariants as reply
+use Rattle.site_calls.specs.site_steps.declared.fault.SiteFault.TheVariants as fault
+use Rattle.site_calls.specs.site_steps.declared.reply.Reply.{Reply}
+use Rattle.site_calls.specs.site_steps.declared.reply.Reply.TheVariants as reply
 use Rattle.site_calls.specs.Reports.{reported}
 
 -- The reply in its stead if there is no memory for its body: to a query `NoMemory`, to a change the reply itself.

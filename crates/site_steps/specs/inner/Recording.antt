@@ -28,7 +28,7 @@ RecordsOr n s name body (Err fault.NoMemory) t = t ≡ s
 RecordsOr n s name body (Err fault.ClockFull) t = IsClockFull s t
 RecordsOr n s name body (Err _) t = ⊥
 
--- `IsNext n s r` holds if `r` is the next stamp at the site named `n` with store `s`, or none if the clock is full.
+-- `IsNext n s r` holds if `r` is the next stamp at the site named `n` with store `s`, or `None` if the clock is full.
 abbrev pub IsNext : List ℕ → Store → Option Stamp → Type 0
 IsNext n s (Some stamp) = (greatest_count s < most_count) × (stamp ≡ issue s n)
 IsNext n s None = greatest_count s ≡ most_count

@@ -30,8 +30,8 @@ Judged env K x r after =
     MatchResult r (λ t. (after ≡ K) × Types env K x (static_view t.kind) (pairs t.learns.items))
     (λ f. f ≢ NoMemory → Faults env K x (fault_view f))
 
--- `JudgedBehind env K L x r after` is the same where those of `L` are known too, which are in front of what is
--- gained.
+-- `JudgedBehind env K L x r after` is the same under the capabilities `K` and then `L`, where `r` has those of `L` and
+-- then those that `x` gains.
 abbrev pub JudgedBehind : Environment → Pairs → Pairs → Expr → Result Typed ExpressionFault → Pairs → Type 0
 JudgedBehind env K L x r after =
     MatchResult r (λ t. (after ≡ K) × ((M : Pairs) × Types env (K ++ L) x (static_view t.kind) M

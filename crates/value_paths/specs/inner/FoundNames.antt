@@ -3,8 +3,8 @@ use Rattle.std.specs.Prelude.{◌≡◌, List, [], ◌∷◌, Bool, true, false,
 use Rattle.serde_json.specs.Data.{Data}
 use Rattle.serde_json.specs.Find.{get, as_object}
 use Rattle.values.specs.declared.entity_uid.EntityUid.{EntityUid}
-use Rattle.entity_values.specs.entity_uids.Uids.{NamesEntity}
-use Rattle.entity_values.specs.Typing.{with_or}
+use Rattle.entities.specs.entity_uids.Uids.{NamesEntity}
+use Rattle.entities.specs.Typing.{with_or}
 use Rattle.entities.specs.schema.Schemas.{StatedSchema}
 use Rattle.entities.specs.declared.fault.EntityFault.{EntityFault}
 use Rattle.entities.specs.declared.requests.Asked.{Asked}

@@ -4,8 +4,8 @@ use Rattle.serde_json.specs.Data.{Data, Items, no_items, item}
 use Rattle.serde_json.specs.Find.{get}
 use Rattle.values.specs.declared.entity_uid.EntityUid.{EntityUid}
 use Rattle.schema_types.specs.Cedar.{Cedar}
-use Rattle.entity_values.specs.entity_uids.Uids.{uid_in}
-use Rattle.entity_values.specs.Typing.{with_or}
+use Rattle.entities.specs.entity_uids.Uids.{uid_in}
+use Rattle.entities.specs.Typing.{with_or}
 use Rattle.entities.specs.entity_data.ancestor_search.Decided.{is_same}
 use Rattle.entities.specs.schema.Schemas.{StatedSchema}
 use Rattle.entities.specs.declared.fault.EntityFault.{EntityFault}

@@ -5,9 +5,9 @@ use Rattle.serde_json.specs.Data.{Data, Items, no_items, item, Members, no_membe
 use Rattle.serde_json.specs.Data as json
 use Rattle.serde_json.specs.Find.{get, as_object}
 use Rattle.schema_types.specs.Cedar.{Cedar, CedarFields, no_fields, field}
-use Rattle.entity_values.specs.declared.fault.ValueFault.{ValueFault}
-use Rattle.entity_values.specs.Parts.{element_of, fields_in, declared_at}
-use Rattle.entity_values.specs.Typing.{typed_value, with_or}
+use Rattle.entities.specs.declared.value_fault.ValueFault.{ValueFault}
+use Rattle.entities.specs.Parts.{element_of, fields_in, declared_at}
+use Rattle.entities.specs.Typing.{typed_value, with_or}
 use Rattle.value_paths.specs.declared.steps.Step.{Step}
 use Rattle.value_paths.specs.declared.steps.Step.TheVariants.{Key, Index}
 

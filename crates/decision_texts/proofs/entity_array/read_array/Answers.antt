@@ -1,8 +1,8 @@
 use Rattle.std.proofs.Common.{◌∙◌, ◌++◌, ◌∷◌, [], None, refl, sym, ap, Ok, Err, arith}
 use Rattle.serde_json.specs.View.{view}
-use Rattle.json_values.specs.Arrays.{to_come}
-use Rattle.json_values.proofs.Readings.{value_told, fewer_left, end_told, not_json_told, begins}
-use Rattle.json_values.proofs.Readings.{goes_on, ends, fails, refused}
+use Rattle.json_words.specs.Arrays.{to_come}
+use Rattle.json_words.proofs.Readings.{value_told, fewer_left, end_told, not_json_told, begins}
+use Rattle.json_words.proofs.Readings.{goes_on, ends, fails, refused}
 use Rattle.answer_lines.specs.Refusals.{no_memory, bad_shape}
 use Rattle.decision_texts.specs.EntityArrays.{entity_at}
 use Rattle.decision_texts.proofs.ArrayLemmas.{at_next}

@@ -1,6 +1,6 @@
 use Rattle.std.proofs.Common.{◌+◌, ◌≤◌, List, length}
-use Rattle.json_values.specs.Arrays.{to_come}
-use Rattle.json_values.proofs.Readings.{SoFar}
+use Rattle.json_words.specs.Arrays.{to_come}
+use Rattle.json_words.proofs.Readings.{SoFar}
 use Rattle.entity_data.specs.declared.entity.Entity.{Entity}
 use Rattle.decision_texts.specs.EntityArrays.{entity_at}
 use Rattle.decision_texts.specs.inner.Stores.{Holds}

@@ -1,6 +1,6 @@
 use Rattle.std.proofs.Common.{◌∙◌, None, Err, sym, ap, subst}
-use Rattle.json_values.specs.Arrays.{each_of}
-use Rattle.json_values.proofs.Readings.{array_begun, none_begun}
+use Rattle.json_words.specs.Arrays.{each_of}
+use Rattle.json_words.proofs.Readings.{array_begun, none_begun}
 use Rattle.answer_lines.specs.Refusals.{bad_shape}
 use Rattle.decision_texts.specs.EntityArrays.{entity_at}
 use Rattle.decision_texts.specs.inner.Stores.{ReadsStore}

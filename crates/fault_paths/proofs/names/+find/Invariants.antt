@@ -2,7 +2,7 @@ use Rattle.std.proofs.Common.{◌≡◌, ◌-◌, length, take}
 use Rattle.std.specs.Prelude.{All}
 use Rattle.grammar_core.specs.Size.{height}
 use Rattle.type_checker.specs.schema.Views.{schema_view}
-use Rattle.expression_paths.specs.Places.{operands_of}
+use Rattle.typing.specs.Places.{operands_of}
 use Rattle.fault_paths.proofs.Naming.{AreKnown}
 use Rattle.fault_paths.proofs.names.+find.Given as goal
 

@@ -2,7 +2,7 @@ use Rattle.std.proofs.Common.{◌-◌, map, length, take}
 use Rattle.validator.specs.typing.Typing.{TypesEach}
 use Rattle.type_checker.specs.Views.{static_view, typing_environment}
 use Rattle.type_checker.specs.type_capabilities.Pairs.{pairs}
-use Rattle.expression_paths.specs.Places.{operands_of}
+use Rattle.typing.specs.Places.{operands_of}
 use Rattle.fault_paths.proofs.steps.from_operands.Given as goal
 
 -- the operands so far have these types

@@ -1,8 +1,8 @@
 use Rattle.std.proofs.Common.{◌≡◌, ℕ, List, [], Err, drop, sym, ap, subst, append-nil}
 use Rattle.std.proofs.KnownBytes.{Consumes-nil}
 use Rattle.http_streams.specs.declared.fetch.FetchFault.TheVariants.{BadReply, Ended, Read}
-use Rattle.http_framing.specs.Reply.{ReadsReply}
-use Rattle.http_framing.specs.http_texts.RequestText.{request_text}
+use Rattle.http_streams.specs.Reply.{ReadsReply}
+use Rattle.http_streams.specs.RequestText.{request_text}
 use Rattle.http_streams.proofs.fetch.fetch.Goals as goal
 
 pub returns-in-Err-Write-clause-err : goal.returns-in-Err-Write-clause-err

@@ -2,9 +2,9 @@ use Rattle.std.proofs.Common.{ℕ, List, ◌++◌, Err, length, sym, ap, ◌∙�
 use Rattle.std.specs.Prelude.{IsTrue, IsFalse}
 use Rattle.std.specs.Io.KnownBytes.{Consumes}
 use Rattle.std.proofs.KnownBytes.{Consumes-trans, Consumes-kept}
-use Rattle.http_framing.specs.Reply.{IsBadReply, IsReplyAt, IsUnfinishedReply, StaysUnfinishedReply}
-use Rattle.http_framing.proofs.OneReply.{nothing_unfinished, stays_on, unfinished_short, unfinished_yet}
-use Rattle.http_devices.proofs.LastCall.{FailsAtLast-now}
+use Rattle.http_streams.specs.Reply.{IsBadReply, IsReplyAt, IsUnfinishedReply, StaysUnfinishedReply}
+use Rattle.http_streams.proofs.OneReply.{nothing_unfinished, stays_on, unfinished_short, unfinished_yet}
+use Rattle.http_streams.proofs.LastCall.{FailsAtLast-now}
 use Rattle.http_streams.proofs.fetch.read_whole.Goals as goal
 
 pub turns-init : goal.turns-init

@@ -1,8 +1,8 @@
 use Rattle.std.proofs.Common.{◌≡◌, ◌+◌, ◌-◌, ◌<◌, ◌≤◌, length}
 use Rattle.std.specs.Io.KnownBytes.{Consumes}
-use Rattle.http_framing.specs.declared.TheConstants.{MAX_HEAD, MAX_REPLY}
+use Rattle.http_streams.specs.declared.TheConstants.{MAX_HEAD, MAX_REPLY}
 use Rattle.http_streams.specs.declared.TheConstants.{MAX_READ}
-use Rattle.http_framing.specs.Reply.{IsUnfinishedReply, StaysUnfinishedReply}
+use Rattle.http_streams.specs.Reply.{IsUnfinishedReply, StaysUnfinishedReply}
 use Rattle.http_streams.proofs.fetch.read_whole.Given as goal
 
 abbrev pub invariant-turns : goal.invariant-turns

@@ -1,6 +1,6 @@
 use Rattle.std.proofs.Common.{◌≡◌, ◌≤◌, ◌++◌, ◌-◌, ℕ, Bool, List, length, take, drop, sym, ap, ◌∙◌, subst, ◌<◌, arith}
 use Rattle.std.proofs.lemmas.List.{drop_at, length-take-le, take_rest}
-use Rattle.http_framing.specs.http_texts.ReplyText.{reply_text}
+use Rattle.http_streams.specs.ReplyText.{reply_text}
 use Rattle.http.specs.declared.status.StatusCode.{StatusCode}
 use Rattle.std.specs.Io.KnownBytes.{Appends}
 use Rattle.http_streams.specs.Logs.{cuts, notes}

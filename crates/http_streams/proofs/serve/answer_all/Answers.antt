@@ -1,6 +1,6 @@
 use Rattle.std.proofs.Common.{◌≡◌, Ok, Err, ℕ, List, [], ◌++◌, length, drop, false, true, refl, sym, ap, ◌∙◌, subst, inl, inr, arith, length-drop}
 use Rattle.std.proofs.lemmas.List.{drop-drop, take_rest}
-use Rattle.http_framing.specs.Request.{IsRefused}
+use Rattle.http_streams.specs.Request.{IsRefused}
 use Rattle.http_streams.specs.Stream.{Exchanges}
 use Rattle.std.proofs.KnownBytes.{Appends-nil, Appends-trans}
 use Rattle.http_streams.specs.Logs.{notes}
@@ -8,7 +8,7 @@ use Rattle.http_streams.specs.inner.Sending.{fault_of}
 use Rattle.http_streams.specs.declared.serve.Broken.TheVariants.{Log, Write}
 use Rattle.http_streams.proofs.LogLemmas.{last_at, noted_after, noted_now, refusal_broken, refusal_noted, whole_noted}
 use Rattle.http_streams.proofs.StreamLemmas.{Serves-none, Serves-push, Ends-after, Ends-now, Stops-after, Stops-now, Exchanges-at, Halts-at}
-use Rattle.http_devices.proofs.LastCall.{FailsAtLast-from}
+use Rattle.http_streams.proofs.LastCall.{FailsAtLast-from}
 use Rattle.http_streams.proofs.serve.answer_all.Goals as goal
 
 pub requests-init : goal.requests-init

@@ -2,7 +2,7 @@ use Rattle.std.proofs.Common.{◌≡◌, ℕ, ◌+◌, ◌-◌, ◌≤◌, List,
 use Rattle.std.specs.Io.KnownBytes.{Appends}
 use Rattle.std.specs.Vec.{vec_capacity}
 use Rattle.http_streams.specs.declared.TheConstants.{REPLY_ROOM}
-use Rattle.http_framing.specs.http_texts.declared.reply.TheConstants.{HEAD_ROOM}
+use Rattle.http_streams.specs.declared.reply.TheConstants.{HEAD_ROOM}
 use Rattle.http_streams.specs.Logs.{notes}
 use Rattle.http_streams.specs.Stream.{Serves}
 use Rattle.http_streams.proofs.serve.answer_all.Given as goal

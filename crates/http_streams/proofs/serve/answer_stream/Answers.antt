@@ -1,15 +1,15 @@
 use Rattle.std.proofs.Common.{◌≡◌, ℕ, List, [], ◌++◌, Ok, Err, length, drop, refl, sym, ap, ◌∙◌, subst, inl, inr, arith, rules, append-nil, length-append}
 use Rattle.std.specs.Prelude.{IsTrue, IsFalse}
 use Rattle.std.specs.Io.KnownBytes.{Consumes}
-use Rattle.http_framing.specs.Request.{IsUnfinished, StaysUnfinished}
+use Rattle.http_streams.specs.Request.{IsUnfinished, StaysUnfinished}
 use Rattle.http_streams.specs.Stream.{Rests, Serves}
 use Rattle.std.proofs.KnownBytes.{Appends-nil, Appends-trans, Consumes-nil, Consumes-trans, Consumes-kept}
 use Rattle.http_streams.specs.Logs.{AreNoted, notes}
 use Rattle.http_streams.specs.declared.serve.StreamFault.TheVariants as fault
 use Rattle.http_streams.proofs.LogLemmas.{noted_after, noted_so_far}
 use Rattle.http_streams.proofs.StreamLemmas.{Serves-read, Serves-then, Ends-after, Rests-from, Stops-after}
-use Rattle.http_devices.proofs.LastCall.{FailsAtLast-from, FailsAtLast-now}
-use Rattle.http_framing.proofs.OneRequest.{nothing_unfinished, stays_on, unfinished_yet}
+use Rattle.http_streams.proofs.LastCall.{FailsAtLast-from, FailsAtLast-now}
+use Rattle.http_streams.proofs.OneRequest.{nothing_unfinished, stays_on, unfinished_yet}
 use Rattle.http_streams.proofs.serve.answer_stream.Goals as goal
 
 pub loop-turn-init : goal.loop-turn-init

@@ -1,10 +1,10 @@
 use Rattle.std.proofs.Common.{◌≡◌, ℕ, ◌+◌, ◌<◌, ◌≤◌, List, length, vec_len}
 use Rattle.std.specs.Io.KnownBytes.{Appends, Consumes}
 use Rattle.std.specs.Vec.{vec_capacity}
-use Rattle.http_framing.specs.declared.TheConstants.{MAX_HEAD}
+use Rattle.http_streams.specs.declared.TheConstants.{MAX_HEAD}
 use Rattle.http_streams.specs.declared.TheConstants.{MAX_READ, REPLY_ROOM}
-use Rattle.http_framing.specs.http_texts.declared.reply.TheConstants.{HEAD_ROOM}
-use Rattle.http_framing.specs.Request.{IsUnfinished, StaysUnfinished}
+use Rattle.http_streams.specs.declared.reply.TheConstants.{HEAD_ROOM}
+use Rattle.http_streams.specs.Request.{IsUnfinished, StaysUnfinished}
 use Rattle.http_streams.specs.Logs.{notes}
 use Rattle.http_streams.specs.Stream.{Serves}
 use Rattle.http_streams.proofs.serve.answer_stream.Given as goal

@@ -4,7 +4,7 @@ use Rattle.http_streams.specs.Logs.{notes}
 use Rattle.http_streams.specs.declared.serve.StreamFault.TheVariants.{NoMemory}
 use Rattle.http_streams.proofs.LogLemmas.{noted_so_far}
 use Rattle.http_streams.proofs.StreamLemmas.{Rests-from, Serves-none}
-use Rattle.http_framing.proofs.OneRequest.{nothing_unfinished}
+use Rattle.http_streams.proofs.OneRequest.{nothing_unfinished}
 use Rattle.http_streams.proofs.serve.serve_logged.Goals as goal
 
 pub returns-in_default-clause-answered : goal.returns-in_default-clause-answered

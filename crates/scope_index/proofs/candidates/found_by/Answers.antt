@@ -6,6 +6,5 @@ use Rattle.scope_index.proofs.candidates.found_by.Goals as goal
 pub returns : goal.returns
 returns g c =
     offered_in_all (g.A.Ancestry.parents c.args.ancestry.now) c.args.request.now c.args.buckets.now
-    (lent c.new-found.result.items) (lent c.offer_unbound.new.found.items) (lent c.offer_above.new.found.items)
-    (lent c.offer_above-2.new.found.items) (ap lent c.new-found.ensures.items)
-    c.in_ok-offer_unbound.ensures c.in_ok-offer_above.ensures c.in_ok-offer_above-2.ensures
+    (lent c.new-found.result.items) (lent c.offer_unbound.new.found.items) (lent c.offer_bound.new.found.items)
+    (ap lent c.new-found.ensures.items) c.in_ok-offer_unbound.ensures c.in_ok-offer_bound.ensures

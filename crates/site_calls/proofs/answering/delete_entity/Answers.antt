@@ -1,6 +1,6 @@
 use Rattle.std.proofs.Common.{sym, ◌∙◌, option_and_then}
 use Rattle.json_words.specs.Json.{json_of}
-use Rattle.http_replies.specs.entity_uids.Uids.{uid_in}
+use Rattle.site_calls.specs.entity_uids.Uids.{uid_in}
 use Rattle.site_calls.proofs.CallSteps.{removed, removal_lacks}
 use Rattle.site_calls.proofs.answering.delete_entity.Goals as goal
 

@@ -1,5 +1,5 @@
 use Rattle.site_calls.specs.Asked.{gives}
-use Rattle.http_replies.specs.site_steps.Inputs.{GetPolicy}
+use Rattle.site_calls.specs.site_steps.Inputs.{GetPolicy}
 use Rattle.site_calls.proofs.CallSteps.{of_text, of_no_text}
 use Rattle.site_calls.proofs.answering.get_policy.Goals as goal
 

@@ -1,4 +1,4 @@
-use Rattle.http_replies.specs.site_steps.Inputs.{input_of}
+use Rattle.site_calls.specs.site_steps.Inputs.{input_of}
 use Rattle.site_calls.proofs.CallSteps.{answered}
 use Rattle.site_calls.proofs.answering.reply_to.Goals as goal
 

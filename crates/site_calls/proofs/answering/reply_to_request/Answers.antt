@@ -1,9 +1,9 @@
 use Rattle.std.proofs.Common.{Option, refl, subst, sym}
 use Rattle.serde_json.specs.Data.{Data}
-use Rattle.http_replies.specs.site_steps.Inputs.{Authorize}
-use Rattle.http_replies.specs.site_steps.SiteViews.{schema_of, store_in}
-use Rattle.http_replies.specs.site_steps.Steps.{Answers}
-use Rattle.http_replies.specs.site_steps.declared.reply.Reply.TheVariants as reply
+use Rattle.site_calls.specs.site_steps.Inputs.{Authorize}
+use Rattle.site_calls.specs.site_steps.SiteViews.{schema_of, store_in}
+use Rattle.site_calls.specs.site_steps.Steps.{Answers}
+use Rattle.site_calls.specs.site_steps.declared.reply.Reply.TheVariants as reply
 use Rattle.site_calls.proofs.CallSteps.{answered}
 use Rattle.site_calls.proofs.answering.reply_to_request.Goals as goal
 

@@ -1,5 +1,5 @@
 use Rattle.std.proofs.Common.{◌≡◌, ◌∙◌, Ok, sym, subst}
-use Rattle.schema_decisions.proofs.of_json_values.Readings.{array_begun, none_begun}
+use Rattle.schema_decisions.proofs.of_json_words.Readings.{array_begun, none_begun}
 use Rattle.schema_decisions.specs.schema.SchemaEntries.{SchemaEntries}
 use Rattle.schema_decisions.specs.schema.Views.{schema_view}
 use Rattle.schema_decisions.specs.decision_texts.EntityArrays.{entities_of}

@@ -1,5 +1,5 @@
 use Rattle.std.proofs.Common.{◌+◌, ◌≤◌, length}
-use Rattle.schema_decisions.specs.json_values.Arrays.{to_come}
+use Rattle.schema_decisions.specs.json_words.Arrays.{to_come}
 use Rattle.site_steps.specs.SiteViews.{schema_of, store_in, IsSameSite}
 use Rattle.site_loading.proofs.PutLemmas.{AreAlong}
 use Rattle.site_loading.proofs.entity_file.put_each.Given as goal

@@ -1,4 +1,4 @@
-use Rattle.token_spans.proofs.Policies.{laid}
+use Rattle.token_spans.proofs.PolicyNodes.{laid}
 use Rattle.token_spans.proofs.NamePlaces.{name_stands_in}
 use Rattle.token_spans.proofs.laws.names_stand.Goals as goal
 

@@ -1,4 +1,4 @@
-use Rattle.token_spans.proofs.Policies.{laid, stands_in}
+use Rattle.token_spans.proofs.PolicyNodes.{laid, stands_in}
 use Rattle.token_spans.proofs.laws.spans_stand.Goals as goal
 
 pub returns : goal.returns

@@ -2,7 +2,7 @@ use Rattle.std.proofs.Common.{◌≡◌, ◌∙◌, ◌∷◌, [], List, ℕ, Op
 use Rattle.serde_json.specs.View.{view, items_view, members_view}
 use Rattle.serde_json.specs.declared.value.Value.{Value}
 use Rattle.schema_types.specs.CedarViews.{cedar_view, cedar_fields_view}
-use Rattle.entity_values.specs.Parts.{declared_at}
+use Rattle.entities.specs.Parts.{declared_at}
 use Rattle.value_paths.specs.declared.steps.Step.{Step}
 use Rattle.value_paths.specs.declared.steps.Step.TheVariants.{Key, Index}
 use Rattle.value_paths.specs.inner.FoundPaths.{value_path, item_path, member_path}

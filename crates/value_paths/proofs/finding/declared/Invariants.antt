@@ -1,6 +1,6 @@
 use Rattle.std.proofs.Common.{◌≡◌, drop}
 use Rattle.schema_types.specs.CedarViews.{cedar_fields_view}
-use Rattle.entity_values.specs.Parts.{declared_at}
+use Rattle.entities.specs.Parts.{declared_at}
 use Rattle.value_paths.proofs.finding.declared.Given as goal
 
 abbrev pub invariant-loop-field : goal.invariant-loop-field

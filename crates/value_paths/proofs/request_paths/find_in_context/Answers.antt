@@ -1,7 +1,7 @@
 use Rattle.std.proofs.Common.{◌≡◌, List, Option, subst}
 use Rattle.serde_json.specs.Data.{Data}
 use Rattle.serde_json.specs.View.{view}
-use Rattle.entity_values.specs.entity_uids.Uids.{IsRead}
+use Rattle.entities.specs.entity_uids.Uids.{IsRead}
 use Rattle.entities.specs.schema.Views.{schema_view}
 use Rattle.value_paths.specs.declared.steps.Step.{Step}
 use Rattle.value_paths.specs.inner.FoundNames.{Names, named_path, IsContextSearched}

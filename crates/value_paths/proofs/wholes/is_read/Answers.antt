@@ -2,8 +2,8 @@ use Rattle.std.proofs.Common.{◌≡◌, ◌≢◌, ◌∙◌, Bool, false}
 use Rattle.std.specs.Prelude.{is_ok}
 use Rattle.serde_json.specs.View.{view}
 use Rattle.schema_types.specs.CedarViews.{cedar_view}
-use Rattle.entity_values.specs.declared.fault.ValueFault.TheVariants.{NoMemory}
-use Rattle.entity_values.specs.Typing.{typed_value}
+use Rattle.entities.specs.declared.value_fault.ValueFault.TheVariants.{NoMemory}
+use Rattle.entities.specs.Typing.{typed_value}
 use Rattle.value_paths.proofs.Going.{if_ok}
 use Rattle.value_paths.proofs.Singles.{read_alone, rejected_alone}
 use Rattle.value_paths.proofs.wholes.is_read.Goals as goal

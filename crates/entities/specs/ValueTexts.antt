@@ -1,0 +1,15 @@
+-- Defines values as texts.
+use Rattle.std.specs.Prelude.{ℕ, List, Result}
+use Rattle.json_words.specs.ReadsAs.{◌>>=◌, or_fault}
+use Rattle.json_words.specs.Json.{json_of}
+use Rattle.values.specs.Values.{PlainValue}
+use Rattle.schema_types.specs.Cedar.{Cedar}
+use Rattle.entities.specs.declared.value_fault.ValueFault.{ValueFault}
+use Rattle.entities.specs.declared.value_fault.ValueFault.TheVariants.{WrongType}
+use Rattle.entities.specs.Typing.{typed_value}
+
+-- `text_typed t bytes` is the value of the type `t` that `bytes` are parsed as.
+unfoldable pub text_typed : Cedar → List ℕ → Result PlainValue ValueFault
+text_typed t bytes = do
+  d ← or_fault WrongType (json_of bytes)
+  typed_value t d

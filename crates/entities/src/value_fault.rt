@@ -1,0 +1,43 @@
+//! Errors of parsing a value.
+ghost use Rattle.std.specs.Prelude.{◌≡◌};
+
+use plain::NoMemory;
+use std::alloc::AllocFailed;
+use thiserror::Error;
+
+/// An error of parsing a value.
+#[derive(Clone, Copy, PartialEq, Eq, Debug, Error)]
+pub enum ValueFault {
+    /// An allocation failed.
+    #[error("entity 1: out of memory")]
+    NoMemory,
+    /// It is not a value of that type.
+    #[error("entity 35: value of the wrong type")]
+    WrongType,
+    /// A field of a record is not declared.
+    #[error("entity 33: undeclared attribute")]
+    Undeclared,
+    /// A required field of a record is missing.
+    #[error("entity 34: missing required attribute")]
+    Missing,
+}
+
+impl From<NoMemory> for ValueFault {
+    ghost use Rattle.entities.specs.declared.value_fault.ValueFault.TheVariants.{NoMemory};
+
+    ghost from_gives = { λ _ e. e ≡ NoMemory };
+
+    fn from(_error: NoMemory) -> ValueFault {
+        ValueFault::NoMemory
+    }
+}
+
+impl<T: Drop> From<AllocFailed<T>> for ValueFault {
+    ghost use Rattle.entities.specs.declared.value_fault.ValueFault.TheVariants.{NoMemory};
+
+    ghost from_gives = { λ _ e. e ≡ NoMemory };
+
+    fn from(_error: AllocFailed<T>) -> ValueFault {
+        ValueFault::NoMemory
+    }
+}

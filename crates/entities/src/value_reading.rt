@@ -1,0 +1,371 @@
+//! Parsing values by a type.
+ghost use Rattle.std.specs.Prelude.{◌≡◌, option_map};
+ghost use Rattle.serde_json.specs.View.{view, items_view, members_view};
+ghost use Rattle.json_words.specs.ReadsAs.{ReadsAs, AlwaysReadsAs, or_fault};
+ghost use Rattle.json_words.specs.Json.{text_at as text_in_json};
+ghost use Rattle.schema_types.specs.CedarViews.{cedar_view, cedar_fields_view};
+ghost use Rattle.entities.specs.declared.value_fault.ValueFault.TheVariants as ValueFault;
+ghost use Rattle.values.specs.extensions.TextsDecided.{decimal_of, network_of};
+ghost use Rattle.entities.specs.Parts.{element_of, fields_in, declared_at};
+ghost use Rattle.entities.specs.Typing.{plain_call, call_in, argument_in, boolean_in, long_of, long_in, text_in};
+ghost use Rattle.entities.specs.Typing.{entity_in, decimal_in, ipaddr_in, leaf, all_there};
+ghost use Rattle.entities.specs.Typing.{typed_value as typed_of};
+ghost use Rattle.entities.specs.Typing.{record_in};
+ghost use Rattle.entities.specs.inner.Inside.{inside_fault};
+ghost use Rattle.entities.specs.inner.InPlace.{IsInPlace};
+ghost use Rattle.entities.specs.inner.Ahead.{StateAlikeFrom};
+ghost use Rattle.entities.specs.Typing.{typed_items as items_of_type, typed_members as members_of_type};
+
+use crate::value_fault::ValueFault;
+use entity_uids::read_uid;
+use json_words::{only_keys, text_at};
+use plain::{Items, Text};
+use schema_types::CedarType;
+use serde_json::{Map, Value as Json};
+use std::alloc::Global;
+use values::{Decimal, IpNet, Record, TypeName, Value};
+
+type Field = (Text, CedarType, bool);
+
+type Fields = Items<Field>;
+
+// ---- types
+
+/// Returns the type of a set's members.
+fn element(ty: &CedarType) -> Option<&CedarType>
+    ensures { option_map (λ t. cedar_view t.now) result ≡ element_of (cedar_view ty.now) }
+{
+    match ty {
+        CedarType::Set(element) => Some(element.get()),
+        _ => None,
+    }
+}
+
+/// Returns the fields of a record.
+fn fields(ty: &CedarType) -> Option<&Fields>
+    ensures { option_map (λ fs. cedar_fields_view fs.now) result ≡ fields_in (cedar_view ty.now) }
+{
+    match ty {
+        CedarType::Record(fields) => Some(fields.get()),
+        _ => None,
+    }
+}
+
+/// Returns the fields from the first on whose name is not less than this one. The fields before it have other names,
+/// so a caller that looks up names in ascending order need not visit them again.
+fn from_name<'t>(fields: &'t [Field], name: &str) -> &'t [Field]
+    ensures { StateAlikeFrom name.now (cedar_fields_view fields.now) (cedar_fields_view result.now) }
+{
+    for place in 0..fields.len() {
+        if !fields[place].0.as_str().cmp(name).is_lt() {
+            return &fields[place..];
+        }
+    }
+    &[]
+}
+
+/// Returns the type of a field.
+fn declared<'t>(fields: &'t [Field], name: &str) -> Option<&'t CedarType>
+    ensures { option_map (λ t. cedar_view t.now) result ≡ declared_at name.now (cedar_fields_view fields.now) }
+{
+    for field in fields {
+        if field.0.as_str() == name {
+            return Some(&field.1);
+        }
+    }
+    None
+}
+
+/// Returns whether each required field is present.
+fn has_required(fields: &Fields, value: &Json) -> bool
+    ensures { result ≡ all_there (cedar_fields_view fields.now) (view value.now) }
+{
+    for field in fields.as_slice() {
+        if field.2 && value.get(field.0.as_str()).is_none() {
+            return false;
+        }
+    }
+    true
+}
+
+// ---- values that are neither sets nor records
+
+/// Returns the string at a key, which must be present.
+fn read_text_at<'v>(value: &'v Json, key: &str) -> Result<&'v str, ValueFault>
+    ensures { AlwaysReadsAs (λ s. s.now) result
+        (or_fault ValueFault.WrongType (text_in_json key.now (view value.now))) }
+{
+    match text_at(value, key) {
+        Some(text) => Ok(text),
+        None => Err(ValueFault::WrongType),
+    }
+}
+
+/// Returns the argument of a call of this name.
+#[tactic(auto, unfolding(crate::specs::Typing::plain_call))]
+fn read_plain_call<'v>(value: &'v Json, name: &str) -> Result<&'v str, ValueFault>
+    ensures { AlwaysReadsAs (λ s. s.now) result (plain_call name.now (view value.now)) }
+{
+    if !only_keys(value, &["fn", "arg"]) {
+        return Err(ValueFault::WrongType);
+    }
+    let given = read_text_at(value, "fn")?;
+    let argument = read_text_at(value, "arg")?;
+    if given != name {
+        return Err(ValueFault::WrongType);
+    }
+    Ok(argument)
+}
+
+/// Returns the argument of such a call, also under `__extn`.
+#[tactic(auto, unfolding(crate::specs::Typing::call_in))]
+fn read_call<'v>(value: &'v Json, name: &str) -> Result<&'v str, ValueFault>
+    ensures { AlwaysReadsAs (λ s. s.now) result (call_in name.now (view value.now)) }
+{
+    match value.get("__extn") {
+        None => read_plain_call(value, name),
+        Some(inner) => {
+            if !only_keys(value, &["__extn"]) {
+                return Err(ValueFault::WrongType);
+            }
+            read_plain_call(inner, name)
+        }
+    }
+}
+
+/// Returns the argument by itself, or that of a call.
+#[tactic(auto, unfolding(crate::specs::Typing::argument_in))]
+fn read_argument<'v>(value: &'v Json, name: &str) -> Result<&'v str, ValueFault>
+    ensures { AlwaysReadsAs (λ s. s.now) result (argument_in name.now (view value.now)) }
+{
+    match value.as_str() {
+        Some(text) => Ok(text),
+        None => read_call(value, name),
+    }
+}
+
+fn parse_decimal(text: &str) -> Option<Decimal>
+    ensures { result ≡ decimal_of text.now }
+{
+    Decimal::parse(text)
+}
+
+fn parse_network(text: &str) -> Option<IpNet>
+    ensures { result ≡ network_of text.now }
+{
+    IpNet::parse(text)
+}
+
+#[tactic(auto, unfolding(crate::specs::Typing::boolean_in))]
+fn read_boolean(value: &Json) -> Result<Value, ValueFault>
+    ensures { AlwaysReadsAs (λ v. v) result (boolean_in (view value.now)) }
+{
+    match value.as_bool() {
+        Some(b) => Ok(Value::boolean(b)),
+        None => Err(ValueFault::WrongType),
+    }
+}
+
+/// Returns a 64-bit integer as a Long.
+fn long_value(number: i64) -> Result<Value, ValueFault>
+    ensures { AlwaysReadsAs (λ v. v) result (long_of number) }
+{
+    Ok(Value::long(number))
+}
+
+#[tactic(auto, unfolding(crate::specs::Typing::long_in))]
+fn read_long(value: &Json) -> Result<Value, ValueFault>
+    ensures { AlwaysReadsAs (λ v. v) result (long_in (view value.now)) }
+{
+    match value {
+        Json::Number(number) => match number.as_i64() {
+            Some(number) => long_value(number),
+            None => Err(ValueFault::WrongType),
+        },
+        _ => Err(ValueFault::WrongType),
+    }
+}
+
+#[tactic(auto, unfolding(crate::specs::Typing::text_in))]
+fn read_text(alloc: Global, value: &Json) -> Result<Value, ValueFault>
+    ensures { ReadsAs ValueFault.NoMemory (λ v. v) result (text_in (view value.now)) }
+{
+    match value.as_str() {
+        Some(text) => Ok(Value::text(Text::from_str(alloc, text)?)),
+        None => Err(ValueFault::WrongType),
+    }
+}
+
+/// Returns the entity that a value names, which must have this type.
+#[tactic(auto, unfolding(crate::specs::Typing::entity_in))]
+fn read_entity(alloc: Global, value: &Json, name: &TypeName) -> Result<Value, ValueFault>
+    ensures { ReadsAs ValueFault.NoMemory (λ v. v) result (entity_in name.now (view value.now)) }
+{
+    let Some(uid) = read_uid(alloc, value)? else {
+        return Err(ValueFault::WrongType);
+    };
+    if uid.type_name.as_str() != name.as_str() {
+        return Err(ValueFault::WrongType);
+    }
+    Ok(Value::entity(uid))
+}
+
+#[tactic(auto, unfolding(crate::specs::Typing::decimal_in))]
+fn read_decimal(value: &Json) -> Result<Value, ValueFault>
+    ensures { AlwaysReadsAs (λ v. v) result (decimal_in (view value.now)) }
+{
+    let text = read_argument(value, "decimal")?;
+    match parse_decimal(text) {
+        Some(number) => Ok(Value::decimal(number)),
+        None => Err(ValueFault::WrongType),
+    }
+}
+
+#[tactic(auto, unfolding(crate::specs::Typing::ipaddr_in))]
+fn read_network(value: &Json) -> Result<Value, ValueFault>
+    ensures { AlwaysReadsAs (λ v. v) result (ipaddr_in (view value.now)) }
+{
+    let text = read_argument(value, "ip")?;
+    match parse_network(text) {
+        Some(network) => Ok(Value::ipaddr(network)),
+        None => Err(ValueFault::WrongType),
+    }
+}
+
+/// Returns a value that is neither a set nor a record. A boolean, an integer, a decimal or an IP address does not
+/// allocate.
+#[tactic(auto, using(crate::proofs::Nothing::always_reads))]
+fn read_leaf(alloc: Global, value: &Json, ty: &CedarType) -> Result<Value, ValueFault>
+    ensures reads { ReadsAs ValueFault.NoMemory (λ v. v) result (leaf (cedar_view ty.now) (view value.now)) }
+    ensures always { IsInPlace (cedar_view ty.now)
+        → AlwaysReadsAs (λ v. v) result (leaf (cedar_view ty.now) (view value.now)) }
+{
+    match ty {
+        CedarType::Boolean => read_boolean(value),
+        CedarType::Long => read_long(value),
+        CedarType::Text => read_text(alloc, value),
+        CedarType::Entity(name) => read_entity(alloc, value, name),
+        CedarType::Set(_) => Err(ValueFault::WrongType),
+        CedarType::Record(_) => Err(ValueFault::WrongType),
+        CedarType::Decimal => read_decimal(value),
+        CedarType::Ipaddr => read_network(value),
+    }
+}
+
+// ---- all values
+
+/// Returns the error of a value for an error inside it.
+fn inside(fault: ValueFault) -> ValueFault
+    ensures { result ≡ inside_fault fault }
+{
+    match fault {
+        ValueFault::NoMemory => ValueFault::NoMemory,
+        _ => ValueFault::WrongType,
+    }
+}
+
+/// Parses a JSON value as a value of this type.
+///
+/// `WrongType` if it is not one: another kind of JSON, a number that is not a Long, a string that is not a decimal or
+/// an IP address, an entity of another type, a field that the type does not have, or a missing required field. A
+/// boolean, an integer, a decimal or an IP address does not allocate.
+#[cycle(typed_value)]
+#[tactic(auto, unfolding(crate::specs::Typing::typed_value))]
+fn typed_value(alloc: Global, value: &Json, ty: &CedarType) -> Result<Value, ValueFault>
+    ensures reads { ReadsAs ValueFault.NoMemory (λ v. v) result (typed_of (cedar_view ty.now) (view value.now)) }
+    ensures always { IsInPlace (cedar_view ty.now)
+        → AlwaysReadsAs (λ v. v) result (typed_of (cedar_view ty.now) (view value.now)) }
+{
+    match value {
+        Json::Null => read_leaf(alloc, value, ty),
+        Json::Bool(_) => read_leaf(alloc, value, ty),
+        Json::Number(_) => read_leaf(alloc, value, ty),
+        Json::String(_) => read_leaf(alloc, value, ty),
+        Json::Array(items) => {
+            let Some(element) = element(ty) else {
+                return Err(ValueFault::WrongType);
+            };
+            let members = typed_items(alloc, items, element)?;
+            Ok(Value::set(members)?)
+        }
+        Json::Object(members) => match fields(ty) {
+            None => read_leaf(alloc, value, ty),
+            Some(fields) => {
+                let record = match typed_members(alloc, members, fields) {
+                    Ok(record) => record,
+                    Err(fault) => return Err(inside(fault)),
+                };
+                if !has_required(fields, value) {
+                    return Err(ValueFault::WrongType);
+                }
+                Ok(Value::from_record(record))
+            }
+        },
+    }
+}
+
+#[cycle(typed_value)]
+fn typed_items(alloc: Global, items: &Vec<Json>, ty: &CedarType) -> Result<Vec<Value>, ValueFault>
+    ensures { ReadsAs ValueFault.NoMemory (λ vs. vs.items) result
+        (items_of_type (cedar_view ty.now) (items_view items.now.items)) }
+{
+    let mut values = Vec::new(alloc);
+    for item in items {
+        let value = typed_value(alloc, item, ty)?;
+        values.push(value)?;
+    }
+    Ok(values)
+}
+
+#[cycle(typed_value)]
+fn typed_members(
+    alloc: Global,
+    members: &Map<String, Json>,
+    fields: &Fields,
+) -> Result<Record, ValueFault>
+    ensures { ReadsAs ValueFault.NoMemory (λ r. r) result
+        (members_of_type (cedar_fields_view fields.now) (members_view members.now.entries)) }
+{
+    let mut record = Record::new(alloc);
+    let mut rest = fields.as_slice();
+    for (key, member) in members.iter() {
+        let name = key.as_str();
+        rest = from_name(rest, name);
+        let ty = match declared(rest, name) {
+            Some(ty) => ty,
+            None => return Err(ValueFault::Undeclared),
+        };
+        let value = typed_value(alloc, member, ty)?;
+        let name = Text::from_str(alloc, name)?;
+        record.insert(name, value)?;
+    }
+    Ok(record)
+}
+
+/// Parses a JSON object as a record of this type, as for attributes and contexts.
+///
+/// # Errors
+///
+/// The first of these:
+///
+/// - `WrongType`: the value is not an object, or the type is not a record.
+/// - Of the object's members, ascending by key: `Undeclared`, the type has no such field; `WrongType`, its value is
+///   not of the field's type.
+/// - `Missing`: a required field is missing.
+/// - `NoMemory`: an allocation failed; possible at any point.
+#[tactic(auto, unfolding(crate::specs::Typing::record_in))]
+pub fn read_record(alloc: Global, value: &Json, ty: &CedarType) -> Result<Record, ValueFault>
+    ensures { ReadsAs ValueFault.NoMemory (λ r. r) result (record_in (cedar_view ty.now) (view value.now)) }
+{
+    let Some(fields) = fields(ty) else {
+        return Err(ValueFault::WrongType);
+    };
+    let Some(members) = value.as_object() else {
+        return Err(ValueFault::WrongType);
+    };
+    let record = typed_members(alloc, members, fields)?;
+    if !has_required(fields, value) {
+        return Err(ValueFault::Missing);
+    }
+    Ok(record)
+}

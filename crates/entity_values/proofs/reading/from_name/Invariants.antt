@@ -1,7 +1,0 @@
-use Rattle.std.proofs.Common.{drop}
-use Rattle.schema_types.specs.CedarViews.{cedar_fields_view}
-use Rattle.entity_values.specs.inner.Ahead.{StateAlikeFrom}
-use Rattle.entity_values.proofs.reading.from_name.Given as goal
-
-abbrev pub invariant-loop-place : goal.invariant-loop-place
-invariant-loop-place l = StateAlikeFrom l.name (cedar_fields_view l.fields) (cedar_fields_view (drop l.place l.fields))

@@ -1,5 +1,0 @@
-use Rattle.expression_paths.proofs.OnePlace.{one_blame}
-use Rattle.expression_paths.proofs.laws.faults_blame_one_place.Goals as goal
-
-pub returns : goal.returns
-returns c = λ env K x m n g h. one_blame c.expressions_have_one_judgement.ensures env g h

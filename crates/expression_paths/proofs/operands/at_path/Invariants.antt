@@ -1,7 +1,0 @@
-use Rattle.std.proofs.Common.{◌≡◌, drop}
-use Rattle.expression_paths.specs.Places.{follow}
-use Rattle.expression_paths.proofs.operands.at_path.Given as goal
-
--- what is left of the path leads on from here
-abbrev pub invariant-loop-at : goal.invariant-loop-at
-invariant-loop-at l = follow l.path l.whole ≡ follow (drop l.at-index l.path) l.expr

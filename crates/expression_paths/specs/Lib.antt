@@ -1,3 +1,0 @@
-pub mod Blamed
-pub mod Laws
-pub mod Places

@@ -1,5 +1,0 @@
-use Rattle.http_framing.proofs.ReadBack.{is_read_back}
-use Rattle.http_framing.proofs.laws.requests_read_back.Goals as goal
-
-pub returns : goal.returns
-returns c ask fits = is_read_back ask fits

@@ -1,0 +1,12 @@
+use Rattle.std.proofs.Common.{◌≡◌, ◌+◌, ◌*◌, ◌<◌, ◌≤◌, true, take}
+use Rattle.std.specs.List.{list_all}
+use Rattle.std.specs.Char.{is_ascii_digit}
+use Rattle.std.specs.Str.Parse.{digits_value}
+use Rattle.http_streams.proofs.fields.length_of.Given as goal
+
+abbrev pub invariant-loop-b : goal.invariant-loop-b
+invariant-loop-b l =
+    (list_all is_ascii_digit (take l.b-index l.text) ≡ true)
+    × (l.n ≤ 10 * l.most + 9)
+    × (l.n ≤ l.most → l.n ≡ digits_value 10 (take l.b-index l.text))
+    × (l.most < l.n → l.most < digits_value 10 (take l.b-index l.text))

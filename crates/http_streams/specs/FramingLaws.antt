@@ -1,0 +1,22 @@
+-- Defines the theorem that a stream has at most one reply at its front, however it is cut.
+use Rattle.std.specs.Prelude.{◌≡◌, ℕ, List, ◌++◌}
+use Rattle.http_streams.specs.Reply.{IsBadReply, IsUnfinishedReply, ReadsReply}
+
+-- `BeginsWithReply stream status body` holds if some first bytes of `stream` are parsed as this reply.
+abbrev pub BeginsWithReply : List ℕ → ℕ → List ℕ → Type 0
+BeginsWithReply stream status body =
+    (front : List ℕ) × (after : List ℕ) × (rest : List ℕ) × (stream ≡ front ++ after)
+    × ReadsReply front status body rest
+
+-- `BeginsBadly stream` holds if some first bytes of `stream` are rejected.
+abbrev pub BeginsBadly : List ℕ → Type 0
+BeginsBadly stream = (front : List ℕ) × (after : List ℕ) × (stream ≡ front ++ after) × IsBadReply front
+
+-- `HasOneReply stream` holds if `stream` has at most one reply, however it is cut, and is rejected or ends too early
+-- only if it has none, and not both.
+pub record HasOneReply (stream : List ℕ) : Type 0 where
+  pub replies :
+      (s t : ℕ) (a b : List ℕ) → BeginsWithReply stream s a → BeginsWithReply stream t b → (s ≡ t) × (a ≡ b)
+  pub not_bad : (s : ℕ) (a : List ℕ) → BeginsWithReply stream s a → BeginsBadly stream → ⊥
+  pub not_cut_off : (s : ℕ) (a : List ℕ) → BeginsWithReply stream s a → IsUnfinishedReply stream → ⊥
+  pub bad_or_cut_off : BeginsBadly stream → IsUnfinishedReply stream → ⊥

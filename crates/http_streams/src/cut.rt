@@ -1,0 +1,140 @@
+//! Finds where the requests of a stream end.
+ghost use Rattle.std.specs.Prelude.{◌≡◌, ◌≤◌, length, map, take, All};
+ghost use Rattle.httparse.specs.Spans.{IsHeaderWithin, IsRequestOf, IsRequestWithin, header_bytes};
+ghost use Rattle.http_streams.specs.Request.{IsCut, closes, framing, framing_by, needs_length};
+
+use crate::fields::{Announced, FieldValue, asks_to_close, has_header, length_of, values_of};
+use crate::limits::{first_bytes, has_too_many, is_cut_off};
+use crate::{MAX_BODY, MAX_FIELDS, MAX_HEAD};
+use http::{Method, StatusCode};
+use httparse::Status as Parsed;
+use httparse::spans::{HeaderSpan, RequestSpans, Span, parse_request};
+
+/// The length of a body, or the status with which its head is rejected.
+#[derive(Clone, Copy)]
+pub enum Framing {
+    Body(usize),
+    Refused(StatusCode),
+}
+
+/// The byte offsets of the parts of a request.
+#[derive(Clone, Copy)]
+pub struct Parts {
+    pub method: Span,
+    pub target: Span,
+    /// The offset at which the body begins.
+    pub body: usize,
+    /// The offset at which the body, and so the request, ends.
+    pub end: usize,
+    /// Whether the reply to this request is the last one.
+    pub closes: bool,
+}
+
+/// The result of cutting the front of some bytes.
+#[derive(Clone, Copy)]
+pub enum Cut {
+    Whole(Parts),
+    Refused(StatusCode),
+    /// Less than a request, also with more bytes as long as all are fewer than this number: the length that a whole
+    /// head asks for, or 0 if the head is not whole.
+    Unfinished(usize),
+}
+
+/// Returns the framing by one announced length.
+fn framing_by(length: Announced) -> Framing
+    ensures { result ≡ framing_by length }
+{
+    match length {
+        Announced::Size(size) => Framing::Body(size),
+        Announced::TooLong => Framing::Refused(StatusCode::PAYLOAD_TOO_LARGE),
+        Announced::NoNumber => Framing::Refused(StatusCode::BAD_REQUEST),
+    }
+}
+
+/// Returns whether a request with this method must announce its length.
+fn needs_length(method: &[u8]) -> bool
+    ensures { result ≡ needs_length method.now }
+{
+    method == Method::PUT.as_str().as_bytes() || method == Method::POST.as_str().as_bytes()
+}
+
+/// Returns the length of the body, or the status with which the head is rejected.
+fn framing_at(buf: &[u8], headers: &[HeaderSpan], method: &[u8]) -> Framing
+    requires { All (IsHeaderWithin (length buf.now)) headers.now }
+    ensures { result ≡ framing method.now (map (header_bytes buf.now) headers.now) }
+{
+    if has_header(buf, headers, b"transfer-encoding") {
+        return Framing::Refused(StatusCode::NOT_IMPLEMENTED);
+    }
+    match values_of(buf, headers, b"content-length") {
+        FieldValue::Absent if needs_length(method) => Framing::Refused(StatusCode::LENGTH_REQUIRED),
+        FieldValue::Absent => Framing::Body(0),
+        FieldValue::Once(text) => framing_by(length_of(text, MAX_BODY)),
+        FieldValue::Many => Framing::Refused(StatusCode::BAD_REQUEST),
+    }
+}
+
+/// Returns whether the connection ends after the request.
+fn closes(buf: &[u8], headers: &[HeaderSpan], minor: u8) -> bool
+    requires { All (IsHeaderWithin (length buf.now)) headers.now }
+    ensures { result ≡ closes minor (map (header_bytes buf.now) headers.now) }
+{
+    if minor == 0 {
+        return true;
+    }
+    for header in headers {
+        if asks_to_close(buf, header) {
+            return true;
+        }
+    }
+    false
+}
+
+/// Cuts the front of `buf`, whose first bytes `seen` begin with the head.
+fn cut_body(buf: &[u8], seen: &[u8], headers: &[HeaderSpan], head: &RequestSpans) -> Cut
+    requires seen { seen.now ≡ take MAX_HEAD buf.now }
+    requires few { length headers.now ≤ MAX_FIELDS }
+    requires count { length headers.now ≡ head.now.headers }
+    requires within { IsRequestWithin seen.now headers.now head.now }
+    requires complete { IsRequestOf seen.now headers.now head.now }
+    ensures { IsCut buf.now result }
+{
+    let left = buf.len() - head.len;
+    match framing_at(seen, headers, head.method.of(seen)) {
+        Framing::Refused(status) => Cut::Refused(status),
+        Framing::Body(size) => {
+            if is_cut_off(left, size) {
+                return Cut::Unfinished(head.len + size);
+            }
+            Cut::Whole(Parts {
+                method: head.method,
+                target: head.path,
+                body: head.len,
+                end: head.len + size,
+                closes: closes(seen, headers, head.version),
+            })
+        }
+    }
+}
+
+/// Cuts the front of `buf`: a whole request, a rejected one, or less than one.
+///
+/// `room` has a header for each byte that a head may have, so that a head with too many fields is seen whole. Does
+/// not allocate.
+pub fn cut_request(buf: &[u8], room: &mut [HeaderSpan]) -> Cut
+    requires { MAX_HEAD ≤ length room.old }
+    ensures { IsCut buf.now result }
+{
+    let seen = first_bytes(buf);
+    match parse_request(seen, room) {
+        Ok(Parsed::Complete(head)) => {
+            if has_too_many(head.headers) {
+                return Cut::Refused(StatusCode::BAD_REQUEST);
+            }
+            cut_body(buf, seen, &room[..head.headers], &head)
+        }
+        Ok(Parsed::Partial) if buf.len() <= MAX_HEAD => Cut::Unfinished(0),
+        Ok(Parsed::Partial) => Cut::Refused(StatusCode::BAD_REQUEST),
+        Err(_) => Cut::Refused(StatusCode::BAD_REQUEST),
+    }
+}

@@ -1,0 +1,29 @@
+//! Theorems about the reply at the front of a stream, and about a request that is sent.
+ghost use Rattle.std.specs.Prelude.{◌≡◌, ℕ, List};
+ghost use Rattle.http_streams.specs.FramingLaws.{HasOneReply};
+ghost use Rattle.http_streams.specs.Sent.{FitsLimits, IsReadBack};
+ghost use Rattle.http_streams.specs.declared.parts.Ask.{Ask};
+
+use crate::{MAX_BODY, MAX_FIELDS, MAX_HEAD, MAX_REPLY};
+
+/// Proves that the reply of a stream does not depend on how the stream is cut into reads: there is at most one reply,
+/// there is none if the stream is rejected or ends too early, and the stream is not rejected if it ends too early.
+/// No-op.
+pub fn one_reply()
+    ensures { (stream : List ℕ) → HasOneReply stream }
+{}
+
+/// Proves the round trip of requests: the text of an `Ask` within the limits is one request with exactly its method,
+/// target, host and body and nothing left over, as `cut_request` finds; any shorter beginning is unfinished. No-op.
+pub fn requests_read_back()
+    ensures { (ask : Ask) → FitsLimits ask → IsReadBack ask }
+{}
+
+/// Proves the limits of docs/formats.md: a head has at most 16,384 bytes with its empty line, and 64 fields; the body
+/// of a request has at most 8,388,608 bytes, that of a reply that is fetched 67,108,864. No-op.
+pub fn limits_are_as_stated()
+    ensures head { MAX_HEAD ≡ 16_384 }
+    ensures fields { MAX_FIELDS ≡ 64 }
+    ensures body { MAX_BODY ≡ 8_388_608 }
+    ensures reply { MAX_REPLY ≡ 67_108_864 }
+{}

@@ -1,7 +1,0 @@
-use Rattle.std.proofs.Common.{rules}
-use Rattle.http_texts.specs.ReplyText.{length_lines}
-use Rattle.http_texts.proofs.reply.put_length.Goals as goal
-
-pub returns-clause-text : goal.returns-clause-text
-unfolding length_lines
-returns-clause-text c = search rules

@@ -1,5 +1,0 @@
-use Rattle.json_values.proofs.ArrayLemmas.{no_text}
-use Rattle.json_values.proofs.array_members.members_of.Goals as goal
-
-pub returns-in-None-clause-begun : goal.returns-in-None-clause-begun
-returns-in-None-clause-begun c = no_text c.args.bytes.now c.in-None.ensures

@@ -1,0 +1,106 @@
+//! The members of an array, one after another: a caller holds one member's value at a time, and not the whole
+//! array's.
+ghost use Rattle.std.specs.Prelude.{◌≡◌, ◌<◌, length, is_some, IfOk, IfSome, MatchOption};
+ghost use Rattle.std.specs.Str.{IsUtf8};
+ghost use Rattle.json.specs.Lex.{tokens};
+ghost use Rattle.json_words.specs.Arrays.{array_of, to_come, Tells, IsFewer};
+
+use crate::reading::{opens_array, value_in};
+use crate::with_scratch::{MOST_DEPTH, text_of};
+use json::{Reader, Scratch};
+use plain::NoMemory;
+use serde_json::Value;
+use std::alloc::Global;
+
+/// The remaining members of a JSON array.
+#[derive(Drop)]
+pub struct Members<'a> {
+    reader: Reader<'a>,
+}
+
+/// The next member of an array, or its end.
+#[derive(Drop)]
+pub enum Member {
+    /// The next member, if the text is JSON. If it turns out not to be JSON, this value means nothing.
+    Value(Value),
+    /// The array ends, and the text with it.
+    End,
+    /// The text is not JSON.
+    NotJson,
+}
+
+/// Returns the members of the array that bytes begin with, or `None` if the bytes are not a JSON array. If they are
+/// not JSON, members may be returned nevertheless, and end in [`Member::NotJson`].
+///
+/// Whether the bytes are JSON shows as the members are read: [`Member::NotJson`] then takes the place of
+/// [`Member::End`]. The last value of a duplicate key counts, and arrays and objects nest at most 127 deep, including
+/// the array itself. The scratch grows to the longest string; its earlier content does not matter. The only error is
+/// `NoMemory`.
+pub fn members_of<'a>(
+    scratch: &'a mut Scratch,
+    bytes: &'a [u8],
+) -> Result<Option<Members<'a>>, NoMemory>
+    ensures begun { IfOk result (λ o. MatchOption o (array_of bytes.now ≡ None)
+        (λ members. array_of bytes.now ≡ to_come members)) }
+    ensures fewer { IfOk result (λ o. IfSome o (λ members. length members.reader < length bytes.now)) }
+{
+    match text_of(bytes) {
+        Some(text) => members_in(scratch, text),
+        None => Ok(None),
+    }
+}
+
+/// Returns the members of the array that a text begins with.
+fn members_in<'a>(scratch: &'a mut Scratch, text: &'a str) -> Result<Option<Members<'a>>, NoMemory>
+    requires { IsUtf8 text.now }
+    ensures begun { IfOk result (λ o. MatchOption o (array_of text.now ≡ None)
+        (λ members. array_of text.now ≡ to_come members)) }
+    ensures fewer { IfOk result (λ o. IfSome o (λ members. length members.reader < length text.now)) }
+{
+    let mut reader = Reader::new(text, scratch)?;
+    let token = match reader.next() {
+        Some(token) => token,
+        None => return Ok(None),
+    };
+    if opens_array(&token) {
+        Ok(Some(Members { reader }))
+    } else {
+        Ok(None)
+    }
+}
+
+impl<'a> Members<'a> {
+    /// Returns the next member, or that the array and the text end, or that the text is not JSON.
+    ///
+    /// The only error is `NoMemory`. After an error, the end, or text that is not JSON, further results say nothing.
+    pub fn next(&mut self, alloc: Global) -> Result<Member, NoMemory>
+        ensures told { IfOk result (λ member. Tells member (to_come self.old) (to_come self.new)) }
+        ensures fewer { IfOk result (λ member. IsFewer member (length self.old.reader) (length self.new.reader)) }
+    {
+        if self.reader.take_end_array() {
+            return match self.reader.next() {
+                None => Ok(Member::End),
+                Some(_) => Ok(Member::NotJson),
+            };
+        }
+        match value_in(alloc, &mut self.reader, MOST_DEPTH - 1)? {
+            Some(value) => Ok(Member::Value(value)),
+            None => Ok(Member::NotJson),
+        }
+    }
+
+    /// Returns whether the rest is JSON, to the end of the text. Each member is dropped as soon as it is read.
+    ///
+    /// So an error of one member can be reported only for text that is JSON. The only error is `NoMemory`.
+    pub fn rest_is_json(&mut self, alloc: Global) -> Result<bool, NoMemory>
+        ensures { IfOk result (λ b. b ≡ is_some (to_come self.old)) }
+    {
+        'rest: loop {
+            match self.next(alloc)? {
+                Member::Value(value) => drop(value),
+                Member::End => return Ok(true),
+                Member::NotJson => return Ok(false),
+            }
+        }
+    }
+}

@@ -1,0 +1,60 @@
+//! Parses the text of a JSON number.
+ghost use Rattle.std.specs.Prelude.{◌≡◌, ◌<◌, ◌==◌, length, slice_index, option_map, IsTrue, true, false};
+ghost use Rattle.fast_float.specs.Text.{minus};
+ghost use Rattle.serde_json.specs.Read.{number_of, number_from, float_of};
+ghost use Rattle.serde_json.specs.View.{number_view};
+
+use fast_float::Numeral;
+use serde_json::Number;
+
+/// Returns the number that a text denotes, or `None` if it is too large for a float.
+///
+/// An integer that fits in 64 bits stays an integer, except `-0`, which is a float like all other numbers.
+pub(crate) fn number_in(text: &str) -> Option<Number>
+    ensures { option_map number_view result ≡ number_of text.now }
+{
+    let bytes = text.as_bytes();
+    if is_signed(bytes) {
+        below_zero(&Numeral::scan(&bytes[1..]))
+    } else {
+        from_zero(&Numeral::scan(bytes))
+    }
+}
+
+/// Returns whether the first byte is a minus.
+fn is_signed(bytes: &[u8]) -> bool
+    ensures value { result ≡ (slice_index bytes.now 0 == minus) }
+    ensures some { IsTrue result → 0 < length bytes.now }
+{
+    match bytes.first() {
+        Some(first) => *first == b'-',
+        None => false,
+    }
+}
+
+/// Returns the number that digits without a sign denote.
+fn from_zero(digits: &Numeral<'_>) -> Option<Number>
+    ensures { option_map number_view result ≡ number_from false digits.now }
+{
+    match digits.to_u64() {
+        Some(n) => Some(Number::from(n)),
+        None => nearest(digits, false),
+    }
+}
+
+/// Returns the number that digits after a minus denote.
+fn below_zero(digits: &Numeral<'_>) -> Option<Number>
+    ensures { option_map number_view result ≡ number_from true digits.now }
+{
+    match digits.to_i64(true) {
+        Some(n) if n < 0 => Some(Number::from(n)),
+        _ => nearest(digits, true),
+    }
+}
+
+/// Returns the float nearest to the number that digits denote, after a minus if `negative`; `None` if it is not finite.
+fn nearest(digits: &Numeral<'_>, negative: bool) -> Option<Number>
+    ensures { option_map number_view result ≡ float_of negative digits.now }
+{
+    Number::from_f64(digits.to_float::<f64>(negative))
+}

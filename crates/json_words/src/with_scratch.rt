@@ -1,0 +1,60 @@
+//! Parsing of JSON values that reuses memory from text to text.
+//!
+//! `serde_json::Value::from_slice` allocates 16 KiB for each text, and sets each byte of them to zero. A caller that
+//! parses many texts keeps one [`Scratch`] and passes it here.
+ghost use Rattle.std.specs.Prelude.{◌≡◌, ◌≤◌, option_map, IfOk, IfSome, MatchOption};
+ghost use Rattle.std.specs.Str.{IsUtf8};
+ghost use Rattle.serde_json.specs.Data.{depth};
+ghost use Rattle.serde_json.specs.Read.{max_depth, read};
+ghost use Rattle.serde_json.specs.View.{view};
+ghost use Rattle.json_words.specs.Json.{json_of};
+
+use crate::reading::value_in;
+use json::{Reader, Scratch};
+use plain::NoMemory;
+use serde_json::Value;
+use std::alloc::Global;
+
+pub(crate) const MOST_DEPTH: usize = 127;
+
+/// Parses JSON. Returns `None` if the bytes are not UTF-8 or not JSON, nest deeper than 127, or have half of a
+/// surrogate pair in an escape or a number beyond a double.
+///
+/// The last value of a duplicate key counts. The scratch grows to the longest string; its earlier content does not
+/// matter. The only error is `NoMemory`.
+pub fn read_json_by(
+    scratch: &mut Scratch,
+    alloc: Global,
+    bytes: &[u8],
+) -> Result<Option<Value>, NoMemory>
+    ensures value { IfOk result (λ o. option_map view o ≡ json_of bytes.now) }
+    ensures nests { IfOk result (λ o. IfSome o (λ v. depth (view v) ≤ max_depth)) }
+{
+    match text_of(bytes) {
+        Some(text) => read_text(scratch, alloc, text),
+        None => Ok(None),
+    }
+}
+
+/// Returns the bytes as a string, if they are UTF-8.
+pub(crate) fn text_of(bytes: &[u8]) -> Option<&str>
+    ensures { MatchOption result (¬ IsUtf8 bytes.now) (λ t. IsUtf8 bytes.now × (t.now ≡ bytes.now)) }
+{
+    match str::from_utf8(bytes) {
+        Ok(text) => Some(text),
+        Err(_) => None,
+    }
+}
+
+/// Returns the JSON value of a text, or `None`.
+fn read_text(scratch: &mut Scratch, alloc: Global, text: &str) -> Result<Option<Value>, NoMemory>
+    ensures value { IfOk result (λ o. option_map view o ≡ read text.now) }
+    ensures nests { IfOk result (λ o. IfSome o (λ v. depth (view v) ≤ max_depth)) }
+{
+    let mut reader = Reader::new(text, scratch)?;
+    let value = value_in(alloc, &mut reader, MOST_DEPTH)?;
+    match reader.next() {
+        Some(_) => Ok(None),
+        None => Ok(value),
+    }
+}

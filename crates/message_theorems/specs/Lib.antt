@@ -1,6 +1,0 @@
-pub mod Forms
-pub mod Updates
-pub mod Summaries
-pub mod Texts
-pub mod Messages
-pub mod Laws

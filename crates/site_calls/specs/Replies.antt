@@ -1,0 +1,61 @@
+-- Defines the reply, a status and a body, to each outcome of a request.
+-- Source: docs/formats.md, of the routes.
+use Rattle.std.specs.Prelude.{◌≡◌, ◌⊎◌, ℕ, List, Option, Some, None, Result, Ok, Err}
+use Rattle.http.specs.declared.status.StatusCode.{StatusCode}
+use Rattle.site.specs.site_steps.stamped_store.declared.entry.Stamp.{Stamp}
+use Rattle.answer_lines.specs.authoriser.declared.answer.Answer.{Answer}
+use Rattle.answer_lines.specs.Lines.{answer_line}
+use Rattle.site.specs.site_steps.declared.fault.SiteFault.{SiteFault}
+use Rattle.site.specs.site_steps.declared.fault.SiteFault.TheVariants as fault
+use Rattle.site.specs.site_steps.declared.outcome.Put.{Put}
+use Rattle.site.specs.site_steps.declared.outcome.Taken.{Taken}
+use Rattle.site.specs.site_steps.declared.outcome.Taken.TheVariants.{All, Short}
+use Rattle.site.specs.site_steps.Faults.{code_of, place_of, within_of}
+use Rattle.site_calls.specs.Statuses.{refusal_status}
+use Rattle.site_calls.specs.Lines.{fault_line, found_line, put_line, stamp_line, taken_line}
+
+-- `fault_reply f` is the reply to an error of the site.
+abbrev pub fault_reply : SiteFault → StatusCode × List ℕ
+fault_reply f = (refusal_status (code_of f), fault_line (code_of f) (place_of f) (within_of f))
+
+-- `status_reply s` is the reply to an error without a code: its status takes the place of the code.
+abbrev pub status_reply : StatusCode → StatusCode × List ℕ
+status_reply s = (s, fault_line s None None)
+
+-- `put_reply r` is the reply to a put of a policy.
+abbrev pub put_reply : Result Put SiteFault → StatusCode × List ℕ
+put_reply (Ok put) = (200, put_line put.stamp put.impossible)
+put_reply (Err f) = fault_reply f
+
+-- `stamp_reply r` is the reply to a put of an entity, and to a deletion.
+abbrev pub stamp_reply : Result Stamp SiteFault → StatusCode × List ℕ
+stamp_reply (Ok stamp) = (200, stamp_line stamp)
+stamp_reply (Err f) = fault_reply f
+
+-- `taken_reply r` is the reply to a message: the number of applied updates. If memory ran out on the way, the error's
+-- place is that number.
+abbrev pub taken_reply : Result Taken SiteFault → StatusCode × List ℕ
+taken_reply (Ok (All count)) = (200, taken_line count)
+taken_reply (Ok (Short count)) = (503, fault_line 1 (Some count) None)
+taken_reply (Err f) = fault_reply f
+
+-- `answer_reply r` is the reply to a request for a decision.
+abbrev pub answer_reply : Result Answer SiteFault → StatusCode × List ℕ
+answer_reply (Ok answer) = (200, answer_line answer)
+answer_reply (Err f) = fault_reply f
+
+-- `found_reply o` is the reply to a query for a policy: its text and stamp, or the error that it has no text.
+abbrev pub found_reply : Option (List ℕ × Stamp) → StatusCode × List ℕ
+found_reply (Some found) = (200, found_line found.0 found.1)
+found_reply None = fault_reply fault.NotThere
+
+-- `message_reply r` is the reply to a query for a state, a summary or a delta: the message.
+abbrev pub message_reply : Result (List ℕ) SiteFault → StatusCode × List ℕ
+message_reply (Ok bytes) = (200, bytes)
+message_reply (Err f) = fault_reply f
+
+-- `IsReplyOrNoMemory reply told body` holds if status `told` and `body` are those of `reply`; or, if `reply` is not an
+-- error, those of `NoMemory`.
+abbrev pub IsReplyOrNoMemory : StatusCode × List ℕ → StatusCode → List ℕ → Type 0
+IsReplyOrNoMemory reply told body =
+    ((told, body) ≡ reply) ⊎ ((reply.0 ≡ 200) × ((told, body) ≡ fault_reply fault.NoMemory))

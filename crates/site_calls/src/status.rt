@@ -1,0 +1,17 @@
+//! Statuses of errors.
+ghost use Rattle.std.specs.Prelude.{◌≡◌};
+ghost use Rattle.site_calls.specs.Statuses.{refusal_status};
+
+use http::StatusCode;
+
+/// Returns the status of a code.
+pub(crate) fn refusal_status(code: u8) -> StatusCode
+    ensures { result ≡ refusal_status code }
+{
+    match code {
+        60 => StatusCode::NOT_FOUND,
+        61 | 62 => StatusCode::CONFLICT,
+        1 => StatusCode::SERVICE_UNAVAILABLE,
+        _ => StatusCode::UNPROCESSABLE_ENTITY,
+    }
+}

@@ -1,0 +1,26 @@
+use Rattle.sync_messages.proofs.UpdatesRead.{updates_given, updates_outcome, updates_written}
+use Rattle.sync_messages.proofs.as_stated.updates_are_read_as_stated.Goals as goal
+
+pub returns-clause-read : goal.returns-clause-read
+returns-clause-read c = updates_given (record {
+  uids = c.names_read_back.ensures.found;
+  names = c.stamps_read_back.ensures.names;
+  tested = c.site_names_are_told.ensures.tested;
+  digits = c.site_names_are_told.ensures.digits;
+}) c.json_keys_ascend.ensures
+
+pub returns-clause-one : goal.returns-clause-one
+returns-clause-one c = updates_outcome (record {
+  uids = c.names_read_back.ensures.found;
+  names = c.stamps_read_back.ensures.names;
+  tested = c.site_names_are_told.ensures.tested;
+  digits = c.site_names_are_told.ensures.digits;
+}) c.json_keys_ascend.ensures
+
+pub returns-clause-written : goal.returns-clause-written
+returns-clause-written c = updates_written (record {
+  uids = c.names_read_back.ensures.found;
+  names = c.stamps_read_back.ensures.names;
+  tested = c.site_names_are_told.ensures.tested;
+  digits = c.site_names_are_told.ensures.digits;
+}) c.json_keys_ascend.ensures

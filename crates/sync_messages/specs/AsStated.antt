@@ -1,0 +1,86 @@
+-- Defines the theorems: each relation holds of the result of the parsing function, only of that, and of one result.
+use Rattle.std.specs.Prelude.{◌≡◌, ◌↔◌, ◌⊎◌, ℕ, List, Some, Ok, codes}
+use Rattle.serde_json.specs.Data.{Data}
+use Rattle.json_words.specs.Json.{json_of}
+use Rattle.values.specs.declared.entity_uid.EntityUid.{EntityUid}
+use Rattle.stamped_store.specs.Store.{Update as PlainUpdate}
+use Rattle.stamped_store.specs.Deltas.{Summary}
+use Rattle.message_format.specs.policy_grammar.declared.policy.Policy.{Policy}
+use Rattle.message_format.specs.declared.fault.MessageFault.{MessageFault}
+use Rattle.message_format.specs.declared.update.Update.{Update}
+use Rattle.message_format.specs.Messages.{updates_stated, message_json}
+use Rattle.message_format.specs.Summaries.{summary_stated, summary_json}
+use Rattle.validator.specs.entities.schema.Schemas.{StatedSchema}
+use Rattle.validator.specs.entities.entity_data.declared.entity.Entity.{Entity}
+use Rattle.sync_messages.specs.Texts.{entity_of_text}
+use Rattle.sync_messages.specs.Messages.{IsMessageOf, IsMessageFaultOf}
+use Rattle.validator.specs.entities.schema.Agreement.{Gives, HasOneOutcome}
+use Rattle.sync_messages.specs.MessageForms.{HasVersion}
+use Rattle.sync_messages.specs.StatedUpdates.{StatesUpdates, RefusesUpdates}
+use Rattle.sync_messages.specs.StatedSummaries.{StatesSummary, RefusesSummary}
+use Rattle.sync_messages.specs.StatedTexts.{StatesText, RefusesText}
+use Rattle.sync_messages.specs.StatedMessages.{StatesMessage, RefusesMessage}
+
+-- ---- states and deltas, before their texts are parsed
+
+-- `UpdatesAreRead`: the function gives the updates that bytes state for the schema `label`, or the error if they
+-- state none.
+abbrev pub UpdatesAreRead : Type 0
+UpdatesAreRead = (label bytes : List ℕ)
+    → Gives (updates_stated label bytes) (StatesUpdates label bytes) (RefusesUpdates label bytes)
+
+-- `UpdatesHaveOneOutcome`: bytes state exactly one list of updates, or are rejected with exactly one error, and never
+-- both.
+abbrev pub UpdatesHaveOneOutcome : Type 0
+UpdatesHaveOneOutcome = (label bytes : List ℕ)
+    → HasOneOutcome (StatesUpdates label bytes) (RefusesUpdates label bytes)
+
+-- `UpdatesAreWritten`: bytes of version 2 that are parsed as updates are JSON with exactly the keys and values that are
+-- written for these updates, as a state or as a delta.
+abbrev pub UpdatesAreWritten : Type 0
+UpdatesAreWritten = (label bytes : List ℕ) (d : Data) (us : List PlainUpdate) → json_of bytes ≡ Some d → HasVersion d 2
+    → updates_stated label bytes ≡ Ok us
+    → (d ≡ message_json (codes "state") label us) ⊎ (d ≡ message_json (codes "delta") label us)
+
+-- ---- summaries
+
+-- `SummariesAreRead`: the function gives the summary that bytes state for the schema `label`, or the error if they
+-- state none.
+abbrev pub SummariesAreRead : Type 0
+SummariesAreRead = (label bytes : List ℕ)
+    → Gives (summary_stated label bytes) (StatesSummary label bytes) (RefusesSummary label bytes)
+
+-- `SummariesHaveOneOutcome`: bytes state exactly one summary, or are rejected with exactly one error, and never both.
+abbrev pub SummariesHaveOneOutcome : Type 0
+SummariesHaveOneOutcome = (label bytes : List ℕ)
+    → HasOneOutcome (StatesSummary label bytes) (RefusesSummary label bytes)
+
+-- `SummariesAreWritten`: bytes of version 2 that are parsed as a summary are JSON with exactly the keys and values that
+-- are written for it.
+abbrev pub SummariesAreWritten : Type 0
+SummariesAreWritten = (label bytes : List ℕ) (d : Data) (m : Summary) → json_of bytes ≡ Some d → HasVersion d 2
+    → summary_stated label bytes ≡ Ok m → d ≡ summary_json label m
+
+-- ---- texts of entities
+
+-- `TextsAreRead`: the function gives the entity of which a text is the canonical one, or the error of the text.
+abbrev pub TextsAreRead : Type 0
+TextsAreRead = (s : StatedSchema) (uid : EntityUid) (text : List ℕ)
+    → Gives (entity_of_text s uid text) (StatesText s uid text) (RefusesText s uid text)
+
+-- ---- messages of a schema
+
+-- `MessageIsRead s bytes` holds if the updates that are read, or the first error, are those that `bytes` state.
+pub record MessageIsRead (s : StatedSchema) (bytes : List ℕ) : Type 0 where
+  pub states : (us : List (Update Policy Entity)) → IsMessageOf s bytes us ↔ StatesMessage s bytes us
+  pub refuses : (f : MessageFault) → IsMessageFaultOf s bytes f ↔ RefusesMessage s bytes f
+
+-- `MessagesAreRead`: so it is of all bytes, under each schema.
+abbrev pub MessagesAreRead : Type 0
+MessagesAreRead = (s : StatedSchema) (bytes : List ℕ) → MessageIsRead s bytes
+
+-- `MessagesHaveOneOutcome`: under each schema, bytes state exactly one list of updates with their texts parsed, or
+-- are rejected with exactly one error, and never both.
+abbrev pub MessagesHaveOneOutcome : Type 0
+MessagesHaveOneOutcome = (s : StatedSchema) (bytes : List ℕ)
+    → HasOneOutcome (StatesMessage s bytes) (RefusesMessage s bytes)

@@ -1,0 +1,56 @@
+-- Defines the updates of a state or delta under a schema, with the parsed texts, and the first error of bytes that are
+-- neither.
+-- Source: docs/formats.md, "Messages between sites".
+-- Rules of this product: a message is rejected as a whole: by its form and its schema, then by the first entry whose
+-- count, name or body is in error.
+use Rattle.std.specs.Prelude.{ℕ, suc, List, ◌∷◌}
+use Rattle.std.specs.List.{AllByRecursion}
+use Rattle.stamped_store.specs.Store.{Update as PlainUpdate}
+use Rattle.message_format.specs.policy_grammar.declared.policy.Policy.{Policy}
+use Rattle.message_format.specs.declared.bodies.BodyFault.{BodyFault}
+use Rattle.message_format.specs.declared.fault.MessageFault.{MessageFault}
+use Rattle.message_format.specs.declared.update.Update.{Update}
+use Rattle.message_format.specs.Updates.{plain_updates, stamped, fault_at, IsUpdateRead, IsValid, IsUnreadable}
+use Rattle.validator.specs.entities.schema.Schemas.{StatedSchema}
+use Rattle.validator.specs.entities.entity_data.declared.entity.Entity.{Entity}
+use Rattle.sync_messages.specs.Texts.{ReadsPolicy, RefusesPolicy}
+use Rattle.sync_messages.specs.StatedUpdates.{StatesUpdates, RefusesUpdates}
+use Rattle.sync_messages.specs.StatedSummaries.{Fits, RefusesRanges}
+use Rattle.sync_messages.specs.StatedTexts.{StatesText, RefusesText}
+
+-- `HasTextsOf s us` holds if each text of `us` is that of the policy or entity in its update, under the schema `s`: a
+-- policy that passes validation, or the canonical text of an entity with the uid in the name.
+abbrev pub HasTextsOf : StatedSchema → List (Update Policy Entity) → Type 0
+HasTextsOf s us = AllByRecursion (IsUpdateRead (λ id. ReadsPolicy s) (StatesText s)) us
+
+-- `HasBody s u` holds if the body of `u` is null or such a text.
+abbrev pub HasBody : StatedSchema → PlainUpdate → Type 0
+HasBody s u = IsValid (λ id. ReadsPolicy s) (StatesText s) u
+
+-- `RefusesBody s u fault` holds if the body of `u` is a text that `s` rejects under the name of `u`, with the error
+-- `fault`.
+abbrev pub RefusesBody : StatedSchema → PlainUpdate → BodyFault → Type 0
+RefusesBody s u fault = IsUnreadable (λ id. RefusesPolicy s) (RefusesText s) u.0 u.1.body fault
+
+-- `RefusesEntries s place us fault` holds if `fault` is the first error of the entries `us`, the first of which has the
+-- index `place`.
+pub data RefusesEntries (s : StatedSchema) : ℕ → List PlainUpdate → MessageFault → Type 0 where
+  bad_ranges : (place : ℕ) (u : PlainUpdate) (us : List PlainUpdate) (fault : MessageFault)
+      → RefusesRanges place (stamped u) fault → RefusesEntries s place (u ∷ us) fault
+  bad_body : (place : ℕ) (u : PlainUpdate) (us : List PlainUpdate) (within : BodyFault) → Fits (stamped u)
+      → RefusesBody s u within → RefusesEntries s place (u ∷ us) (fault_at place within)
+  later_entry : (place : ℕ) (u : PlainUpdate) (us : List PlainUpdate) (fault : MessageFault) → Fits (stamped u)
+      → HasBody s u → RefusesEntries s (suc place) us fault → RefusesEntries s place (u ∷ us) fault
+
+-- `StatesMessage s bytes us` holds if `bytes` are a state or delta of the schema `s` with the updates `us`.
+pub record StatesMessage (s : StatedSchema) (bytes : List ℕ) (us : List (Update Policy Entity)) : Type 0 where
+  pub stated : StatesUpdates s.label bytes (plain_updates us)
+  pub fit : AllByRecursion (λ u. Fits (stamped u)) (plain_updates us)
+  pub have_texts : HasTextsOf s us
+
+-- `RefusesMessage s bytes fault` holds if `bytes` is not a message, and `fault` is the first error: of the form, of
+-- the schema, and then of an entry.
+pub data RefusesMessage (s : StatedSchema) (bytes : List ℕ) : MessageFault → Type 0 where
+  no_updates : (fault : MessageFault) → RefusesUpdates s.label bytes fault → RefusesMessage s bytes fault
+  bad_entries : (us : List PlainUpdate) (fault : MessageFault) → StatesUpdates s.label bytes us
+      → RefusesEntries s 0 us fault → RefusesMessage s bytes fault

@@ -1,0 +1,35 @@
+-- Defines which text is the canonical text of which entity, and the error of other texts.
+-- Source: Cedar reference guide 4.0, "Entities and context: JSON format".
+-- Rules of this product: the order of the errors: 30 for a text that is not JSON, the error of the entity, 57 for
+-- another spelling than the canonical one, and the uid of another entity.
+use Rattle.std.specs.Prelude.{◌≡◌, ℕ, List, Some, None}
+use Rattle.serde_json.specs.Data.{Data}
+use Rattle.json_words.specs.Json.{json_of}
+use Rattle.values.specs.declared.entity_uid.EntityUid.{EntityUid}
+use Rattle.message_format.specs.declared.bodies.BodyFault.{BodyFault}
+use Rattle.message_format.specs.declared.bodies.BodyFault.TheVariants.{Refused, OtherName}
+use Rattle.validator.specs.entities.schema.Schemas.{StatedSchema}
+use Rattle.validator.specs.entities.entity_data.declared.entity.Entity.{Entity}
+use Rattle.validator.specs.entities.declared.fault.EntityFault.{EntityFault}
+use Rattle.validator.specs.entities.Faults.{code_of}
+use Rattle.validator.specs.entities.Canonical.{canonical_text}
+use Rattle.validator.specs.entities.StatedEntities.{StatesEntity, RefusesEntity}
+
+-- `StatesText s uid text e` holds if `text` is the JSON of the entity `e` under the schema `s`, in its canonical
+-- spelling, and the uid of `e` is `uid`.
+pub record StatesText (s : StatedSchema) (uid : EntityUid) (text : List ℕ) (e : Entity) : Type 0 where
+  pub value : Data
+  pub json : json_of text ≡ Some value
+  pub states : StatesEntity s value e
+  pub canonical : canonical_text e ≡ text
+  pub named : e.uid ≡ uid
+
+-- `RefusesText s uid text fault` holds if it is not, and `fault` is the first error.
+pub data RefusesText (s : StatedSchema) (uid : EntityUid) (text : List ℕ) : BodyFault → Type 0 where
+  not_json : json_of text ≡ None → RefusesText s uid text (Refused 30)
+  no_entity : (d : Data) (fault : EntityFault) → json_of text ≡ Some d → RefusesEntity s d fault
+      → RefusesText s uid text (Refused (code_of fault))
+  other_text : (d : Data) (e : Entity) → json_of text ≡ Some d → StatesEntity s d e → (canonical_text e ≡ text → ⊥)
+      → RefusesText s uid text (Refused 57)
+  other_name : (d : Data) (e : Entity) → json_of text ≡ Some d → StatesEntity s d e → canonical_text e ≡ text
+      → (e.uid ≡ uid → ⊥) → RefusesText s uid text OtherName

@@ -1,0 +1,65 @@
+//! Theorems: reading gives what the relations on bytes say. The functions are no-ops.
+ghost use Rattle.sync_messages.specs.AsStated.{UpdatesAreRead, UpdatesHaveOneOutcome, UpdatesAreWritten};
+ghost use Rattle.sync_messages.specs.AsStated.{SummariesAreRead, SummariesHaveOneOutcome, SummariesAreWritten};
+ghost use Rattle.sync_messages.specs.AsStated.{TextsAreRead, MessagesAreRead, MessagesHaveOneOutcome};
+
+use crate::laws::stored_texts_have_one_reading;
+use json_words::json_keys_ascend;
+use message_format::{names_read_back, stamps_read_back};
+use stamped_store::laws::site_names_are_told;
+use validator::entities_are_read_as_stated;
+
+/// Proves that parsing a state or delta gives the updates that bytes state, or the first error, before the checks of
+/// entries. No-op.
+///
+/// Bytes state exactly one list of updates or are rejected with exactly one error, never both. Bytes of version 2 that
+/// are parsed as updates are JSON with exactly what is written for these updates.
+pub fn updates_are_read_as_stated()
+    ensures read { UpdatesAreRead }
+    ensures one { UpdatesHaveOneOutcome }
+    ensures written { UpdatesAreWritten }
+{
+    json_keys_ascend();
+    names_read_back();
+    stamps_read_back();
+    site_names_are_told();
+}
+
+/// Proves that parsing a summary gives the summary that bytes state, or the first error. No-op.
+///
+/// Bytes state exactly one summary or are rejected with exactly one error, never both. Bytes of version 2 that are
+/// parsed as a summary are JSON with exactly what is written for it.
+pub fn summaries_are_read_as_stated()
+    ensures read { SummariesAreRead }
+    ensures one { SummariesHaveOneOutcome }
+    ensures written { SummariesAreWritten }
+{
+    json_keys_ascend();
+    names_read_back();
+    stamps_read_back();
+    site_names_are_told();
+}
+
+/// Proves that parsing the text of an entity gives the entity of which it is the canonical text, under a schema and a
+/// uid, or the error of the text. No-op.
+pub fn entity_texts_are_read_as_stated()
+    ensures { TextsAreRead }
+{
+    entities_are_read_as_stated();
+}
+
+/// Proves that parsing a message of a schema gives the updates that bytes state, their texts parsed, or the first
+/// error. No-op.
+///
+/// Bytes state exactly one list of updates or are rejected with exactly one error, never both.
+pub fn messages_are_read_as_stated()
+    ensures read { MessagesAreRead }
+    ensures one { MessagesHaveOneOutcome }
+{
+    json_keys_ascend();
+    names_read_back();
+    stamps_read_back();
+    site_names_are_told();
+    entities_are_read_as_stated();
+    stored_texts_have_one_reading();
+}

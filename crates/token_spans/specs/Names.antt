@@ -1,0 +1,128 @@
+-- Defines the tokens of the name that a core node of a policy's expression itself has: the uid of a literal, and the
+-- type after `is`.
+-- Source: Cedar reference guide 4.0, "Grammar specification for Cedar policy syntax" (Path, Uid).
+-- Rules of this product: of a part of the scope, the operands are those of the expression that it abbreviates.
+use Rattle.std.specs.Prelude.{ℕ, List, [], ◌∷◌, map, take, drop, Option, Some, None, option_and_then, slice_get}
+use Rattle.grammar_trees.specs.grammar_tokens.declared.token.Token.{Token}
+use Rattle.grammar_trees.specs.grammar_tokens.declared.tree.PathTree.{PathTree}
+use Rattle.grammar_trees.specs.grammar_tokens.declared.tree.UidTree.{UidTree}
+use Rattle.grammar_trees.specs.declared.tree.ExprTree.{ExprTree}
+use Rattle.grammar_trees.specs.declared.tree.ExprTree.TheOpen.{ExprTree-F as tree}
+use Rattle.grammar_trees.specs.declared.tree.ExprTree.TheViews.{out-ExprTree}
+use Rattle.grammar_policies.specs.declared.tree.PartTree.{PartTree}
+use Rattle.grammar_policies.specs.declared.tree.PartTree.TheVariants as part
+use Rattle.grammar_policies.specs.declared.tree.ActionTree.{ActionTree}
+use Rattle.grammar_policies.specs.declared.tree.ActionTree.TheVariants as action
+use Rattle.grammar_policies.specs.declared.tree.PolicyTree.{PolicyTree}
+use Rattle.token_spans.specs.TokenCounts.{path_count, uid_count, tree_count, each_count}
+use Rattle.token_spans.specs.declared.forms.Part.{Part}
+use Rattle.token_spans.specs.declared.forms.Part.TheVariants as node
+use Rattle.token_spans.specs.Forms.{Form, whole, unwrapped, node_at, up_to}
+use Rattle.token_spans.specs.Places.{Turn, stop, left, right, off, turn}
+use Rattle.token_spans.specs.Places.{Place, whole_policy, in_entity, in_action, in_unless, in_expression, nowhere}
+use Rattle.token_spans.specs.Places.{place_at}
+
+-- `path_tokens path ts` and `uid_tokens uid ts` are the tokens of a Path or a Uid that the tokens ts begin with.
+abbrev pub path_tokens : PathTree → List Token → List Token
+path_tokens path ts = up_to ts (drop (path_count path) ts)
+
+abbrev pub uid_tokens : UidTree → List Token → List Token
+uid_tokens uid ts = up_to ts (drop (uid_count uid) ts)
+
+-- ## In expressions
+
+-- `tested a path ts` is the tokens of the type in `a is path`, which the tokens ts begin with.
+abbrev pub tested : ExprTree → PathTree → List Token → List Token
+tested a path ts = path_tokens path (drop 1 (drop (tree_count a) ts))
+
+-- `in_test p ts` is these tokens of the type in `a is path in b`, which the test has and no other node.
+abbrev pub in_test : Part → List Token → Option (List Token)
+in_test node.Whole ts = None
+in_test (node.First n) ts = None
+in_test node.Test ts = Some ts
+in_test node.Inner ts = None
+
+abbrev pub name_step : tree ExprTree → Form → Option (List Token)
+name_step (tree.Uid uid) f = Some (uid_tokens uid f.tokens)
+name_step (tree.Is a path) f = Some (tested a path f.tokens)
+name_step (tree.IsIn a path b) f = in_test f.part (tested a path f.tokens)
+name_step _ f = None
+
+-- `own_name f` is the tokens of the name that the core node of the form f has itself.
+abbrev pub own_name : Form → Option (List Token)
+own_name f = name_step (out-ExprTree f.tree) f
+
+-- `name_in x ts path` is those of the core node at a path of the expression x, which the tokens ts begin with.
+abbrev pub name_in : ExprTree → List Token → List ℕ → Option (List Token)
+name_in x ts path = option_and_then own_name (node_at (unwrapped (whole x ts)) path)
+
+-- ## In the scope
+
+-- `at_end t name` is the name if the path ends here, and `at_second t name` if it ends at the second operand.
+abbrev pub at_end : Turn → Option (List Token) → Option (List Token)
+at_end stop name = name
+at_end (left path) name = None
+at_end (right path) name = None
+at_end off name = None
+
+abbrev pub at_second : Turn → Option (List Token) → Option (List Token)
+at_second stop name = None
+at_second (left path) name = None
+at_second (right path) name = at_end (turn path) name
+at_second off name = None
+
+-- `in_both t name uid`: `x is T in uid` means `x is T && x in uid`.
+abbrev pub in_both : Turn → Option (List Token) → Option (List Token) → Option (List Token)
+in_both stop name uid = None
+in_both (left path) name uid = at_end (turn path) name
+in_both (right path) name uid = at_second (turn path) uid
+in_both off name uid = None
+
+-- `entity_name p ts path` is the name at a path of `principal ..` or `resource ..`, which the tokens ts begin with.
+abbrev pub entity_name : PartTree → List Token → List ℕ → Option (List Token)
+entity_name part.Any ts path = None
+entity_name (part.Equal uid) ts path = at_second (turn path) (Some (uid_tokens uid (drop 2 ts)))
+entity_name (part.In uid) ts path = at_second (turn path) (Some (uid_tokens uid (drop 2 ts)))
+entity_name (part.Is name) ts path = at_end (turn path) (Some (path_tokens name (drop 2 ts)))
+entity_name (part.IsIn name uid) ts path =
+    in_both (turn path) (Some (path_tokens name (drop 2 ts)))
+    (Some (uid_tokens uid (drop 1 (drop (path_count name) (drop 2 ts)))))
+
+-- `uid_at uids ts i` is the tokens of uid `i` of a list, whose opening bracket precedes the tokens `ts`.
+abbrev pub uid_at : List UidTree → List Token → ℕ → Option (List Token)
+uid_at uids ts i =
+    option_and_then (λ uid. Some (uid_tokens uid (drop (each_count (map uid_count (take i uids))) ts)))
+    (slice_get uids i)
+
+abbrev pub item_name : List UidTree → List Token → List ℕ → Option (List Token)
+item_name uids ts [] = None
+item_name uids ts (i ∷ path) = at_end (turn path) (uid_at uids ts i)
+
+abbrev pub listed_name : Turn → List UidTree → List Token → Option (List Token)
+listed_name stop uids ts = None
+listed_name (left path) uids ts = None
+listed_name (right path) uids ts = item_name uids ts path
+listed_name off uids ts = None
+
+-- `action_name p ts path` is the name at a path of `action ..`, which the tokens ts begin with.
+abbrev pub action_name : ActionTree → List Token → List ℕ → Option (List Token)
+action_name action.Any ts path = None
+action_name (action.Equal uid) ts path = at_second (turn path) (Some (uid_tokens uid (drop 2 ts)))
+action_name (action.In uid) ts path = at_second (turn path) (Some (uid_tokens uid (drop 2 ts)))
+action_name (action.InList uids) ts path = listed_name (turn path) uids (drop 3 ts)
+
+-- ## In a policy
+
+-- `named place` is the tokens of the name that the core node at a place has itself.
+abbrev pub named : Place → Option (List Token)
+named (whole_policy ts) = None
+named (in_entity part ts path) = entity_name part ts path
+named (in_action part ts path) = action_name part ts path
+named (in_unless c ts) = None
+named (in_expression x ts path) = name_in x ts path
+named nowhere = None
+
+-- `named_at ts tree path` is the tokens of the name that the core node at a path of a policy's expression has itself,
+-- from all tokens of its text.
+abbrev pub named_at : List Token → PolicyTree → List ℕ → Option (List Token)
+named_at ts tree path = named (place_at ts tree path)

@@ -1,0 +1,23 @@
+-- Defines the nodes of a written form by name, for the crates above.
+-- Source: Forms.antt.
+use Rattle.std.specs.Prelude.{ℕ}
+use Rattle.token_spans.specs.declared.forms.Part.{Part}
+use Rattle.token_spans.specs.declared.forms.Part.TheVariants as part
+
+-- `Node` is the type of nodes of a written form.
+abbrev pub Node : Type 0
+Node = Part
+
+-- `Whole` is the form's own node, `First n` that of a chain with n further pieces, `Test` is `e is T` of `e is T in f`,
+-- and `Inner` is `e in f` there, and what `!` negates in `!=`, `>` and `>=`.
+abbrev pub Whole : Node
+Whole = part.Whole
+
+abbrev pub First : ℕ → Node
+First n = part.First n
+
+abbrev pub Test : Node
+Test = part.Test
+
+abbrev pub Inner : Node
+Inner = part.Inner

@@ -1,0 +1,77 @@
+//! The conditions of a policy.
+ghost use Rattle.std.specs.Prelude.{◌≡◌, drop};
+ghost use Rattle.token_spans.specs.Places as spec;
+
+use crate::behind::behind_tree;
+use crate::leaves::skip;
+use crate::places::Place;
+use crate::turns::{Turn, first_turn};
+use grammar_policies::{Condition, ConditionWord, Token};
+
+/// Returns the tokens after a condition that they begin with.
+pub(crate) fn behind_condition<'t>(condition: &Condition, tokens: &'t [Token]) -> &'t [Token]
+    ensures { result.now ≡ drop (spec.condition_count condition.now) tokens.entry.now }
+{
+    skip(behind_tree(&condition.expression, skip(tokens, 2)), 1)
+}
+
+/// Returns the place in `unless { .. }`, which is a negation.
+fn at_unless<'t, 'p>(
+    condition: &'t Condition,
+    tokens: &'t [Token],
+    path: &'p [usize],
+) -> Place<'t, 'p>
+    ensures { spec.place_of result
+        ≡ spec.unless_at (spec.turn path.entry.now) condition.entry.now tokens.entry.now }
+{
+    match first_turn(path) {
+        Turn::Stop => Place::Unless(condition, tokens),
+        Turn::Left(rest) => Place::Expression(&condition.expression, skip(tokens, 2), rest),
+        Turn::Right(_) => Place::Nowhere,
+        Turn::Off => Place::Nowhere,
+    }
+}
+
+/// Returns the place in a condition.
+fn at_condition<'t, 'p>(
+    condition: &'t Condition,
+    tokens: &'t [Token],
+    path: &'p [usize],
+) -> Place<'t, 'p>
+    ensures { spec.place_of result
+        ≡ spec.at_condition condition.entry.now tokens.entry.now path.entry.now }
+{
+    match condition.word {
+        ConditionWord::When => Place::Expression(&condition.expression, skip(tokens, 2), path),
+        ConditionWord::Unless => at_unless(condition, tokens, path),
+    }
+}
+
+/// Returns the place in the conjunction of conditions of a policy.
+pub(crate) fn at_conditions<'t, 'p>(
+    policy: &'t [Token],
+    conditions: &'t [Condition],
+    tokens: &'t [Token],
+    path: &'p [usize],
+) -> Place<'t, 'p>
+    ensures { spec.place_of result
+        ≡ spec.at_conditions policy.entry.now conditions.entry.now tokens.entry.now path.entry.now }
+{
+    match conditions {
+        [] => match first_turn(path) {
+            Turn::Stop => Place::Policy(policy),
+            Turn::Left(_) => Place::Nowhere,
+            Turn::Right(_) => Place::Nowhere,
+            Turn::Off => Place::Nowhere,
+        },
+        [only] => at_condition(only, tokens, path),
+        [first, others @ ..] => match first_turn(path) {
+            Turn::Stop => Place::Policy(policy),
+            Turn::Left(rest) => at_condition(first, tokens, rest),
+            Turn::Right(rest) => {
+                at_conditions(policy, others, behind_condition(first, tokens), rest)
+            }
+            Turn::Off => Place::Nowhere,
+        },
+    }
+}

@@ -1,0 +1,521 @@
+//! Written forms, and the way down in one.
+ghost use Rattle.std.specs.Prelude.{◌≡◌, List, drop, take, map, length, option_map};
+ghost use Rattle.token_spans.specs.TokenCounts.{path_count, tree_count, each_count};
+ghost use Rattle.grammar_trees.specs.declared.tree.ExprTree.{ExprTree};
+ghost use Rattle.grammar_trees.specs.declared.tree.ExprTree.TheViews.{out-ExprTree};
+ghost use Rattle.token_spans.specs.Forms as spec;
+
+use crate::behind::{behind_accesses, behind_each, behind_entries, behind_terms, behind_tree};
+use crate::leaves::{behind_path, skip};
+use grammar_trees::{Access, Comparison, ExprTree, PathTree, RecordEntry, Term, Token};
+use plain::Items;
+
+/// Which core node of a written form is meant.
+#[derive(Clone, Copy)]
+pub(crate) enum Part {
+    /// That of the form itself.
+    Whole,
+    /// Of a chain, that of its first operand with this many further pieces.
+    First(usize),
+    /// `e is T` of `e is T in f`.
+    Test,
+    /// What `!` negates in `!=`, `>` and `>=`, and `e in f` of `e is T in f`.
+    Inner,
+}
+
+/// A core node, by the form that it is written as.
+#[derive(Clone, Copy)]
+pub(crate) struct Form<'a> {
+    pub(crate) tree: &'a ExprTree,
+    pub(crate) part: Part,
+    /// The tokens from the form's first one on.
+    pub(crate) tokens: &'a [Token],
+}
+
+/// Returns the first `count` items, all of them if there are fewer.
+#[tactic(auto, using(std::proofs::lemmas::List::take_all))]
+pub(crate) fn front<T>(items: &[T], count: usize) -> &[T]
+    ensures { result.now ≡ take count items.now }
+{
+    if count < items.len() {
+        &items[..count]
+    } else {
+        items
+    }
+}
+
+pub(crate) fn whole<'a>(tree: &'a ExprTree, tokens: &'a [Token]) -> Form<'a>
+    ensures { spec.form_of result ≡ spec.whole tree.entry.now tokens.entry.now }
+{
+    Form {
+        tree,
+        part: Part::Whole,
+        tokens,
+    }
+}
+
+/// Returns a form that is in parentheses without these.
+pub(crate) fn unwrapped<'a>(form: &Form<'a>) -> Form<'a>
+    ensures { spec.form_of result ≡ spec.unwrapped (spec.form_of form.now) }
+{
+    let mut tree = form.tree;
+    let mut tokens = form.tokens;
+    while let ExprTree::Parentheses(inner) = tree {
+        tree = inner.get();
+        tokens = skip(tokens, 1);
+    }
+    Form {
+        tree,
+        part: form.part,
+        tokens,
+    }
+}
+
+/// Returns how many of all further pieces of a chain belong to a part.
+fn kept(part: Part, all: usize) -> usize
+    ensures { result ≡ spec.kept part all }
+{
+    match part {
+        Part::Whole => all,
+        Part::First(count) => count,
+        Part::Test => all,
+        Part::Inner => all,
+    }
+}
+
+/// Returns the left operand of a chain with `before` further pieces in it.
+fn left_operand<'a>(form: &Form<'a>, first: &'a ExprTree, before: usize) -> Form<'a>
+    ensures { spec.form_of result ≡ spec.left_at (spec.form_of form.now) first.entry.now before }
+{
+    if before == 0 {
+        whole(first, form.tokens)
+    } else {
+        Form {
+            tree: form.tree,
+            part: Part::First(before),
+            tokens: form.tokens,
+        }
+    }
+}
+
+/// Returns the operand of a chain's piece at an index.
+fn piece_at<'a>(
+    first: &'a ExprTree,
+    more: &'a [ExprTree],
+    tokens: &'a [Token],
+    index: usize,
+) -> Option<Form<'a>>
+    ensures { option_map spec.form_of result
+        ≡ spec.piece_at first.entry.now more.entry.now tokens.entry.now index }
+{
+    let operand = more.get(index)?;
+    let behind = behind_each(front(more, index), behind_tree(first, tokens));
+    Some(whole(operand, skip(behind, 1)))
+}
+
+/// Returns the operand of a sum's further term at an index.
+fn term_at<'a>(
+    first: &'a ExprTree,
+    terms: &'a [Term<ExprTree>],
+    tokens: &'a [Token],
+    index: usize,
+) -> Option<Form<'a>>
+    ensures { option_map spec.form_of result
+        ≡ spec.term_at first.entry.now terms.entry.now tokens.entry.now index }
+{
+    let term = terms.get(index)?;
+    let behind = behind_terms(front(terms, index), behind_tree(first, tokens));
+    Some(whole(&term.operand, skip(behind, 1)))
+}
+
+/// Returns an operand of a chain.
+fn chain_operand<'a>(
+    form: &Form<'a>,
+    first: &'a ExprTree,
+    more: &'a [ExprTree],
+    index: usize,
+) -> Option<Form<'a>>
+    ensures { option_map spec.form_of result
+        ≡ spec.chain_at (spec.form_of form.now) first.entry.now
+        (spec.piece_at first.entry.now more.entry.now form.now.tokens.now)
+        (spec.kept form.now.part (length more.entry.now)) index }
+{
+    let before: usize = kept(form.part, more.len()).saturating_sub(1);
+    if index == 0 {
+        return Some(left_operand(form, first, before));
+    }
+    if index == 1 {
+        return piece_at(first, more, form.tokens, before);
+    }
+    None
+}
+
+/// Returns an operand of a sum.
+fn sum_operand<'a>(
+    form: &Form<'a>,
+    first: &'a ExprTree,
+    terms: &'a [Term<ExprTree>],
+    index: usize,
+) -> Option<Form<'a>>
+    ensures { option_map spec.form_of result
+        ≡ spec.chain_at (spec.form_of form.now) first.entry.now
+        (spec.term_at first.entry.now terms.entry.now form.now.tokens.now)
+        (spec.kept form.now.part (length terms.entry.now)) index }
+{
+    let before: usize = kept(form.part, terms.len()).saturating_sub(1);
+    if index == 0 {
+        return Some(left_operand(form, first, before));
+    }
+    if index == 1 {
+        return term_at(first, terms, form.tokens, before);
+    }
+    None
+}
+
+/// Returns an item of a list that these tokens begin with, the opening bracket left out.
+fn row_operand<'a>(items: &'a [ExprTree], tokens: &'a [Token], index: usize) -> Option<Form<'a>>
+    ensures { option_map spec.form_of result ≡ spec.row_at items.entry.now tokens.entry.now index }
+{
+    let item = items.get(index)?;
+    Some(whole(item, behind_each(front(items, index), tokens)))
+}
+
+/// Returns the value of an entry of a record.
+fn entry_operand<'a>(
+    entries: &'a [RecordEntry<ExprTree>],
+    tokens: &'a [Token],
+    index: usize,
+) -> Option<Form<'a>>
+    ensures { option_map spec.form_of result ≡ spec.entry_at entries.entry.now tokens.entry.now index }
+{
+    let entry = entries.get(index)?;
+    let before = behind_entries(front(entries, index), tokens);
+    Some(whole(&entry.value, skip(before, 2)))
+}
+
+/// Returns an argument of a method's call.
+fn argument<'a>(
+    access: &'a Access<Items<ExprTree>>,
+    tokens: &'a [Token],
+    index: usize,
+) -> Option<Form<'a>>
+    ensures { option_map spec.form_of result ≡ spec.argument_at access.entry.now tokens.entry.now index }
+{
+    match access {
+        Access::Field(_) => None,
+        Access::Method(_, arguments) => row_operand(arguments.as_slice(), skip(tokens, 3), index),
+    }
+}
+
+/// Returns an argument of the access at an index.
+fn access_operand<'a>(
+    first: &'a ExprTree,
+    accesses: &'a [Access<Items<ExprTree>>],
+    tokens: &'a [Token],
+    place: usize,
+    index: usize,
+) -> Option<Form<'a>>
+    ensures { option_map spec.form_of result
+        ≡ spec.access_at first.entry.now accesses.entry.now tokens.entry.now place index }
+{
+    let access = accesses.get(place)?;
+    let before = behind_accesses(front(accesses, place), behind_tree(first, tokens));
+    argument(access, before, index)
+}
+
+/// Returns an operand of what is reached by accesses.
+fn member_operand<'a>(
+    form: &Form<'a>,
+    first: &'a ExprTree,
+    accesses: &'a [Access<Items<ExprTree>>],
+    index: usize,
+) -> Option<Form<'a>>
+    ensures { option_map spec.form_of result
+        ≡ spec.member_at (spec.form_of form.now) first.entry.now accesses.entry.now
+        (spec.kept form.now.part (length accesses.entry.now)) index }
+{
+    let before: usize = kept(form.part, accesses.len()).saturating_sub(1);
+    if index == 0 {
+        return Some(left_operand(form, first, before));
+    }
+    access_operand(first, accesses, form.tokens, before, index - 1)
+}
+
+fn one_operand<'a>(tree: &'a ExprTree, tokens: &'a [Token], index: usize) -> Option<Form<'a>>
+    ensures { option_map spec.form_of result ≡ spec.one_at tree.entry.now tokens.entry.now index }
+{
+    if index == 0 {
+        return Some(whole(tree, tokens));
+    }
+    None
+}
+
+/// Returns the operand of a minus; `None` if the minus is part of a number.
+fn negated_operand<'a>(tree: &'a ExprTree, tokens: &'a [Token], index: usize) -> Option<Form<'a>>
+    ensures { option_map spec.form_of result
+        ≡ spec.behind_minus (out-ExprTree tree.entry.now) tree.entry.now tokens.entry.now index }
+{
+    match tree {
+        ExprTree::Number(_) => None,
+        _ => one_operand(tree, tokens, index),
+    }
+}
+
+/// Returns another node of a form.
+fn part_of<'a>(form: &Form<'a>, part: Part) -> Form<'a>
+    ensures { spec.form_of result ≡ spec.part_of (spec.form_of form.now) part }
+{
+    Form {
+        tree: form.tree,
+        part,
+        tokens: form.tokens,
+    }
+}
+
+fn two_operands<'a>(first: Form<'a>, second: Form<'a>, index: usize) -> Option<Form<'a>>
+    ensures { option_map spec.form_of result
+        ≡ spec.two_at (spec.form_of first.entry) (spec.form_of second.entry) index }
+{
+    if index == 0 {
+        return Some(first);
+    }
+    if index == 1 {
+        return Some(second);
+    }
+    None
+}
+
+fn is_negated(operator: Comparison) -> bool
+    ensures { result ≡ spec.is_negated operator }
+{
+    match operator {
+        Comparison::Greater | Comparison::GreaterOrEqual | Comparison::NotEqual => true,
+        Comparison::Less | Comparison::LessOrEqual | Comparison::Equal | Comparison::In => false,
+    }
+}
+
+/// Returns whether a part is not the inner one.
+fn is_outer(part: Part) -> bool
+    ensures { result ≡ spec.is_outer part }
+{
+    match part {
+        Part::Whole => true,
+        Part::First(_) => true,
+        Part::Test => true,
+        Part::Inner => false,
+    }
+}
+
+/// Returns whether a part of a comparison is the negation of another comparison.
+fn is_negation(part: Part, operator: Comparison) -> bool
+    ensures { result ≡ spec.both (spec.is_outer part) (spec.is_negated operator) }
+{
+    if is_outer(part) {
+        is_negated(operator)
+    } else {
+        false
+    }
+}
+
+/// Returns an operand of a comparison.
+fn compared_operand<'a>(
+    form: &Form<'a>,
+    negated: bool,
+    left: &'a ExprTree,
+    right: &'a ExprTree,
+    index: usize,
+) -> Option<Form<'a>>
+    ensures { option_map spec.form_of result
+        ≡ spec.compared_at negated (spec.form_of form.now) left.entry.now right.entry.now index }
+{
+    if !negated {
+        let behind = skip(behind_tree(left, form.tokens), 1);
+        return two_operands(whole(left, form.tokens), whole(right, behind), index);
+    }
+    if index == 0 {
+        return Some(part_of(form, Part::Inner));
+    }
+    None
+}
+
+/// Returns the tokens after `operand is path`.
+fn behind_test<'a>(operand: &ExprTree, path: &PathTree, tokens: &'a [Token]) -> &'a [Token]
+    ensures { result.now ≡ drop (path_count path.now) (drop 1 (drop (tree_count operand.now) tokens.entry.now)) }
+{
+    behind_path(path, skip(behind_tree(operand, tokens), 1))
+}
+
+/// Returns an operand of a node of `operand is path in ancestor`.
+fn test_operand<'a>(
+    form: &Form<'a>,
+    operand: &'a ExprTree,
+    path: &PathTree,
+    ancestor: &'a ExprTree,
+    index: usize,
+) -> Option<Form<'a>>
+    ensures { option_map spec.form_of result
+        ≡ spec.in_test_at form.now.part (spec.form_of form.now) operand.entry.now path.now ancestor.entry.now index }
+{
+    match form.part {
+        Part::Whole => two_operands(part_of(form, Part::Test), part_of(form, Part::Inner), index),
+        Part::First(_) => None,
+        Part::Test => one_operand(operand, form.tokens, index),
+        Part::Inner => {
+            let behind = skip(behind_test(operand, path, form.tokens), 1);
+            two_operands(whole(operand, form.tokens), whole(ancestor, behind), index)
+        }
+    }
+}
+
+/// Returns an operand of `if`.
+fn if_operand<'a>(
+    test: &'a ExprTree,
+    consequent: &'a ExprTree,
+    alternative: &'a ExprTree,
+    tokens: &'a [Token],
+    index: usize,
+) -> Option<Form<'a>>
+    ensures { let first = drop 1 tokens.entry.now in
+        let second = drop 1 (drop (tree_count test.entry.now) first) in
+        option_map spec.form_of result
+        ≡ spec.three_at (spec.whole test.entry.now first) (spec.whole consequent.entry.now second)
+        (spec.whole alternative.entry.now (drop 1 (drop (tree_count consequent.entry.now) second))) index }
+{
+    let first = skip(tokens, 1);
+    if index == 0 {
+        return Some(whole(test, first));
+    }
+    let second = skip(behind_tree(test, first), 1);
+    if index == 1 {
+        return Some(whole(consequent, second));
+    }
+    let third = skip(behind_tree(consequent, second), 1);
+    if index == 2 {
+        return Some(whole(alternative, third));
+    }
+    None
+}
+
+/// Returns the form of an operand of a form's core node.
+fn operand<'a>(form: &Form<'a>, index: usize) -> Option<Form<'a>>
+    ensures { option_map spec.form_of result ≡ spec.operand (spec.form_of form.now) index }
+{
+    let tokens = form.tokens;
+    match form.tree {
+        ExprTree::Boolean(_) => None,
+        ExprTree::Number(_) => None,
+        ExprTree::Text(_) => None,
+        ExprTree::Variable(_) => None,
+        ExprTree::Uid(_) => None,
+        ExprTree::Call(path, arguments) => {
+            let row = skip(behind_path(path, tokens), 1);
+            row_operand(arguments.as_slice(), row, index)
+        }
+        ExprTree::Parentheses(_) => None,
+        ExprTree::Set(members) => row_operand(members.as_slice(), skip(tokens, 1), index),
+        ExprTree::Record(entries) => entry_operand(entries.as_slice(), skip(tokens, 1), index),
+        ExprTree::Member(first, accesses) => {
+            member_operand(form, first.get(), accesses.as_slice(), index)
+        }
+        ExprTree::Not(inner) => one_operand(inner.get(), skip(tokens, 1), index),
+        ExprTree::Minus(inner) => negated_operand(inner.get(), skip(tokens, 1), index),
+        ExprTree::Product(first, more) => chain_operand(form, first.get(), more.as_slice(), index),
+        ExprTree::Sum(first, terms) => sum_operand(form, first.get(), terms.as_slice(), index),
+        ExprTree::Compare(left, operator, right) => {
+            let negated = is_negation(form.part, *operator);
+            compared_operand(form, negated, left.get(), right.get(), index)
+        }
+        ExprTree::Has(inner, _) => one_operand(inner.get(), tokens, index),
+        ExprTree::Like(inner, _) => one_operand(inner.get(), tokens, index),
+        ExprTree::Is(inner, _) => one_operand(inner.get(), tokens, index),
+        ExprTree::IsIn(inner, path, outer) => {
+            test_operand(form, inner.get(), path, outer.get(), index)
+        }
+        ExprTree::And(first, more) => chain_operand(form, first.get(), more.as_slice(), index),
+        ExprTree::Or(first, more) => chain_operand(form, first.get(), more.as_slice(), index),
+        ExprTree::If(test, consequent, alternative) => {
+            if_operand(
+                test.get(),
+                consequent.get(),
+                alternative.get(),
+                tokens,
+                index,
+            )
+        }
+    }
+}
+
+/// Returns the form of the core node that a path leads to from a form's own.
+pub(crate) fn node_at<'a>(form: &Form<'a>, path: &[usize]) -> Option<Form<'a>>
+    ensures { option_map spec.form_of result ≡ spec.node_at (spec.form_of form.now) path.now }
+{
+    let mut here = *form;
+    for index in path {
+        let below = operand(&here, *index)?;
+        here = unwrapped(&below);
+    }
+    Some(here)
+}
+
+/// Returns the tokens after a chain of operands, of which only some further ones belong to the part of the form.
+fn behind_chain<'a>(form: &Form<'a>, first: &ExprTree, more: &[ExprTree]) -> &'a [Token]
+    ensures { let pieces = take (spec.kept form.now.part (length more.now)) more.now in
+        result.now ≡ drop (each_count (map tree_count pieces)) (drop (tree_count first.now) form.now.tokens.now) }
+{
+    let pieces = front(more, kept(form.part, more.len()));
+    behind_each(pieces, behind_tree(first, form.tokens))
+}
+
+/// Returns the tokens after a node of `operand is path in ancestor`.
+fn behind_in_test<'a>(form: &Form<'a>, operand: &ExprTree, path: &PathTree) -> &'a [Token]
+    ensures { (b : ExprTree) → result.now
+        ≡ spec.behind_test form.now.part (spec.form_of form.now) operand.now path.now b }
+{
+    match form.part {
+        Part::Whole => behind_tree(form.tree, form.tokens),
+        Part::First(_) => behind_tree(form.tree, form.tokens),
+        Part::Test => behind_test(operand, path, form.tokens),
+        Part::Inner => behind_tree(form.tree, form.tokens),
+    }
+}
+
+/// Returns the tokens after a form.
+fn behind_form<'a>(form: &Form<'a>) -> &'a [Token]
+    ensures { result.now ≡ spec.behind_step (out-ExprTree form.now.tree.now) (spec.form_of form.now) }
+{
+    match form.tree {
+        ExprTree::Member(first, accesses) => {
+            let pieces = front(accesses.as_slice(), kept(form.part, accesses.len()));
+            behind_accesses(pieces, behind_tree(first.get(), form.tokens))
+        }
+        ExprTree::Product(first, more) => behind_chain(form, first.get(), more.as_slice()),
+        ExprTree::Sum(first, terms) => {
+            let pieces = front(terms.as_slice(), kept(form.part, terms.len()));
+            behind_terms(pieces, behind_tree(first.get(), form.tokens))
+        }
+        ExprTree::And(first, more) => behind_chain(form, first.get(), more.as_slice()),
+        ExprTree::Or(first, more) => behind_chain(form, first.get(), more.as_slice()),
+        ExprTree::IsIn(inner, path, _) => behind_in_test(form, inner.get(), path),
+        _ => behind_tree(form.tree, form.tokens),
+    }
+}
+
+/// Returns tokens up to those with which they end.
+pub(crate) fn up_to<'a>(tokens: &'a [Token], rest: &[Token]) -> &'a [Token]
+    ensures { result.now ≡ spec.up_to tokens.entry.now rest.now }
+{
+    front(tokens, tokens.len().saturating_sub(rest.len()))
+}
+
+/// Returns the tokens of the form to which the core node at a path of an expression belongs; `tokens` begin with the
+/// expression. None if the core expression has no such node.
+pub(crate) fn tokens_at<'a>(
+    tree: &'a ExprTree,
+    tokens: &'a [Token],
+    path: &[usize],
+) -> Option<&'a [Token]>
+    ensures { option_map (λ ts. ts.now) result ≡ spec.tokens_at tree.entry.now tokens.entry.now path.now }
+{
+    let form = node_at(&unwrapped(&whole(tree, tokens)), path)?;
+    Some(up_to(form.tokens, behind_form(&form)))
+}

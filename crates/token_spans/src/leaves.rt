@@ -1,0 +1,32 @@
+//! What holds no expression.
+ghost use Rattle.std.specs.Prelude.{◌≡◌, drop};
+ghost use Rattle.token_spans.specs.TokenCounts.{path_count, lone_count};
+
+use grammar_trees::{PathTree, Token};
+
+/// Returns the tokens after the first `count`; the empty slice if there are no more.
+pub(crate) fn skip(tokens: &[Token], count: usize) -> &[Token]
+    ensures { result.now ≡ drop count tokens.now }
+{
+    if count < tokens.len() {
+        &tokens[count..]
+    } else {
+        &[]
+    }
+}
+
+/// Returns the tokens after a Path that they begin with.
+pub(crate) fn behind_path<'t>(path: &PathTree, tokens: &'t [Token]) -> &'t [Token]
+    ensures { result.now ≡ drop (path_count path.now) tokens.entry.now }
+{
+    let more = path.more.len();
+    skip(skip(skip(tokens, 1), more), more)
+}
+
+/// Returns the tokens after the bracket that closes a list without items, and all tokens where a list of `count` items
+/// has some.
+pub(crate) fn behind_opened(count: usize, tokens: &[Token]) -> &[Token]
+    ensures { result.now ≡ drop (lone_count count) tokens.now }
+{
+    if count == 0 { skip(tokens, 1) } else { tokens }
+}

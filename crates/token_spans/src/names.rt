@@ -1,0 +1,70 @@
+//! The names of expressions: uids, and types after `is`.
+ghost use Rattle.std.specs.Prelude.{◌≡◌, option_map};
+ghost use Rattle.token_spans.specs.Forms as forms;
+ghost use Rattle.token_spans.specs.Names as spec;
+
+use crate::behind::behind_tree;
+use crate::forms::{Form, Part, node_at, unwrapped, up_to, whole};
+use crate::leaves::{behind_path, skip};
+use crate::parts::behind_uid;
+use grammar_trees::{ExprTree, PathTree, Token, UidTree};
+
+/// Returns the tokens of a Path that these begin with.
+pub(crate) fn path_tokens<'t>(path: &PathTree, tokens: &'t [Token]) -> &'t [Token]
+    ensures { result.now ≡ spec.path_tokens path.now tokens.entry.now }
+{
+    up_to(tokens, behind_path(path, tokens))
+}
+
+/// Returns the tokens of a Uid that these begin with.
+pub(crate) fn uid_tokens<'t>(uid: &UidTree, tokens: &'t [Token]) -> &'t [Token]
+    ensures { result.now ≡ spec.uid_tokens uid.now tokens.entry.now }
+{
+    up_to(tokens, behind_uid(uid, tokens))
+}
+
+/// Returns the tokens of the type after `operand is`.
+fn tested<'t>(operand: &ExprTree, path: &PathTree, tokens: &'t [Token]) -> &'t [Token]
+    ensures { result.now ≡ spec.tested operand.now path.now tokens.entry.now }
+{
+    path_tokens(path, skip(behind_tree(operand, tokens), 1))
+}
+
+/// Returns the tokens of the type in `operand is path in ancestor`, if `part` is the test.
+fn in_test<'t>(part: Part, tokens: &'t [Token]) -> Option<&'t [Token]>
+    ensures { option_map (λ ts. ts.now) result ≡ spec.in_test part tokens.entry.now }
+{
+    match part {
+        Part::Whole => None,
+        Part::First(_) => None,
+        Part::Test => Some(tokens),
+        Part::Inner => None,
+    }
+}
+
+/// Returns the tokens of the name that a form's core node itself has.
+fn own_name<'a>(form: &Form<'a>) -> Option<&'a [Token]>
+    ensures { option_map (λ ts. ts.now) result ≡ spec.own_name (forms.form_of form.now) }
+{
+    match form.tree {
+        ExprTree::Uid(uid) => Some(uid_tokens(uid, form.tokens)),
+        ExprTree::Is(operand, path) => Some(tested(operand.get(), path, form.tokens)),
+        ExprTree::IsIn(operand, path, _) => {
+            in_test(form.part, tested(operand.get(), path, form.tokens))
+        }
+        _ => None,
+    }
+}
+
+/// Returns the tokens of the name that the core node at a path of an expression has itself; `tokens` begin with the
+/// expression.
+pub(crate) fn name_in<'a>(
+    tree: &'a ExprTree,
+    tokens: &'a [Token],
+    path: &[usize],
+) -> Option<&'a [Token]>
+    ensures { option_map (λ ts. ts.now) result ≡ spec.name_in tree.entry.now tokens.entry.now path.now }
+{
+    let form = node_at(&unwrapped(&whole(tree, tokens)), path)?;
+    own_name(&form)
+}

@@ -1,0 +1,117 @@
+//! The place of a core node of a policy's expression.
+ghost use Rattle.std.specs.Prelude.{◌≡◌, ◌==◌, position};
+ghost use Rattle.token_spans.specs.Places as spec;
+
+use crate::conditions::at_conditions;
+use crate::leaves::skip;
+use crate::parts::{behind_action, behind_part};
+use crate::turns::{Turn, first_turn};
+use grammar_policies::{ActionTree, Condition, PartTree, PolicyTree, Token};
+use grammar_trees::ExprTree;
+
+/// The place of a core node: the piece of the policy, the tokens that begin with the piece, and the path in the piece.
+#[derive(Clone, Copy)]
+pub(crate) enum Place<'t, 'p> {
+    /// It joins parts or conditions of the policy.
+    Policy(&'t [Token]),
+    /// In what the scope demands of the principal or the resource.
+    Entity(&'t PartTree, &'t [Token], &'p [usize]),
+    /// In what the scope demands of the action.
+    Action(&'t ActionTree, &'t [Token], &'p [usize]),
+    /// It is the negation of an `unless`.
+    Unless(&'t Condition, &'t [Token]),
+    /// In the expression of a condition.
+    Expression(&'t ExprTree, &'t [Token], &'p [usize]),
+    /// There is no such node.
+    Nowhere,
+}
+
+/// Returns the place after the scope's first two parts.
+fn from_resource<'t, 'p>(
+    policy: &'t [Token],
+    tree: &'t PolicyTree,
+    tokens: &'t [Token],
+    path: &'p [usize],
+) -> Place<'t, 'p>
+    ensures { spec.place_of result
+        ≡ spec.from_resource policy.entry.now tree.entry.now tokens.entry.now path.entry.now }
+{
+    match first_turn(path) {
+        Turn::Stop => Place::Policy(policy),
+        Turn::Left(rest) => Place::Entity(&tree.resource, tokens, rest),
+        Turn::Right(rest) => {
+            let behind = behind_part(&tree.resource, tokens);
+            at_conditions(policy, tree.conditions.as_slice(), skip(behind, 1), rest)
+        }
+        Turn::Off => Place::Nowhere,
+    }
+}
+
+/// Returns the place after the scope's first part.
+fn from_action<'t, 'p>(
+    policy: &'t [Token],
+    tree: &'t PolicyTree,
+    tokens: &'t [Token],
+    path: &'p [usize],
+) -> Place<'t, 'p>
+    ensures { spec.place_of result
+        ≡ spec.from_action policy.entry.now tree.entry.now tokens.entry.now path.entry.now }
+{
+    match first_turn(path) {
+        Turn::Stop => Place::Policy(policy),
+        Turn::Left(rest) => Place::Action(&tree.action, tokens, rest),
+        Turn::Right(rest) => {
+            let behind = behind_action(&tree.action, tokens);
+            from_resource(policy, tree, skip(behind, 1), rest)
+        }
+        Turn::Off => Place::Nowhere,
+    }
+}
+
+/// Returns the place at a path of a policy's expression; `policy` is the tokens from its effect on.
+fn from_effect<'t, 'p>(
+    policy: &'t [Token],
+    tree: &'t PolicyTree,
+    path: &'p [usize],
+) -> Place<'t, 'p>
+    ensures { spec.place_of result ≡ spec.from_effect policy.entry.now tree.entry.now path.entry.now }
+{
+    let tokens = skip(policy, 2);
+    match first_turn(path) {
+        Turn::Stop => Place::Policy(policy),
+        Turn::Left(rest) => Place::Entity(&tree.principal, tokens, rest),
+        Turn::Right(rest) => {
+            let behind = behind_part(&tree.principal, tokens);
+            from_action(policy, tree, skip(behind, 1), rest)
+        }
+        Turn::Off => Place::Nowhere,
+    }
+}
+
+/// Returns how many tokens precede the one that starts at a byte.
+fn tokens_before(tokens: &[Token], at: usize) -> Option<usize>
+    ensures { result ≡ position (λ t. t.start == at) tokens.now }
+{
+    tokens.iter().position(|token| token.start == at)
+}
+
+/// Returns the tokens from the one that starts at a byte; an empty list if no token does.
+fn from_byte(tokens: &[Token], at: usize) -> &[Token]
+    ensures { result.now ≡ spec.from_byte at tokens.now }
+{
+    match tokens_before(tokens, at) {
+        Some(before) => skip(tokens, before),
+        None => skip(tokens, tokens.len()),
+    }
+}
+
+/// Returns the place at a path of a policy's expression, from all tokens of its text.
+pub(crate) fn place_at<'t, 'p>(
+    tokens: &'t [Token],
+    tree: &'t PolicyTree,
+    path: &'p [usize],
+) -> Place<'t, 'p>
+    ensures { spec.place_of result ≡ spec.place_at tokens.entry.now tree.entry.now path.entry.now }
+{
+    from_effect(from_byte(tokens, tree.effect.start), tree, path)
+}

@@ -1,0 +1,128 @@
+//! The names of a policy's scope.
+ghost use Rattle.std.specs.Prelude.{◌≡◌, option_map};
+ghost use Rattle.token_spans.specs.Names as spec;
+ghost use Rattle.token_spans.specs.Places.{turn};
+
+use crate::forms::front;
+use crate::leaves::{behind_path, skip};
+use crate::names::{path_tokens, uid_tokens};
+use crate::parts::behind_uids;
+use crate::turns::{Turn, first_turn};
+use grammar_policies::{ActionTree, PartTree, Token, UidTree};
+
+/// Returns a name if a path ends here.
+fn at_end<'t>(path: &[usize], name: Option<&'t [Token]>) -> Option<&'t [Token]>
+    ensures { option_map (λ ts. ts.now) result
+        ≡ spec.at_end (turn path.now) (option_map (λ ts. ts.now) name.entry) }
+{
+    match first_turn(path) {
+        Turn::Stop => name,
+        Turn::Left(_) => None,
+        Turn::Right(_) => None,
+        Turn::Off => None,
+    }
+}
+
+/// Returns a name if a path leads to the second operand and ends there.
+fn at_second<'t>(path: &[usize], name: Option<&'t [Token]>) -> Option<&'t [Token]>
+    ensures { option_map (λ ts. ts.now) result
+        ≡ spec.at_second (turn path.now) (option_map (λ ts. ts.now) name.entry) }
+{
+    match first_turn(path) {
+        Turn::Stop => None,
+        Turn::Left(_) => None,
+        Turn::Right(rest) => at_end(rest, name),
+        Turn::Off => None,
+    }
+}
+
+/// Returns the type or the uid of `x is T in uid`, by the path.
+fn in_both<'t>(
+    path: &[usize],
+    name: Option<&'t [Token]>,
+    uid: Option<&'t [Token]>,
+) -> Option<&'t [Token]>
+    ensures { option_map (λ ts. ts.now) result
+        ≡ spec.in_both (turn path.now) (option_map (λ ts. ts.now) name.entry)
+        (option_map (λ ts. ts.now) uid.entry) }
+{
+    match first_turn(path) {
+        Turn::Stop => None,
+        Turn::Left(rest) => at_end(rest, name),
+        Turn::Right(rest) => at_second(rest, uid),
+        Turn::Off => None,
+    }
+}
+
+/// Returns the tokens of the name at a path of what a scope demands of the principal or the resource, which `tokens`
+/// begin with.
+pub(crate) fn entity_name<'t>(
+    part: &PartTree,
+    tokens: &'t [Token],
+    path: &[usize],
+) -> Option<&'t [Token]>
+    ensures { option_map (λ ts. ts.now) result ≡ spec.entity_name part.now tokens.entry.now path.now }
+{
+    match part {
+        PartTree::Any => None,
+        PartTree::Equal(uid) => at_second(path, Some(uid_tokens(uid, skip(tokens, 2)))),
+        PartTree::In(uid) => at_second(path, Some(uid_tokens(uid, skip(tokens, 2)))),
+        PartTree::Is(name) => at_end(path, Some(path_tokens(name, skip(tokens, 2)))),
+        PartTree::IsIn(name, uid) => {
+            let from = skip(tokens, 2);
+            let behind = skip(behind_path(name, from), 1);
+            in_both(
+                path,
+                Some(path_tokens(name, from)),
+                Some(uid_tokens(uid, behind)),
+            )
+        }
+    }
+}
+
+/// Returns the tokens of a uid of a list, whose opening bracket precedes `tokens`.
+fn uid_at<'t>(uids: &[UidTree], tokens: &'t [Token], index: usize) -> Option<&'t [Token]>
+    ensures { option_map (λ ts. ts.now) result ≡ spec.uid_at uids.now tokens.entry.now index }
+{
+    let uid = uids.get(index)?;
+    Some(uid_tokens(uid, behind_uids(front(uids, index), tokens)))
+}
+
+/// Returns the tokens of the uid of a list that a path leads to.
+fn item_name<'t>(uids: &[UidTree], tokens: &'t [Token], path: &[usize]) -> Option<&'t [Token]>
+    ensures { option_map (λ ts. ts.now) result ≡ spec.item_name uids.now tokens.entry.now path.now }
+{
+    match path {
+        [] => None,
+        [index, rest @ ..] => at_end(rest, uid_at(uids, tokens, *index)),
+    }
+}
+
+/// Returns the tokens of the uid of `action in [..]` that a path leads to.
+fn listed_name<'t>(uids: &[UidTree], tokens: &'t [Token], path: &[usize]) -> Option<&'t [Token]>
+    ensures { option_map (λ ts. ts.now) result
+        ≡ spec.listed_name (turn path.now) uids.now tokens.entry.now }
+{
+    match first_turn(path) {
+        Turn::Stop => None,
+        Turn::Left(_) => None,
+        Turn::Right(rest) => item_name(uids, tokens, rest),
+        Turn::Off => None,
+    }
+}
+
+/// Returns the tokens of the name at a path of what a scope demands of the action, which `tokens` begin with.
+pub(crate) fn action_name<'t>(
+    part: &ActionTree,
+    tokens: &'t [Token],
+    path: &[usize],
+) -> Option<&'t [Token]>
+    ensures { option_map (λ ts. ts.now) result ≡ spec.action_name part.now tokens.entry.now path.now }
+{
+    match part {
+        ActionTree::Any => None,
+        ActionTree::Equal(uid) => at_second(path, Some(uid_tokens(uid, skip(tokens, 2)))),
+        ActionTree::In(uid) => at_second(path, Some(uid_tokens(uid, skip(tokens, 2)))),
+        ActionTree::InList(uids) => listed_name(uids.as_slice(), skip(tokens, 3), path),
+    }
+}

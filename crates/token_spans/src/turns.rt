@@ -1,0 +1,39 @@
+//! A turn of a path at a form with one or two operands.
+ghost use Rattle.std.specs.Prelude.{◌≡◌};
+ghost use Rattle.token_spans.specs.Places as spec;
+
+/// The first step of a path at a conjunction.
+#[derive(Clone, Copy)]
+pub(crate) enum Turn<'p> {
+    /// The path ends.
+    Stop,
+    /// It leads to the first operand, or into it.
+    Left(&'p [usize]),
+    /// It leads to the second operand, or into it.
+    Right(&'p [usize]),
+    /// It leads to an operand that does not exist.
+    Off,
+}
+
+/// Returns the turn to an operand.
+fn to(index: usize, rest: &[usize]) -> Turn<'_>
+    ensures { spec.abstract_turn result ≡ spec.to index rest.now }
+{
+    if index == 0 {
+        return Turn::Left(rest);
+    }
+    if index == 1 {
+        return Turn::Right(rest);
+    }
+    Turn::Off
+}
+
+/// Returns the first turn of a path.
+pub(crate) fn first_turn(path: &[usize]) -> Turn<'_>
+    ensures { spec.abstract_turn result ≡ spec.turn path.now }
+{
+    match path {
+        [] => Turn::Stop,
+        [index, rest @ ..] => to(*index, rest),
+    }
+}

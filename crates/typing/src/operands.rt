@@ -1,0 +1,101 @@
+//! Operands of expressions, by their indexes.
+ghost use Rattle.std.specs.Prelude.{◌≡◌, ◌<◌, [], ◌∷◌, map, IsSome, MatchOption};
+ghost use Rattle.typing.specs.Places.{IsAt, operands_of, follow};
+
+use grammar_core::{Expr, Named};
+
+/// Returns the only operand, at index 0.
+fn one_at<'a>(a: &'a Expr, at: usize) -> Option<&'a Expr>
+    ensures item { IsAt (a.entry.now ∷ []) at result }
+    ensures few { IsSome result → at < usize.MAX }
+{
+    if at == 0 { Some(a) } else { None }
+}
+
+/// Returns the operand of this index, of two.
+fn two_at<'a>(a: &'a Expr, b: &'a Expr, at: usize) -> Option<&'a Expr>
+    ensures item { IsAt (a.entry.now ∷ b.entry.now ∷ []) at result }
+    ensures few { IsSome result → at < usize.MAX }
+{
+    match at {
+        0 => Some(a),
+        1 => Some(b),
+        _ => None,
+    }
+}
+
+/// Returns the operand of this index, of three.
+fn three_at<'a>(a: &'a Expr, b: &'a Expr, c: &'a Expr, at: usize) -> Option<&'a Expr>
+    ensures item { IsAt (a.entry.now ∷ b.entry.now ∷ c.entry.now ∷ []) at result }
+    ensures few { IsSome result → at < usize.MAX }
+{
+    match at {
+        0 => Some(a),
+        1 => Some(b),
+        2 => Some(c),
+        _ => None,
+    }
+}
+
+/// Returns the member of this index.
+fn member_at<'a>(members: &'a [Expr], at: usize) -> Option<&'a Expr>
+    ensures item { IsAt members.entry.now at result }
+    ensures few { IsSome result → at < usize.MAX }
+{
+    if at < members.len() {
+        Some(&members[at])
+    } else {
+        None
+    }
+}
+
+/// Returns the value of the field of this index.
+fn field_at<'a>(fields: &'a [Named<Expr>], at: usize) -> Option<&'a Expr>
+    ensures item { IsAt (map (λ f. f.value) fields.entry.now) at result }
+    ensures few { IsSome result → at < usize.MAX }
+{
+    if at < fields.len() {
+        Some(&fields[at].value)
+    } else {
+        None
+    }
+}
+
+/// Returns the operand at the index `at`, or `None` if `expr` has fewer operands. Does not allocate.
+pub fn operand<'a>(expr: &'a Expr, at: usize) -> Option<&'a Expr>
+    ensures item { IsAt (operands_of expr.entry.now) at result }
+    ensures few { IsSome result → at < usize.MAX }
+{
+    match expr {
+        Expr::Literal(_) => None,
+        Expr::Variable(_) => None,
+        Expr::If(test, consequent, alternative) => {
+            three_at(test.get(), consequent.get(), alternative.get(), at)
+        }
+        Expr::And(left, right) => two_at(left.get(), right.get(), at),
+        Expr::Or(left, right) => two_at(left.get(), right.get(), at),
+        Expr::Unary(_, operand) => one_at(operand.get(), at),
+        Expr::Binary(_, left, right) => two_at(left.get(), right.get(), at),
+        Expr::Field(owner, _) => one_at(owner.get(), at),
+        Expr::Has(owner, _) => one_at(owner.get(), at),
+        Expr::Set(members) => member_at(members.as_slice(), at),
+        Expr::Record(fields) => field_at(fields.as_slice(), at),
+        Expr::UnaryCall(_, operand) => one_at(operand.get(), at),
+        Expr::BinaryCall(_, left, right) => two_at(left.get(), right.get(), at),
+    }
+}
+
+/// Returns the expression to which a path leads, if it leads to one. Does not allocate.
+pub fn at_path<'a>(whole: &'a Expr, path: &[usize]) -> Option<&'a Expr>
+    ensures { MatchOption result (follow path.now whole.entry.now ≡ None) (λ y. follow path.now whole.entry.now
+        ≡ Some y.now) }
+{
+    let mut expr = whole;
+    for at in path {
+        match operand(expr, *at) {
+            Some(operand) => expr = operand,
+            None => return None,
+        }
+    }
+    Some(expr)
+}

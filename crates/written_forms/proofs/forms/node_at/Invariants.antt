@@ -1,6 +1,0 @@
-use Rattle.std.proofs.Common.{◌≡◌, drop}
-use Rattle.written_forms.specs.Forms.{form_of, node_at}
-use Rattle.written_forms.proofs.forms.node_at.Given as goal
-
-abbrev pub invariant-loop-index : goal.invariant-loop-index
-invariant-loop-index l = node_at (form_of l.here) (drop l.index-index l.path) ≡ node_at (form_of l.form) l.path

@@ -1,6 +1,0 @@
-use Rattle.written_forms.proofs.LanguageCounts.{path_fits, uid_fits}
-use Rattle.written_forms.proofs.ExpressionCounts.{expr_fits}
-use Rattle.written_forms.proofs.laws.trees_count_their_tokens.Goals as goal
-
-pub returns : goal.returns
-returns c = record { paths = path_fits; uids = uid_fits; expressions = expr_fits }

@@ -1,7 +1,0 @@
-use Rattle.written_forms.specs.TokenCounts.{path_count}
-use Rattle.written_forms.proofs.Dropping.{twice}
-use Rattle.written_forms.proofs.parts.behind_uid.Goals as goal
-
-pub returns : goal.returns
-returns c =
-    twice c.args.tokens.now c.behind_path.result.now c.skip.result.now (path_count c.args.uid.now.path) 2 c.behind_path.ensures c.skip.ensures

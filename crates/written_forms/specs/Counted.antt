@@ -1,9 +1,0 @@
--- Defines what it means that a tree counts the tokens that derive it.
--- Source: Cedar reference guide 4.0, "Grammar specification for Cedar policy syntax".
-use Rattle.std.specs.Prelude.{◌≡◌, ℕ, List, length}
-use Rattle.grammar_trees.specs.grammar_tokens.declared.token.Token.{Token}
-use Rattle.grammar_trees.specs.grammar_tokens.Lang.{Lang}
-
--- `IsCounted L count` holds if tokens that derive a value in the language L are as many as `count` says of the value.
-abbrev pub IsCounted : {A : Type 0} → Lang A → (A → ℕ) → Type 0
-IsCounted L count = (ts : List Token) (x : _) → L ts x → length ts ≡ count x
