@@ -22,8 +22,8 @@ abbrev pub children_or_none : Option Relatives → List EntityUid
 children_or_none None = []
 children_or_none (Some r) = r.children.keys
 
--- `ancestors_in` and `children_in` are the ancestors and the children that a map has for an entity; `[]` if it has no
--- entry.
+-- `ancestors_in relatives x` and `children_in relatives x` are the ancestors and the children that a map has for the
+-- entity `x`; `[]` if it has no entry.
 abbrev pub ancestors_in : BTreeMap EntityUid Relatives → EntityUid → List EntityUid
 ancestors_in relatives x = ancestors_or_none (get uid_cmp relatives x)
 
@@ -42,14 +42,16 @@ pub record IsKeptOf (parents : Parents) (ancestors children : EntityUid → List
 abbrev pub AgreeBut : EntityUid → Parents → Parents → Type 0
 AgreeBut uid before after = (q : EntityUid) → is_eq (uid_cmp uid q) ≡ false → before q ≡ after q
 
--- `IsKeptBut uid after ancestors children cyclic` holds if these were right before the parents of `uid` changed.
+-- `IsKeptBut uid after ancestors children cyclic` holds if these are the ancestors, children and cyclic entities of a
+-- hierarchy that differs from `after` at most in the parents of `uid`.
 pub record IsKeptBut (uid : EntityUid) (after : Parents) (ancestors children : EntityUid → List EntityUid)
     (cyclic : List EntityUid) : Type 0 where
   pub before : Parents
   pub kept : IsKeptOf before ancestors children cyclic
   pub others : AgreeBut uid before after
 
--- `SameLists` and `SameChildren` hold if two maps have the same lists, or the same children.
+-- `SameLists before after` holds if two maps have the same ancestors for each entity, and `SameChildren before after`
+-- if they have the same children for each.
 abbrev pub SameLists : BTreeMap EntityUid Relatives → BTreeMap EntityUid Relatives → Type 0
 SameLists before after = (q : EntityUid) → ancestors_in after q ≡ ancestors_in before q
 
@@ -64,7 +66,8 @@ IsThere relatives q = IsSome (get uid_cmp relatives q)
 abbrev pub StayThere : BTreeMap EntityUid Relatives → BTreeMap EntityUid Relatives → Type 0
 StayThere before after = (q : EntityUid) → IsThere before q → IsThere after q
 
--- `AddsChild ps child before after` holds if `child` was added to some of the parents `ps`, and nothing else.
+-- `AddsChild ps child before after` holds if the children `after` are those `before`, and at most `child` for some of
+-- the parents `ps`.
 pub record AddsChild (ps : List EntityUid) (child : EntityUid)
     (before after : EntityUid → List EntityUid) : Type 0 where
   pub kept : (x y : EntityUid) → Contains (before x) y → Contains (after x) y

@@ -5,8 +5,8 @@ use plain::NoMemory;
 /// A budget: how many ancestors all lists together have, how many they may have, and how many were written.
 ///
 /// It is a measure: no contract speaks of it, and no answer depends on it. An exceeded budget is reported as a failed
-/// allocation. A caller whose change of lists is rejected must drop the lists, since what was counted up to then
-/// stays.
+/// allocation. A caller whose change of lists is rejected must drop the lists, since the lists counted up to then
+/// stay counted.
 #[derive(Clone, Copy)]
 pub struct CacheBudget {
     most: usize,
@@ -26,17 +26,17 @@ impl CacheBudget {
         }
     }
 
-    /// Sets the budget to `most`, and restarts the count of what is written.
+    /// Sets the budget to `most` ancestors, and restarts the count of written ones.
     pub fn begin(&mut self, most: usize) {
         self.most = most;
         self.written = 0;
     }
 
-    /// Counts a list of `after` that replaces one of `before`.
+    /// Counts a list of `after` ancestors that replaces one of `before`.
     ///
     /// # Errors
     ///
-    /// - `NoMemory`: the budget would be exceeded.
+    /// - `NoMemory`: the budget would be exceeded. The list is not counted.
     pub fn write(&mut self, before: usize, after: usize) -> Result<(), NoMemory> {
         let kept = self.kept.saturating_sub(before).saturating_add(after);
         if kept > self.most {
@@ -53,12 +53,13 @@ impl CacheBudget {
         self.written = self.written.saturating_add(list);
     }
 
-    /// Returns how many ancestors the lists have.
+    /// Returns how many ancestors all lists together have.
     pub fn kept(&self) -> usize {
         self.kept
     }
 
-    /// Returns how many were written or visited since the beginning, plus one for each list that was written.
+    /// Returns how many ancestors were written or visited since [`begin`](CacheBudget::begin), plus one for each
+    /// written list.
     pub fn written(&self) -> usize {
         self.written
     }

@@ -38,11 +38,11 @@ pub record ConditionDecides (W : Entities) (q : Request) (policy : Policy) : Typ
       → EvaluatesTo W q (expression_of policy) (Ok (boolean t))
   pub errs : (e : EvalFault) → TestFails W q policy.condition e → EvaluatesTo W q (expression_of policy) (Err e)
 
--- `ScopesDoNotErr`: no part of a scope errors.
+-- `ScopesDoNotErr`: each part of a scope evaluates to whether it is true.
 abbrev pub ScopesDoNotErr : Type 0
 ScopesDoNotErr = (W : Entities) (q : Request) (scope : Scope) → PartsDecide W q scope
 
--- `TrueScopesLeaveToConditions`: if the scope is true, the condition decides.
+-- `TrueScopesLeaveToConditions`: if the scope is true, the policy evaluates to what its condition does as a test.
 abbrev pub TrueScopesLeaveToConditions : Type 0
 TrueScopesLeaveToConditions = (W : Entities) (q : Request) (policy : Policy) → IsScopeTrue W.parents policy.scope q
     → ConditionDecides W q policy

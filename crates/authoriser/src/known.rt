@@ -13,8 +13,8 @@ use values::{EntityUid, Record, Request};
 
 /// A request over stored entities, with the ancestors and the attributes of its three entities looked up.
 ///
-/// Queries of these entities need no search, and queries of a variable no look-up. The ancestors of some other
-/// entities are memoized from policy to policy. Contracts see the stored entities and the request.
+/// The ancestors of these three need no search, and the attributes of a variable no look-up. The ancestors of some
+/// other entities are memoized from policy to policy. Contracts see the stored entities and the request.
 #[derive(Drop)]
 pub struct PreparedRequest<'a, L: Lookup> {
     alloc: Global,
@@ -44,8 +44,8 @@ impl<'a, L: Lookup> Model for PreparedRequest<'a, L> {
 impl<'a, L: Lookup> PreparedRequest<'a, L> {
     /// Looks up the ancestors and the attributes of the request's three entities, once each.
     ///
-    /// Memoizes the ancestors of at most `most_others` other entities, once a condition has used them, which helps if
-    /// they have to be searched. The only error is `NoMemory`.
+    /// The ancestors of at most `most_others` other entities are memoized, once a condition has used them: this helps
+    /// if the store has to search for them. The only error is `NoMemory`.
     pub fn of(
         alloc: Global,
         store: &'a L,
@@ -71,7 +71,8 @@ impl<'a, L: Lookup> PreparedRequest<'a, L> {
         &self.entities
     }
 
-    /// Memoizes the ancestors of the other entity that was last queried, if there is space for one more.
+    /// Memoizes the ancestors of the other entity that was last queried and is not memoized, if fewer than the most
+    /// are. If an allocation fails, they are not memoized.
     pub(crate) fn keep_next(&mut self)
         ensures { self.new ≡ self.old }
     {

@@ -12,7 +12,7 @@ use values::EntityUid;
 #[derive(Drop)]
 pub(crate) struct Other<'a> {
     pub(crate) uid: EntityUid,
-    /// Ascending.
+    /// All of its ancestors, ascending.
     pub(crate) ancestors: Vec<&'a EntityUid>,
 }
 
@@ -45,7 +45,8 @@ impl<'a> AncestorMemo<'a> {
         }
     }
 
-    /// Returns the memoized entity, if there is one; otherwise it is memoized next, if there is space for one more.
+    /// Returns the memoized entity, if there is one; otherwise notes it to be memoized next, if fewer than the most
+    /// are.
     pub(crate) fn find(&self, uid: &EntityUid) -> Option<&Other<'a>>
         ensures kept { MatchOption result ⊤ (λ other. Contains self.now.kept.items other.now) }
         ensures same { MatchOption result ⊤ (λ other. other.now.uid ≡ uid.now) }

@@ -10,7 +10,8 @@ use plain::Items;
 use schema::Schema;
 use values::EntityUid;
 
-/// Checks that an entity may have this parent: another entity, of a type that its own may have by `memberOfTypes`.
+/// Checks that an entity may have this parent: another entity, to whose type `memberOfTypes` leads from its own in one
+/// or more steps.
 #[tactic(auto, unfolding(crate::specs::Entities::parent_fits))]
 fn demand_parent(schema: &Schema, uid: &EntityUid, parent: &EntityUid) -> Result<(), EntityFault>
     ensures { ReadsAs EntityFault.NoMemory (λ u. u) result (parent_fits (schema_view schema.now) uid.now parent.now) }
@@ -24,7 +25,7 @@ fn demand_parent(schema: &Schema, uid: &EntityUid, parent: &EntityUid) -> Result
     Ok(())
 }
 
-/// Checks this for each of them, in order.
+/// Checks that an entity may have each of these parents, in order.
 fn demand_parents(
     schema: &Schema,
     uid: &EntityUid,
@@ -38,7 +39,7 @@ fn demand_parents(
     Ok(())
 }
 
-/// Returns the parents of an entity, ascending and without duplicates, if it may have each of these.
+/// Returns these parents, ascending and without duplicates, if the entity may have each of them.
 #[tactic(auto, unfolding(crate::specs::Entities::parents_in))]
 pub(crate) fn checked_parents(
     schema: &Schema,

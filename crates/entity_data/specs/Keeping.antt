@@ -10,11 +10,11 @@ use Rattle.entity_data.specs.declared.data.EntityData.{EntityData}
 use Rattle.entity_data.specs.Entities.{EntityMap, AreListed}
 use Rattle.entity_data.specs.Listing.{keys_are_found}
 
--- `Entries` are those of a store, ascending by uid.
+-- `Entries` is the type of the entries of a store: uids with their data.
 abbrev pub Entries : Type 0
 Entries = List (EntityUid × EntityData)
 
--- `kept_in es` are the data of each uid by the entries `es`.
+-- `kept_in es u` are the data of the uid `u` in the entries `es`, if it has an entry.
 abbrev pub kept_in : Entries → EntityMap
 kept_in es u = lookup (is_at (uid_cmp u)) es
 
@@ -22,7 +22,7 @@ kept_in es u = lookup (is_at (uid_cmp u)) es
 abbrev pub uids_in : Entries → List EntityUid
 uids_in es = map (λ e. e.0) es
 
--- `data_of e` are the data of the entity `e`.
+-- `data_of e` are the data of the entity `e`: its attributes and its parents.
 abbrev pub data_of : Entity → EntityData
 data_of e = record { attrs = e.attrs; parents = e.parents }
 

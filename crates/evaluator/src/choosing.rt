@@ -13,7 +13,7 @@ use grammar_core::Expr;
 use plain::Shared;
 use std::alloc::Global;
 
-/// Evaluates one branch, by the test.
+/// Evaluates `if`: its test, and then the branch that the test selects.
 #[cycle(evaluate)]
 #[inline(never)]
 pub(crate) fn choice_of<'a, L: EvalEnv>(
@@ -33,7 +33,7 @@ pub(crate) fn choice_of<'a, L: EvalEnv>(
     }
 }
 
-/// Evaluates one branch as a `bool`, by the test.
+/// Evaluates `if` as a `bool`: its test, and then the branch that the test selects.
 #[cycle(evaluate)]
 #[inline(never)]
 pub(crate) fn choice_test<'a, L: EvalEnv>(

@@ -14,7 +14,7 @@ use Rattle.explanation_texts.specs.Excerpt.{is_hidden, shown_char, blank_char, r
 use Rattle.explanation_texts.specs.Excerpt.{mark_if, heading, line_row, caret_row, excerpt}
 use Rattle.explanation_texts.specs.declared.finding.SourceFinding.{SourceFinding}
 use Rattle.explanation_texts.specs.declared.finding.WholeFinding.{WholeFinding}
-use Rattle.explanation_texts.specs.Explained.{readable, cause_part, says_line, hint_line, detail_line, rest_text, place_text}
+use Rattle.explanation_texts.specs.Explained.{readable, cut_text, cause_part, says_line, hint_line, detail_line, rest_text, place_text}
 use Rattle.explanation_texts.specs.Explained.{span_between, IsSourceText, index_part, file_line, IsWholeText}
 use Rattle.explanation_texts.specs.Readable.{is_shown, IsReadable}
 
@@ -164,10 +164,15 @@ excerpt_reads file line n column span =
 
 -- ---- words
 
+cut_reads : (text : List ℕ) (most : ℕ) → IsReadable (cut_text text most)
+cut_reads text most =
+    let more = nat_lt most (length (chars text)) in
+    both (readable text most) (mark_if more (codes "..")) (read text most) (marked more (codes "..") refl)
+
 cause_reads : (cause : List ℕ) → IsReadable (cause_part cause)
 cause_reads [] = nothing
 cause_reads (c ∷ cs) =
-    let a = both (codes " `") (readable (c ∷ cs) 60) (plain (codes " `") refl) (read (c ∷ cs) 60) in
+    let a = both (codes " `") (cut_text (c ∷ cs) 60) (plain (codes " `") refl) (cut_reads (c ∷ cs) 60) in
     both _ (codes "`") a (plain (codes "`") refl)
 
 says_reads : (code : ℕ) (says cause : List ℕ) → are_printable says ≡ true → IsReadable (says_line code says cause)
@@ -182,7 +187,7 @@ hint_reads advice h = both _ (10 ∷ []) (both (codes "  hint: ") advice (plain 
 detail_reads : (detail : List ℕ) → IsReadable (detail_line detail)
 detail_reads [] = nothing
 detail_reads (c ∷ cs) =
-    both _ (10 ∷ []) (both (codes "  ") (readable (c ∷ cs) 400) (plain (codes "  ") refl) (read (c ∷ cs) 400)) feed
+    both _ (10 ∷ []) (both (codes "  ") (cut_text (c ∷ cs) 400) (plain (codes "  ") refl) (cut_reads (c ∷ cs) 400)) feed
 
 index_reads : (index : Option ℕ) → IsReadable (index_part index)
 index_reads None = nothing

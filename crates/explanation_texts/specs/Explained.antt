@@ -1,14 +1,15 @@
 -- Defines the explanation of an error, for the author of the rejected text.
 -- Rules of this product: a line with the code and what is wrong; the lines that show the place, or the name of the file
 -- with the index in its array; what else is known; and a hint. Of names and of what a text contains, control characters
--- and those that change the direction of writing are shown as U+FFFD.
+-- and those that change the direction of writing are shown as U+FFFD; a long one is cut, with `..` at the cut.
 use Rattle.std.specs.Prelude.{◌≡◌, ℕ, ◌-◌, ◌+◌, ◌==◌, if◌then◌else◌, true, List, [], ◌∷◌, ◌++◌}
 use Rattle.std.specs.Prelude.{Option, None, Some}
-use Rattle.std.specs.Prelude.{codes, decimal, count_by, take, chars, slice_index_or, length}
+use Rattle.std.specs.Prelude.{codes, decimal, count_by, take, chars, slice_index_or, length, nat_lt}
 use Rattle.std.specs.Str.Lines.{lines}
 use Rattle.explanation_texts.specs.Printable.{are_printable}
+use Rattle.explanation_texts.specs.CodeText.{Texts, words_on}
 use Rattle.explanation_texts.specs.LineAndColumn.{is_line_feed, column_behind, IsStartAt}
-use Rattle.explanation_texts.specs.Excerpt.{excerpt, shown}
+use Rattle.explanation_texts.specs.Excerpt.{excerpt, shown, mark_if}
 use Rattle.explanation_texts.specs.declared.places.Place.{Place}
 use Rattle.explanation_texts.specs.declared.finding.SourceFinding.{SourceFinding}
 use Rattle.explanation_texts.specs.declared.finding.WholeFinding.{WholeFinding}
@@ -17,10 +18,14 @@ use Rattle.explanation_texts.specs.declared.finding.WholeFinding.{WholeFinding}
 abbrev pub readable : List ℕ → ℕ → List ℕ
 readable text most = shown text 0 most
 
--- `cause_part cause` is `cause` in backticks, at most 60 characters of it; nothing if it is empty.
+-- `cut_text text most` shows the first `most` characters of `text`, and `..` if it has more.
+abbrev pub cut_text : List ℕ → ℕ → List ℕ
+cut_text text most = readable text most ++ mark_if (nat_lt most (length (chars text))) (codes "..")
+
+-- `cause_part cause` is `cause` in backticks, cut after 60 characters; nothing if it is empty.
 abbrev pub cause_part : List ℕ → List ℕ
 cause_part [] = []
-cause_part (c ∷ cs) = codes " `" ++ readable (c ∷ cs) 60 ++ codes "`"
+cause_part (c ∷ cs) = codes " `" ++ cut_text (c ∷ cs) 60 ++ codes "`"
 
 -- `says_line code says cause` is `error CODE: ` and what is wrong.
 abbrev pub says_line : ℕ → List ℕ → List ℕ → List ℕ
@@ -30,10 +35,16 @@ says_line code says cause = codes "error " ++ decimal code ++ codes ": " ++ says
 abbrev pub hint_line : List ℕ → List ℕ
 hint_line advice = codes "  hint: " ++ advice ++ 10 ∷ []
 
--- `detail_line detail` says what else is known, in at most 400 characters; nothing if it is empty.
+-- `detail_line detail` says what else is known, cut after 400 characters; nothing if it is empty.
 abbrev pub detail_line : List ℕ → List ℕ
 detail_line [] = []
-detail_line (c ∷ cs) = codes "  " ++ readable (c ∷ cs) 400 ++ 10 ∷ []
+detail_line (c ∷ cs) = codes "  " ++ cut_text (c ∷ cs) 400 ++ 10 ∷ []
+
+-- `AreWordsOf words says advice` holds if `says` and `advice` are those of the words on a code, or for a code that no
+-- error has.
+abbrev pub AreWordsOf : Option Texts → List ℕ → List ℕ → Type 0
+AreWordsOf None says advice = (says ≡ codes "rejected") × (advice ≡ codes "docs/codes.md has the codes")
+AreWordsOf (Some words) says advice = (says ≡ words.says) × (advice ≡ words.advice)
 
 -- `AreClean says advice` holds if the words on a code are printable.
 abbrev pub AreClean : List ℕ → List ℕ → Type 0
@@ -67,11 +78,12 @@ abbrev pub source_text : List ℕ → List ℕ → SourceFinding → List ℕ �
 source_text file text finding says advice place span = says_line finding.code says finding.cause.now
     ++ place_text file text place span ++ rest_text finding advice
 
--- `IsSourceText file text finding bytes` holds if `bytes` explain `finding` in `text`, that of the file `file`, in some
--- words.
+-- `IsSourceText file text finding bytes` holds if `bytes` explain `finding` in `text`, that of the file `file`, in the
+-- words on its code.
 pub record IsSourceText (file text : List ℕ) (finding : SourceFinding) (bytes : List ℕ) : Type 0 where
   pub says : List ℕ
   pub advice : List ℕ
+  pub words : AreWordsOf (words_on finding.code) says advice
   pub clean : AreClean says advice
   pub place : Place
   pub end : Place
@@ -95,9 +107,10 @@ abbrev pub whole_text : List ℕ → WholeFinding → List ℕ → List ℕ → 
 whole_text file finding says advice = says_line finding.code says [] ++ file_line file finding.index
     ++ detail_line finding.detail.now ++ hint_line advice
 
--- `IsWholeText file finding bytes` holds if `bytes` explain `finding` in the file `file`, in some words.
+-- `IsWholeText file finding bytes` holds if `bytes` explain `finding` in the file `file`, in the words on its code.
 pub record IsWholeText (file : List ℕ) (finding : WholeFinding) (bytes : List ℕ) : Type 0 where
   pub says : List ℕ
   pub advice : List ℕ
+  pub words : AreWordsOf (words_on finding.code) says advice
   pub clean : AreClean says advice
   pub is : bytes ≡ whole_text file finding says advice

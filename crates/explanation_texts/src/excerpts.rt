@@ -34,7 +34,8 @@ fn blank_for(c: char) -> char
     if c == '\t' { '\t' } else { ' ' }
 }
 
-fn count_chars(text: &str) -> usize
+/// Returns the number of characters of a text.
+pub(crate) fn count_chars(text: &str) -> usize
     ensures { result ≡ length (chars text.now) }
 {
     text.chars().count()
@@ -70,7 +71,8 @@ fn push_repeated(out: &mut String, c: char, count: usize) -> Result<(), NoMemory
     out.extend(repeat_n(c, count))
 }
 
-fn push_mark(out: &mut String, is_cut: bool, mark: &str) -> Result<(), NoMemory>
+/// Appends a mark if something is cut.
+pub(crate) fn push_mark(out: &mut String, is_cut: bool, mark: &str) -> Result<(), NoMemory>
     ensures { OnOk result (string_bytes out.new ≡ string_bytes out.old ++ mark_if is_cut mark.now) }
 {
     if is_cut {

@@ -1,6 +1,6 @@
 //! The text on an error code.
 ghost use Rattle.std.specs.Prelude.{◌≡◌, IfOk, string_bytes};
-ghost use Rattle.explanation_texts.specs.CodeText.{code_text};
+ghost use Rattle.explanation_texts.specs.CodeText.{code_text, texts_of};
 
 use crate::shown::push_number;
 use crate::table::CodeWords;
@@ -13,8 +13,8 @@ use std::alloc::Global;
 /// # Errors
 ///
 /// - `NoMemory`: an allocation failed.
-pub fn code_text(alloc: Global, words: &CodeWords) -> Result<String, NoMemory>
-    ensures { IfOk result (λ text. string_bytes text ≡ code_text words.now) }
+pub fn code_text(alloc: Global, words: &CodeWords<&str>) -> Result<String, NoMemory>
+    ensures { IfOk result (λ text. string_bytes text ≡ code_text (texts_of words.now)) }
 {
     let mut text = String::new(alloc);
     push_number(&mut text, usize::from(words.code))?;

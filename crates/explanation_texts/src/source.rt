@@ -1,9 +1,11 @@
 //! An error in a part of a text.
 ghost use Rattle.std.specs.Prelude.{◌≡◌, ◌++◌, OnOk, string_bytes, ℕ, List};
-ghost use Rattle.explanation_texts.specs.Explained.{cause_part, detail_line, says_line, hint_line, place_text};
-ghost use Rattle.explanation_texts.specs.Explained.{rest_text, source_text, AreClean, IsSourceText};
+ghost use Rattle.explanation_texts.specs.Explained.{cut_text, cause_part, detail_line, says_line, hint_line};
+ghost use Rattle.explanation_texts.specs.Explained.{place_text};
+ghost use Rattle.explanation_texts.specs.Explained.{rest_text, source_text, AreClean, AreWordsOf, IsSourceText};
+ghost use Rattle.explanation_texts.specs.CodeText.{words_on};
 
-use crate::excerpts::push_excerpt;
+use crate::excerpts::{count_chars, push_excerpt, push_mark};
 use crate::finding::SourceFinding;
 use crate::places::{Place, place_of};
 use crate::shown::{push_number, push_shown};
@@ -19,12 +21,22 @@ const MOST_DETAIL: usize = 400;
 
 /// Returns what is wrong, in words, and what to do. The table has words for each code.
 pub(crate) fn says_and_advice(code: u16) -> (&'static str, &'static str)
-    ensures { AreClean result.0.now result.1.now }
+    ensures clean { AreClean result.0.now result.1.now }
+    ensures words { AreWordsOf (words_on code) result.0.now result.1.now }
 {
     match words_of(code) {
         Some(words) => (words.says, words.advice),
         None => ("rejected", "docs/codes.md has the codes"),
     }
+}
+
+// Appends at most so many characters of a text, and `..` if it has more.
+fn push_cut(out: &mut String, text: &str, most: usize) -> Result<(), NoMemory>
+    ensures { OnOk result (string_bytes out.new ≡ string_bytes out.old ++ cut_text text.now most) }
+{
+    push_shown(out, text, 0, most)?;
+    push_mark(out, most < count_chars(text), "..")?;
+    Ok(())
 }
 
 fn push_cause(out: &mut String, cause: &str) -> Result<(), NoMemory>
@@ -34,7 +46,7 @@ fn push_cause(out: &mut String, cause: &str) -> Result<(), NoMemory>
         return Ok(());
     }
     out.push_str(" `")?;
-    push_shown(out, cause, 0, MOST_CAUSE)?;
+    push_cut(out, cause, MOST_CAUSE)?;
     out.push_str("`")?;
     Ok(())
 }
@@ -75,7 +87,7 @@ pub(crate) fn push_detail(out: &mut String, detail: &str) -> Result<(), NoMemory
         return Ok(());
     }
     out.push_str("  ")?;
-    push_shown(out, detail, 0, MOST_DETAIL)?;
+    push_cut(out, detail, MOST_DETAIL)?;
     out.push_str("\n")?;
     Ok(())
 }

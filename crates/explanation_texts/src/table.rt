@@ -1,28 +1,28 @@
 //! The table of error codes.
 ghost use Rattle.std.specs.Prelude.{◌≡◌, ◌==◌, true, IfSome, is_some, option_map, map};
-ghost use Rattle.std.specs.List.{find, list_all};
-ghost use Rattle.explanation_texts.specs.Codes.{codes_of_kind, is_code};
+ghost use Rattle.std.specs.List.{find};
+ghost use Rattle.explanation_texts.specs.Codes.{is_code};
+ghost use Rattle.explanation_texts.specs.CodeText.{texts_of, rows_of_kind, words_on};
 ghost use Rattle.explanation_texts.specs.Printable.{is_clean};
 
-/// The texts on an error code.
-#[derive(Clone, Copy)]
-pub struct CodeWords {
+/// The texts on an error code, each a `T`. It is generic so that contracts can name the rows of the table.
+pub struct CodeWords<T> {
     /// The code.
     pub code: u16,
     /// Its name, of one to three words.
-    pub name: &'static str,
+    pub name: T,
     /// What is rejected with it.
-    pub meaning: &'static str,
+    pub meaning: T,
     /// An example of that.
-    pub example: &'static str,
+    pub example: T,
     /// What an explanation says of the place that it shows. The token at that place follows, if it is named.
-    pub says: &'static str,
+    pub says: T,
     /// What to do.
-    pub advice: &'static str,
+    pub advice: T,
 }
 
 // Errors of any call.
-static ANY_CALL: [CodeWords; 2] = [
+static ANY_CALL: [CodeWords<&str>; 2] = [
     CodeWords {
         code: 1,
         name: "out of memory",
@@ -42,7 +42,7 @@ static ANY_CALL: [CodeWords; 2] = [
 ];
 
 // Policies that do not parse.
-static POLICIES: [CodeWords; 10] = [
+static POLICIES: [CodeWords<&str>; 10] = [
     CodeWords {
         code: 10,
         name: "bad token",
@@ -126,7 +126,7 @@ static POLICIES: [CodeWords; 10] = [
 ];
 
 // Schemas.
-static SCHEMAS: [CodeWords; 6] = [
+static SCHEMAS: [CodeWords<&str>; 6] = [
     CodeWords {
         code: 20,
         name: "not JSON",
@@ -178,7 +178,7 @@ static SCHEMAS: [CodeWords; 6] = [
 ];
 
 // Entities and requests.
-static ENTITIES: [CodeWords; 10] = [
+static ENTITIES: [CodeWords<&str>; 10] = [
     CodeWords {
         code: 30,
         name: "bad shape",
@@ -262,7 +262,7 @@ static ENTITIES: [CodeWords; 10] = [
 ];
 
 // Policies that do not pass validation.
-static TYPES: [CodeWords; 7] = [
+static TYPES: [CodeWords<&str>; 7] = [
     CodeWords {
         code: 40,
         name: "unknown entity type",
@@ -322,7 +322,7 @@ static TYPES: [CodeWords; 7] = [
 ];
 
 // Messages between sites.
-static MESSAGES: [CodeWords; 8] = [
+static MESSAGES: [CodeWords<&str>; 8] = [
     CodeWords {
         code: 50,
         name: "not JSON",
@@ -390,7 +390,7 @@ static MESSAGES: [CodeWords; 8] = [
 ];
 
 // Commands at a site.
-static COMMANDS: [CodeWords; 4] = [
+static COMMANDS: [CodeWords<&str>; 4] = [
     CodeWords {
         code: 60,
         name: "not there",
@@ -426,7 +426,7 @@ static COMMANDS: [CodeWords; 4] = [
 ];
 
 // HTTP statuses in place of a code.
-static HTTP: [CodeWords; 6] = [
+static HTTP: [CodeWords<&str>; 6] = [
     CodeWords {
         code: 400,
         name: "bad request",
@@ -478,9 +478,9 @@ static HTTP: [CodeWords; 6] = [
 ];
 
 /// Returns the rows among which a code would be.
-fn rows_of(code: u16) -> &'static [CodeWords]
-    ensures codes { map (λ words. words.code) result.now ≡ codes_of_kind code }
-    ensures clean { list_all is_clean result.now ≡ true }
+#[tactic(auto, unfolding(crate::specs::CodeText::rows_of_kind))]
+fn rows_of(code: u16) -> &'static [CodeWords<&'static str>]
+    ensures { map texts_of result.now ≡ rows_of_kind code }
 {
     if code < 10 {
         return &ANY_CALL;
@@ -506,18 +506,20 @@ fn rows_of(code: u16) -> &'static [CodeWords]
     &HTTP
 }
 
-fn found_in(rows: &'static [CodeWords], code: u16) -> Option<&'static CodeWords>
-    ensures same { IfSome result (λ words. words.now.code ≡ code) }
-    ensures found { option_map (λ words. words.now) result ≡ find (λ words. words.code == code) rows.now }
+fn found_in(
+    rows: &'static [CodeWords<&'static str>],
+    code: u16,
+) -> Option<&'static CodeWords<&'static str>>
+    ensures { option_map (λ words. words.now) result ≡ find (λ words. words.code == code) rows.now }
 {
     rows.iter().find(|words| words.code == code)
 }
 
 /// Returns the texts on a code, or `None` if no error has this code. Does not allocate.
-pub fn words_of(code: u16) -> Option<&'static CodeWords>
-    ensures same { IfSome result (λ words. words.now.code ≡ code) }
+pub fn words_of(code: u16) -> Option<&'static CodeWords<&'static str>>
+    ensures found { option_map (λ words. texts_of words.now) result ≡ words_on code }
     ensures known { is_some result ≡ is_code code }
-    ensures clean { IfSome result (λ words. is_clean words.now ≡ true) }
+    ensures clean { IfSome result (λ words. is_clean (texts_of words.now) ≡ true) }
 {
     found_in(rows_of(code), code)
 }

@@ -22,7 +22,7 @@ use Rattle.token_spans.specs.declared.spans.Span.{Span}
 use Rattle.token_spans.specs.Spans.{IsSpanOf, IsNameSpanOf}
 use Rattle.explanations.specs.declared.pieces.Piece.{Piece}
 use Rattle.explanations.specs.Files.{File, Files}
-use Rattle.explanations.specs.Parts.{IsPartOf, IsNothing, IsSourceAt, IsWholeAt, AppendsSome}
+use Rattle.explanations.specs.Parts.{IsPartOf, IsNothing, IsSourceAt, IsWholeAt, IsMessageExplained, AppendsSome}
 use Rattle.explanations.specs.Pieces.{ArePiecesOf}
 use Rattle.explanations.specs.Policies.{is_searched, large_note, IsFoundAs, IsFaultText, IsCheckExplained, passes_so, rejected_so, too_large, ArePoliciesExplained}
 use Rattle.explanations.specs.Unread.{byte_in, is_that, IsPieceExplained, is_read, is_unread, ArePiecesExplained, AppendsTold}
@@ -48,6 +48,12 @@ source_is file text m n old new c d i j noted e f a =
     let so = subst (λ (l : List ℕ). IsSourceAt file text l c i a.0) noted a.1 in
     let moved = subst (λ (k : ℕ). IsSourceAt file text n c k a.0) f so in
     (a.0, subst (λ (k : ℕ). IsSourceAt file text n k j a.0) e moved, a.2)
+
+-- the text on a message, which is alone
+pub message_alone : (file : List ℕ) (code : ℕ) (old new : List ℕ) → old ≡ [] → AppendsSome (IsMessageExplained file code) old new
+    → IsMessageExplained file code new
+message_alone file code old new empty a =
+    subst (IsMessageExplained file code) (sym (a.2 ∙ ap (λ (l : List ℕ). l ++ a.0) empty)) a.1
 
 -- ---- a policy
 

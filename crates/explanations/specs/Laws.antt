@@ -4,8 +4,10 @@
 use Rattle.std.specs.Prelude.{ℕ, List}
 use Rattle.explanation_texts.specs.Readable.{IsReadable}
 use Rattle.explanations.specs.Files.{Files}
+use Rattle.explanations.specs.Parts.{IsMessageExplained}
 use Rattle.explanations.specs.Explained.{IsExplained}
 
 -- Each explanation is such a text, whatever the files contain, and whatever their names are.
 abbrev pub ExplainedTextsAreReadable : Type 0
-ExplainedTextsAreReadable = (given : Files) (bytes : List ℕ) → IsExplained given bytes → IsReadable bytes
+ExplainedTextsAreReadable = ((given : Files) (bytes : List ℕ) → IsExplained given bytes → IsReadable bytes)
+    × ((file : List ℕ) (code : ℕ) (bytes : List ℕ) → IsMessageExplained file code bytes → IsReadable bytes)

@@ -1,7 +1,7 @@
 -- Defines parts of a text, and the texts of errors by their code and place.
 -- Rules of this product: an error is shown at the byte at which it begins. These definitions leave open how many
 -- characters are marked, and what is named as the cause.
-use Rattle.std.specs.Prelude.{◌≡◌, ◌⊎◌, ℕ, List, [], ◌++◌, Option, take, drop}
+use Rattle.std.specs.Prelude.{◌≡◌, ◌⊎◌, ℕ, List, [], ◌++◌, Option, None, take, drop}
 use Rattle.std.specs.Str.{IsCharBoundary}
 use Rattle.explanation_texts.specs.declared.finding.SourceFinding.{SourceFinding}
 use Rattle.explanation_texts.specs.declared.finding.WholeFinding.{WholeFinding}
@@ -36,6 +36,10 @@ pub record IsWholeAt (file : List ℕ) (code : ℕ) (index : Option ℕ) (Told :
     pub index_is : finding.index ≡ index
     pub told : Told finding.detail.now
     pub is_text : IsWholeText file finding bytes
+
+-- `IsMessageExplained file code bytes` holds if `bytes` explain that the message in `file` is rejected with this code.
+abbrev pub IsMessageExplained : List ℕ → ℕ → List ℕ → Type 0
+IsMessageExplained file code bytes = IsWholeAt file code None IsNothing bytes
 
 -- `AppendsSome Is old new` holds if `new` is `old` followed by bytes for which `Is` holds.
 abbrev pub AppendsSome : (List ℕ → Type 0) → List ℕ → List ℕ → Type 0

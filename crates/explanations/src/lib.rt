@@ -5,6 +5,7 @@
 mod explaining;
 mod given;
 mod laws;
+mod messages;
 mod others;
 mod parts;
 mod pieces;
@@ -15,3 +16,4 @@ pub use explaining::explain_texts;
 pub use explanation_texts::{CodeWords, code_text, words_of};
 pub use given::{Given, Source};
 pub use laws::explained_texts_are_readable;
+pub use messages::explain_message;

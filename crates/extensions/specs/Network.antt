@@ -13,7 +13,7 @@ pub record Network : Type 0 where
   pub address : ℕ
   pub prefix : ℕ
 
--- `width version` is the number of bits of an address.
+-- `width version` is the number of bits of an address of this version.
 abbrev pub width : Version → ℕ
 width V4 = 32
 width V6 = 128
@@ -27,11 +27,11 @@ pub record IsNetwork (n : Network) : Type 0 where
 abbrev pub size : Network → ℕ
 size n = 2 ^ (width n.version - n.prefix)
 
--- `least n` is the least of them.
+-- `least n` is the least address in the range of `n`.
 abbrev pub least : Network → ℕ
 least n = n.address / size n * size n
 
--- `greatest n` is the greatest of them.
+-- `greatest n` is the greatest address in the range of `n`.
 abbrev pub greatest : Network → ℕ
 greatest n = least n + size n - 1
 
@@ -41,18 +41,18 @@ pub record IsWithin (a b : Network) : Type 0 where
   pub from : least b ≤ least a
   pub to : greatest a ≤ greatest b
 
--- 127.0.0.0/8
+-- `loopback_v4` is 127.0.0.0/8.
 abbrev pub loopback_v4 : Network
 loopback_v4 = record { version = V4; address = 127 * 2 ^ 24; prefix = 8 }
 
--- ::1/128
+-- `loopback_v6` is ::1/128.
 abbrev pub loopback_v6 : Network
 loopback_v6 = record { version = V6; address = 1; prefix = 128 }
 
--- 224.0.0.0/4
+-- `multicast_v4` is 224.0.0.0/4.
 abbrev pub multicast_v4 : Network
 multicast_v4 = record { version = V4; address = 224 * 2 ^ 24; prefix = 4 }
 
--- ff00::/8
+-- `multicast_v6` is ff00::/8.
 abbrev pub multicast_v6 : Network
 multicast_v6 = record { version = V6; address = 255 * 2 ^ 120; prefix = 8 }

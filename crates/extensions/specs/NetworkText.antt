@@ -9,18 +9,18 @@ use Rattle.extensions.specs.declared.ip_net.Version.TheVariants.{V4, V6}
 use Rattle.extensions.specs.AddressText.{IsIpv4Text, IsIpv6Text}
 use Rattle.extensions.specs.Network.{Network, width}
 
--- `IsAddressText version text n` holds if `text` is the address `n` without a prefix.
+-- `IsAddressText version text n` holds if `text` is the address `n` of this version, without a prefix.
 abbrev pub IsAddressText : Version → List ℕ → ℕ → Type 0
 IsAddressText V4 text n = IsIpv4Text text n
 IsAddressText V6 text n = IsIpv6Text text n
 
--- `IsPrefixText bits text prefix` holds if `text` is empty, for all bits, or `/` and a decimal number without leading
--- zeros.
+-- `IsPrefixText bits text prefix` holds if `text` is empty and `prefix` is `bits`, or `text` is `/` and the decimal
+-- number `prefix` without leading zeros, at most `bits`.
 abbrev pub IsPrefixText : ℕ → List ℕ → ℕ → Type 0
 IsPrefixText bits text prefix = ((text ≡ []) × (prefix ≡ bits))
     ⊎ ((text ≡ codes "/" ++ decimal prefix) × (prefix ≤ bits))
 
--- `IsNetworkText text n` holds if `text` is an address and its prefix, of the network `n`.
+-- `IsNetworkText text n` holds if `text` is the address of the network `n`, followed by its prefix.
 pub record IsNetworkText (text : List ℕ) (n : Network) : Type 0 where
   pub address_text : List ℕ
   pub prefix_text : List ℕ
@@ -28,28 +28,28 @@ pub record IsNetworkText (text : List ℕ) (n : Network) : Type 0 where
   pub address : IsAddressText n.version address_text n.address
   pub prefix : IsPrefixText (width n.version) prefix_text n.prefix
 
--- `ipv4_text n` are four decimal numbers, the most significant first.
+-- `ipv4_text n` are four decimal numbers with `.` between them, the most significant first.
 abbrev pub ipv4_text : ℕ → List ℕ
 ipv4_text n =
     decimal (n / 2 ^ 24 % 256) ++ codes "." ++ decimal (n / 2 ^ 16 % 256) ++ codes "." ++ decimal (n / 2 ^ 8 % 256)
     ++ codes "."
     ++ decimal (n % 256)
 
--- `groups_text n` are four groups of lower case hexadecimal digits, the most significant first.
+-- `groups_text n` are four groups of lower case hexadecimal digits with `:` between them, the most significant first.
 abbrev pub groups_text : ℕ → List ℕ
 groups_text n =
     digits 16 false (n / 2 ^ 48) ++ codes ":" ++ digits 16 false (n / 2 ^ 32 % 65536) ++ codes ":"
     ++ digits 16 false (n / 2 ^ 16 % 65536) ++ codes ":" ++ digits 16 false (n % 65536)
 
--- `ipv6_text n` are eight such groups.
+-- `ipv6_text n` are eight such groups with `:` between them.
 abbrev pub ipv6_text : ℕ → List ℕ
 ipv6_text n = groups_text (n / 2 ^ 64) ++ codes ":" ++ groups_text (n % 2 ^ 64)
 
--- `address_text version n` is the canonical string of an address.
+-- `address_text version n` is the canonical string of the address `n` of this version, without a prefix.
 abbrev pub address_text : Version → ℕ → List ℕ
 address_text V4 n = ipv4_text n
 address_text V6 n = ipv6_text n
 
--- `network_text n` is that of a network, always with its prefix.
+-- `network_text n` is the canonical string of the network `n`, always with its prefix.
 abbrev pub network_text : Network → List ℕ
 network_text n = address_text n.version n.address ++ codes "/" ++ decimal n.prefix

@@ -51,7 +51,7 @@ fn ipv6_of_text(text: &str) -> Option<u128>
     }
 }
 
-/// Parses the prefix after the `/`, which is at most `bits`.
+/// Parses the prefix after the `/`: a decimal number without leading zeros, at most `bits`.
 pub(crate) fn prefix_of_text(text: &str, bits: u8) -> Option<u8>
     ensures some { IfSome result (λ p. (text.now ≡ decimal p) × (p ≤ bits)) }
     ensures none { IsNone result → (p : ℕ) → p ≤ bits → ¬ (text.now ≡ decimal p) }

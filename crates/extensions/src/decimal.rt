@@ -218,7 +218,7 @@ pub fn decimal_texts_are_decided()
     ensures { (text : List ℕ) (z : ℤ) → (decimal_of text ≡ Some z) ↔ IsDecimalText text z }
 {}
 
-/// Proves that the canonical string of a decimal parses as it. No-op.
+/// Proves that the canonical string of a decimal parses as that decimal. No-op.
 pub fn canonical_decimal_reads_back()
     ensures { (z : ℤ) → FitsSigned w64 z → IsDecimalText (decimal_text z) z }
 {}

@@ -286,7 +286,7 @@ pub fn range_is_agreement()
     ensures { (n : Network) (x : ℕ) → ((least n ≤ x) × (x ≤ greatest n)) ↔ (x / size n ≡ n.address / size n) }
 {}
 
-/// Proves that the canonical string of a network parses as it. No-op.
+/// Proves that the canonical string of a network parses as that network. No-op.
 pub fn canonical_network_reads_back()
     ensures { (n : Network) → IsNetwork n → IsNetworkText (network_text n) n }
 {}

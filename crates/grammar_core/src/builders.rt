@@ -1,4 +1,4 @@
-//! Builders of expressions. Each takes its parts, on an error too.
+//! Builders of expressions. The parts are moved into the expression; on an error they are dropped.
 ghost use Rattle.std.specs.Prelude.{◌≡◌, IfOk};
 
 use crate::expr::Expr;
@@ -117,7 +117,7 @@ impl Expr {
     }
 
     /// Returns `operand is type_name in ancestor`, which is `operand is type_name && operand in ancestor`, or
-    /// `NoMemory`. The operand occurs twice in it, and is shared.
+    /// `NoMemory`. The operand occurs twice in the expression, and is shared.
     pub fn is_in(
         alloc: Global,
         operand: Expr,

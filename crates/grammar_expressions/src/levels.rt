@@ -1,4 +1,4 @@
-//! Levels of operators: an operand, followed by pieces as long as one begins with a token of a set.
+//! Levels of operators: an operand, and then pieces as long as the next token is in a set of kinds.
 
 ghost use Rattle.std.specs.Prelude.{◌≡◌, List, IfOk};
 ghost use Rattle.grammar_trees.specs.grammar_tokens.ParsesTo.{ParsesTo};
@@ -19,16 +19,21 @@ pub(crate) trait Level {
     /// The condition under which the parsers may be called.
     ghost can_read: { Self → Type 0 };
 
+    /// How an operand is parsed.
     ghost operands: { Self → Parser trees.ExprTree };
 
+    /// How a piece is parsed.
     ghost pieces: { Self → Parser Self.Piece };
 
+    /// The tree of an operand and the pieces after it.
     ghost joins: { trees.ExprTree → List Self.Piece → trees.ExprTree };
 
+    /// Parses an operand.
     fn operand(&self, tokens: &mut Cursor<'_>) -> Result<ExprTree, StopCause>
         requires { can_read self.now }
         ensures { ParsesTo (operands self.now tokens.old.rest.now) result tokens.new.rest.now };
 
+    /// Parses a piece.
     fn piece(&self, tokens: &mut Cursor<'_>) -> Result<Self::Piece, StopCause>
         requires { can_read self.now }
         ensures { ParsesTo (pieces self.now tokens.old.rest.now) result tokens.new.rest.now };
@@ -38,7 +43,7 @@ pub(crate) trait Level {
         ensures { result ≡ joins first more };
 }
 
-/// Parses the pieces after an operand, which begin with a token of the set.
+/// Parses the pieces after an operand, as long as the next token is in the set.
 fn pieces<L: Level, S: KindSet>(
     alloc: Global,
     tokens: &mut Cursor<'_>,
@@ -65,7 +70,7 @@ fn join<L: Level>(
     }
 }
 
-/// Parses the pieces after a parsed operand, which begin with a token of the set.
+/// Parses the pieces after the operand `first`, as long as the next token is in the set. Returns the tree of both.
 fn chain_on<L: Level, S: KindSet>(
     alloc: Global,
     tokens: &mut Cursor<'_>,
@@ -81,8 +86,8 @@ fn chain_on<L: Level, S: KindSet>(
     Ok(join::<L>(alloc, first, more)?)
 }
 
-/// Parses an operand and the pieces after it, which begin with a token of the set. An operand without pieces, as
-/// most, is returned as it is, without a list.
+/// Parses an operand and the pieces after it, as long as the next token is in the set. An operand without pieces, the
+/// usual case, is returned as it is, without a list.
 pub(crate) fn chain<L: Level, S: KindSet>(
     alloc: Global,
     tokens: &mut Cursor<'_>,

@@ -3,7 +3,7 @@
 use Rattle.std.specs.Prelude.{◌≡◌, ℕ, ◌≤◌, List, ◌∷◌, ◌++◌, map, Contains, Option, Some, None}
 use Rattle.grammar_trees.specs.declared.repeats.NameAt as code
 
--- A name with its byte offset.
+-- A `NameAt` is a name with its byte offset.
 pub record NameAt : Type 0 where
   pub name : List ℕ
   pub at : ℕ

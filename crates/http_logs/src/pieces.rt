@@ -18,7 +18,7 @@ use std::alloc::Global;
 /// The number of bytes that are reserved at once for the pieces of a line: most take less.
 const USUAL_LINE: usize = 256;
 
-/// Appends a piece, for which there is room.
+/// Appends a piece within the capacity.
 pub(crate) fn append(line: &mut Vec<u8>, piece: &[u8])
     requires room { vec_len line.old + length piece.now ≤ vec_capacity line.old }
     ensures items { line.new.items ≡ line.old.items ++ piece.now }
@@ -160,7 +160,7 @@ fn text_of(bytes: &[u8]) -> Option<&str>
     }
 }
 
-/// Returns the beginning of the line of a request.
+/// Returns the beginning of the line of a request: its method and its target, each null if it is not UTF-8.
 pub(crate) fn head_of(alloc: Global, method: &[u8], target: &[u8]) -> Result<Vec<u8>, NoMemory>
     ensures { IfOk result (λ made. made.items ≡ head_text (text_of method.now) (text_of target.now)) }
 {
@@ -182,7 +182,7 @@ fn with_uid(line: Vec<u8>, kind: &str, id: &str) -> Result<Vec<u8>, NoMemory>
     with_piece(line, b"}")
 }
 
-/// Returns a line followed by the uid of an object, or by null.
+/// Returns a line followed by the uid that an object states, or by null if it lacks a type or an id.
 fn with_object(line: Vec<u8>, value: &Value) -> Result<Vec<u8>, NoMemory>
     ensures { IfOk result (λ made. made.items ≡ line.items ++ object_text (view value.now)) }
 {
@@ -195,7 +195,7 @@ fn with_object(line: Vec<u8>, value: &Value) -> Result<Vec<u8>, NoMemory>
     }
 }
 
-/// Returns a line followed by the uid of an object or of its member `__entity`.
+/// Returns a line followed by the uid that the member `__entity` of an object states, or without it the object itself.
 fn with_inner(line: Vec<u8>, value: &Value) -> Result<Vec<u8>, NoMemory>
     ensures { IfOk result (λ made.
         made.items ≡ line.items ++ inner_text (view value.now) (get (codes "__entity") (view value.now))) }
@@ -206,7 +206,7 @@ fn with_inner(line: Vec<u8>, value: &Value) -> Result<Vec<u8>, NoMemory>
     }
 }
 
-/// Returns a line followed by the name of an entity, as the request has it.
+/// Returns a line followed by the name of an entity in a request: a string as it was sent, else the uid of an object.
 fn with_name(line: Vec<u8>, value: &Value) -> Result<Vec<u8>, NoMemory>
     ensures { IfOk result (λ made. made.items ≡ line.items ++ name_text (view value.now) (as_str (view value.now))) }
 {
@@ -251,7 +251,7 @@ fn with_member(
     with_named(line, member(value, key))
 }
 
-/// Returns the text of the request in the JSON of a body.
+/// Returns the members `principal`, `action` and `resource` of a line: the entities that the JSON of a body names.
 pub(crate) fn members_of(alloc: Global, value: &Option<Value>) -> Result<Vec<u8>, NoMemory>
     ensures { IfOk result (λ made. made.items ≡ members_text (option_map view value.now)) }
 {

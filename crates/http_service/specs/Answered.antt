@@ -28,6 +28,7 @@ abbrev pub answers_logged :
 answers_logged old method target body status line new =
     answers_over old.service method target body status line new.service
 
--- `IsAlike a b` holds if the sites `a` and `b` have one schema, which some bytes state, one name, and equal stores.
+-- `IsAlike a b` holds if the sites `a` and `b` have the same schema, which some bytes state, the same name, and equal
+-- stores.
 abbrev pub IsAlike : SiteView → SiteView → Type 0
 IsAlike a b = IsStated a.schema × IsSameSite a b × (store_in b ≡ store_in a)

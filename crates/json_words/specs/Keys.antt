@@ -4,7 +4,7 @@ use Rattle.std.specs.List.{list_any}
 use Rattle.std.specs.Str.{bytes_eq}
 use Rattle.serde_json.specs.Data.{Data, null, boolean, number, string, array, object, Members, no_members, member}
 
--- `keys_within allowed ms` tests that there are no other keys than `allowed`.
+-- `keys_within allowed ms` tests that the members `ms` have no other keys than `allowed`.
 abbrev pub keys_within : List (List ℕ) → Members → Bool
 keys_within allowed no_members = true
 keys_within allowed (member k d ms) = list_any (λ a. bytes_eq a k) allowed && keys_within allowed ms

@@ -1,4 +1,4 @@
-//! Messages of the errors that no row of a site shows (`says` in the crate `site_rows`).
+//! Tests of the messages of errors that no row shows (rows show messages by the word `says` of the crate `site_rows`).
 use crate::shared::holds;
 use authoriser::PolicyError;
 use evaluator::EvalFault;

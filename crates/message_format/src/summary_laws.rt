@@ -20,10 +20,11 @@ use values::paths_are_told;
 
 /// Proves the round trip of summaries.
 ///
-/// The JSON of a summary is parsed as that summary; the JSON of a summary of version 1 as the summary in which each
-/// site's number is replaced by its five digits. A parsed summary has names and stamps in their ranges, and its names
-/// ascend. So do the names of a store's summary. The text of a summary that may be written is parsed as that summary,
-/// and two summaries with one text are equal. No-op.
+/// If the names and stamps of a summary are in their ranges and its names ascend, its JSON is parsed as that summary;
+/// the JSON of such a summary of version 1 as the summary in which each site's number is replaced by its five digits.
+/// A parsed summary has names and stamps in their ranges, and its names ascend. So do the names of a store's summary.
+/// For a label in UTF-8, the text of a summary that may be written is parsed as that summary, and two such summaries
+/// with one text are equal. No-op.
 pub fn summaries_read_back()
     ensures back { (label : List ℕ) (m : Summary) → AreStamped m → ascend m ≡ true
         → summary_in label (summary_json label m) ≡ Ok m }
@@ -46,8 +47,8 @@ pub fn summaries_read_back()
 
 /// Proves the round trip of names and stamps.
 ///
-/// The JSON of a name is parsed as that name. A name and a stamp in their ranges pass [`judge_stamp`]'s checks; a name
-/// and a stamp that are read and pass them are in their ranges. No-op.
+/// The JSON of a name in its range is parsed as that name. A name and a stamp in their ranges pass [`judge_stamp`]'s
+/// checks; a name and a stamp that are parsed and pass them are in their ranges. No-op.
 pub fn stamps_read_back()
     ensures names { (n : Name) → IsName n → name_in (name_json n) ≡ Ok n }
     ensures judged { (place : ℕ) (u : Name × Stamp) → IsStamped u → judged place u ≡ Ok u }

@@ -39,14 +39,14 @@ impl<T> Items<T> {
         }
     }
 
-    /// Returns the items of a `Vec`. Does not allocate.
+    /// Creates a list of the items of a `Vec`. Does not allocate.
     pub fn from_vec(list: Vec<T>) -> Items<T>
         ensures { result ≡ list.items }
     {
         Items { list }
     }
 
-    /// Returns the `Vec`. Does not allocate.
+    /// Returns the items as a `Vec`. Does not allocate.
     pub fn into_vec(self) -> Vec<T>
         ensures { result.items ≡ self }
     {

@@ -10,6 +10,11 @@ use Rattle.program.specs.Explaining.{IsWithoutEnd}
 use Rattle.program.specs.Explained.{IsTextTold, IsExplanationTold, Explains}
 use Rattle.program.specs.inner.Telling.{IsMadeTold}
 
+-- what holds of a result, in other words
+pub ok_as : {A E : Type 0} (r : Result A E) (P Q : A → Type 0) → ((x : A) → P x → Q x) → IfOk r P → IfOk r Q
+ok_as (Ok x) P Q so h = so x h
+ok_as (Err e) P Q so h = tt
+
 module _ {L H : Type 0} (does : H → Event L → H → Type 0) where
   -- a text with a byte is written
   pub lines_told : (old new : H) (text lines : List ℕ) (done : Bool) → (length lines == 0) ≡ false → IsWithoutEnd text lines

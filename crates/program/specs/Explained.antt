@@ -6,8 +6,7 @@
 -- nothing is rejected, the option changes nothing. If an explanation cannot be allocated, a line says so in its place.
 use Rattle.std.specs.Prelude.{◌≡◌, ◌⊎◌, ℕ, Bool, true, false, List, [], ◌∷◌, ◌++◌, codes}
 use Rattle.std.specs.Prelude.{Option, None, Some, unwrap_or}
-use Rattle.explanations.specs.explanation_texts.declared.table.CodeWords.{CodeWords}
-use Rattle.explanations.specs.explanation_texts.CodeText.{code_text}
+use Rattle.explanations.specs.explanation_texts.CodeText.{Texts, code_text, words_on}
 use Rattle.explanations.specs.explanation_texts.Codes.{is_code}
 use Rattle.explanations.specs.Files.{File, Files}
 use Rattle.explanations.specs.Explained.{IsExplained}
@@ -41,7 +40,7 @@ schema_files name schema = record {
 
 -- `IsCodeText code text` holds if `text` is the text on this code; it is empty if there is no such code.
 abbrev pub IsCodeText : ℕ → List ℕ → Type 0
-IsCodeText code text = ((words : CodeWords) × (words.code ≡ code) × (text ≡ code_text words))
+IsCodeText code text = ((words : Texts) × (words_on code ≡ Some words) × (text ≡ code_text words))
     ⊎ ((is_code code ≡ false) × (text ≡ []))
 
 -- `IsThatOr Other first text` holds if `text` is `first`, which is not empty; or `first` is empty, and `Other text`
@@ -86,15 +85,25 @@ module _ {L : Type 0} where
   abbrev pub IsRefusalTold : Refusal → Course L
   IsRefusalTold refusal events end = IsRefusalReported refusal events end ⊎ IsMemoryReported events end
 
+  -- `IsRefusedAnd wanted Is Refused` reports the error for which `Refused` holds and, if `wanted`, then a text for
+  -- which `Is` holds with its code.
+  abbrev pub IsRefusedAnd : Bool → (ℕ → List ℕ → Type 0) → (Refusal → Type 0) → Course L
+  IsRefusedAnd false Is Refused events end = IsRefusedFor Refused events end
+  IsRefusedAnd true Is Refused events end = (refusal : Refusal) × ((refusal ≡ no_memory) ⊎ Refused refusal)
+      × Explains true (Is refusal.code) (IsRefusalTold refusal) events end
+
+  -- `IsLineOrRefusedAnd wanted Is Decided Refused` reports a line for which `Decided` holds, or else the refusal.
+  abbrev pub IsLineOrRefusedAnd : Bool → (ℕ → List ℕ → Type 0) → (List ℕ → Type 0) → (Refusal → Type 0) → Course L
+  IsLineOrRefusedAnd wanted Is Decided Refused events end =
+      ((line : List ℕ) × Decided line × IsAnswerReported line events end)
+      ⊎ IsRefusedAnd wanted Is Refused events end
+
   -- `IsRefusedWith wanted files Refused` reports the error for which `Refused` holds and, if `wanted`, then explains
   -- what is rejected in `files`, or the code of the error.
   abbrev pub IsRefusedWith : Bool → Files → (Refusal → Type 0) → Course L
-  IsRefusedWith false files Refused events end = IsRefusedFor Refused events end
-  IsRefusedWith true files Refused events end = (refusal : Refusal) × ((refusal ≡ no_memory) ⊎ Refused refusal)
-      × Explains true (IsRefusalText files refusal.code) (IsRefusalTold refusal) events end
+  IsRefusedWith wanted files Refused = IsRefusedAnd wanted (IsRefusalText files) Refused
 
   -- `IsLineOrRefusedWith wanted files Decided Refused` reports a line for which `Decided` holds, or else the refusal.
   abbrev pub IsLineOrRefusedWith : Bool → Files → (List ℕ → Type 0) → (Refusal → Type 0) → Course L
-  IsLineOrRefusedWith wanted files Decided Refused events end =
-      ((line : List ℕ) × Decided line × IsAnswerReported line events end)
-      ⊎ IsRefusedWith wanted files Refused events end
+  IsLineOrRefusedWith wanted files Decided Refused =
+      IsLineOrRefusedAnd wanted (IsRefusalText files) Decided Refused

@@ -6,8 +6,7 @@ use Rattle.std.specs.Prelude.{◌≡◌, ◌⊎◌, ◌<◌, ◌^◌, ◌==◌, 
 use Rattle.std.specs.Prelude.{length, Option, None, Some, option_map, codes}
 use Rattle.std.specs.List.{list_all}
 use Rattle.std.specs.Str.Parse.{IsNumeral, digits_value, without_leading_plus}
-use Rattle.explanations.specs.explanation_texts.declared.table.CodeWords.{CodeWords}
-use Rattle.explanations.specs.explanation_texts.CodeText.{code_text}
+use Rattle.explanations.specs.explanation_texts.CodeText.{Texts, code_text, words_on}
 use Rattle.explanations.specs.explanation_texts.Codes.{is_code}
 use Rattle.explanations.specs.Files.{File, Files}
 use Rattle.explanations.specs.Explained.{IsExplained}
@@ -33,6 +32,10 @@ IsSmallNumeral word = IsNumeral 10 (without_leading_plus word) × (digits_value 
 
 abbrev pub IsSmallNumber : List ℕ → ℕ → Type 0
 IsSmallNumber word n = IsSmallNumeral word × (n ≡ digits_value 10 (without_leading_plus word))
+
+-- `AreWordsOn word words` holds if `word` is a code, and `words` are the texts on it.
+abbrev pub AreWordsOn : List ℕ → Texts → Type 0
+AreWordsOn word words = (n : ℕ) × IsSmallNumber word n × (words_on n ≡ Some words)
 
 -- `IsNoCode word` holds if `word` is not a code.
 abbrev pub IsNoCode : List ℕ → Type 0
@@ -61,7 +64,7 @@ module _ {L : Type 0} where
   -- `IsCodeExplained word` reports the text on the code, or that there is no such code.
   abbrev pub IsCodeExplained : List ℕ → Course L
   IsCodeExplained word events end =
-      ((words : CodeWords) × IsSmallNumber word words.code × IsAnswerReported (code_text words) events end)
+      ((words : Texts) × AreWordsOn word words × IsAnswerReported (code_text words) events end)
       ⊎ (IsNoCode word × IsReported Faults (codes "error: no code is " ++ word) 2 events end)
       ⊎ IsMemoryReported events end
 

@@ -28,10 +28,12 @@ use Rattle.program.specs.Reports.{AreLinesReported, IsFaultReported}
 use Rattle.program.specs.Courses.{Course, Reads, ReadsIfNamed, IsLineOrRefusal}
 use Rattle.explanations.specs.Files.{Files}
 use Rattle.explanations.specs.Explained.{IsExplained}
-use Rattle.program.specs.Explained.{file_held, schema_files, Explains, IsRefusedWith, IsLineOrRefusedWith}
+use Rattle.program.specs.Explained.{file_held, schema_files, Explains, IsRefusedWith}
+use Rattle.program.specs.Explained.{IsLineOrRefusedAnd, IsLineOrRefusedWith}
 use Rattle.program.specs.Exchanging.{IsExchangeRun}
 use Rattle.program.specs.Explaining.{file_named, IsExplainRun}
 use Rattle.program.specs.Loading.{IsLoadRun}
+use Rattle.program.specs.Merging.{IsMergeText}
 use Rattle.program.specs.Pulling.{IsPullRun}
 use Rattle.program.specs.Serving.{IsServeRun}
 
@@ -81,9 +83,10 @@ module _ {L : Type 0} where
       events end
 
   -- `AreMerged`: the state with the updates of both messages is printed, or the error reported and, with `--explain`,
-  -- explained.
+  -- explained, with the message at fault.
   abbrev pub AreMerged : MergeOptions → List ℕ → List ℕ → List ℕ → Course L
-  AreMerged options schema first second = IsLineOrRefusedWith options.explain (schema_files options.schema.now schema)
+  AreMerged options schema first second = IsLineOrRefusedAnd options.explain
+      (IsMergeText (schema_files options.schema.now schema) options schema first)
       (merges.IsMerged schema first second) (merges.AreRefused schema first second)
 
   -- `IsDrilledOrRefused`: the lines of a script are printed, or the error reported.

@@ -2,10 +2,11 @@
 ghost use Rattle.std.specs.Prelude.{◌≡◌, MatchOption, option_map};
 ghost use Rattle.std.specs.List.{list_all};
 ghost use Rattle.std.specs.Process.{exit_status};
+ghost use Rattle.explanations.specs.explanation_texts.CodeText.{texts_of};
 ghost use Rattle.explanations.specs.Files.{file_of, files_of};
 ghost use Rattle.program.specs.Events.{Runs};
 ghost use Rattle.program.specs.Explaining.{is_some_text, is_decimal, is_number, file_named, files_named};
-ghost use Rattle.program.specs.Explaining.{IsSmallNumber, IsNoCode};
+ghost use Rattle.program.specs.Explaining.{AreWordsOn, IsNoCode};
 ghost use Rattle.program.specs.Explaining.{IsCodeExplained, AreTextsExplained, AreFilesExplained};
 ghost use Rattle.program.specs.Explaining.{IsExplainRun};
 
@@ -46,8 +47,8 @@ fn is_number(word: &str) -> bool
 }
 
 /// Returns the table's entry for the code that an argument names, or `None` if there is no such code.
-fn words_for(word: &str) -> Option<&'static CodeWords>
-    ensures { MatchOption result (IsNoCode word.now) (λ words. IsSmallNumber word.now words.now.code) }
+fn words_for(word: &str) -> Option<&'static CodeWords<&'static str>>
+    ensures { MatchOption result (IsNoCode word.now) (λ words. AreWordsOn word.now (texts_of words.now)) }
 {
     match word.parse::<u16>() {
         Ok(code) => words_of(code),

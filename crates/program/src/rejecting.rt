@@ -59,7 +59,7 @@ fn tell_text<H: Host>(host: &mut H, text: &str)
 }
 
 /// Writes a text to standard error, or that it could not be allocated.
-fn tell_made<H: Host>(host: &mut H, made: Result<String, NoMemory>)
+pub(crate) fn tell_made<H: Host>(host: &mut H, made: Result<String, NoMemory>)
     ensures { Runs H.does host.old host.new (λ events. IsMadeTold made events) }
 {
     match made {

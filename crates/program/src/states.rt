@@ -1,22 +1,129 @@
 //! The commands `merge` and `pull`.
 ghost use Rattle.std.specs.Prelude.{◌≡◌, ◌⊎◌, IfOk, option_map, string_bytes};
 ghost use Rattle.std.specs.Process.{exit_status};
+ghost use Rattle.explanations.specs.Files.{files_of};
+ghost use Rattle.program_drills.specs.http_service.answer_lines.Refusals.{no_memory};
 ghost use Rattle.program.specs.Events.{Runs};
+ghost use Rattle.program.specs.Explained.{IsRefusalTold, Explains, IsExplanationTold};
+ghost use Rattle.program.specs.Merging.{IsAtFault, IsMessageText, IsMergeText};
 ghost use Rattle.program.specs.Reports.{taken_report_line, IsAnswerReported, IsMemoryReported};
 ghost use Rattle.program.specs.Runs.{AreMerged, IsMergeRun};
 ghost use Rattle.program.specs.Courses.{Stores};
 ghost use Rattle.program.specs.Pulling.{IsPulledOver, IsPullRun, IsPullTold};
 
 use crate::device::{Link, NetworkFailed};
+use crate::explaining::is_some_text;
 use crate::host::Host;
 use crate::reading::{lent, read_file, read_if_there};
-use crate::rejecting::{report_rejected, schema_given};
+use crate::rejecting::{schema_given, tell_made};
 use crate::report::{report_answer, report_failure, report_file, report_memory, report_refusal};
+use explanations::{Given, explain_message, explain_texts};
 use plain::NoMemory;
+use program_drills::Refusal;
 use program_lines::{MergeOptions, PullOptions};
 use state_exchanges::{PullFault, Pulled, merge_texts, pull_over};
 use std::alloc::Global;
 use std::process::ExitCode;
+
+/// Returns an error other than `NoMemory`, or `NoMemory`.
+fn no_want_of_memory(refusal: Refusal) -> Result<Refusal, NoMemory>
+    ensures same { IfOk result (λ r. r ≡ refusal) }
+    ensures other { IfOk result (λ r. refusal ≡ no_memory → ⊥) }
+{
+    if refusal.code == 1 {
+        return Err(NoMemory);
+    }
+    Ok(refusal)
+}
+
+/// Returns the name of the message at fault: the second if the first merges with itself, and else the first.
+fn message_at_fault<'n>(
+    alloc: Global,
+    options: &MergeOptions<'n>,
+    schema: &[u8],
+    first: &[u8],
+) -> Result<&'n str, NoMemory>
+    ensures { IfOk result (λ name. IsAtFault options.now schema.now first.now name.now) }
+{
+    match merge_texts(alloc, schema, first, first) {
+        Ok(_line) => Ok(options.second),
+        Err(refusal) => {
+            let _other = no_want_of_memory(refusal)?;
+            Ok(options.first)
+        }
+    }
+}
+
+/// Returns the text that explains what is rejected in texts; if nothing is, the error of the message in this file.
+fn message_text(
+    alloc: Global,
+    given: &Given<'_, '_>,
+    name: &str,
+    code: u8,
+) -> Result<String, NoMemory>
+    ensures { IfOk result
+        (λ text. IsMessageText (files_of given.now) name.now code (string_bytes text)) }
+{
+    let text = explain_texts(alloc, given)?;
+    if is_some_text(text.as_str()) {
+        return Ok(text);
+    }
+    explain_message(alloc, name, code)
+}
+
+/// Returns the text that explains so the message at fault.
+fn merge_text(
+    alloc: Global,
+    given: &Given<'_, '_>,
+    options: &MergeOptions<'_>,
+    schema: &[u8],
+    first: &[u8],
+    code: u8,
+) -> Result<String, NoMemory>
+    ensures { IfOk result (λ text.
+        IsMergeText (files_of given.now) options.now schema.now first.now code (string_bytes text)) }
+{
+    let name = message_at_fault(alloc, options, schema, first)?;
+    message_text(alloc, given, name, code)
+}
+
+/// Explains on standard error why a merge was rejected.
+fn explain_merge<H: Host>(
+    alloc: Global,
+    host: &mut H,
+    given: &Given<'_, '_>,
+    options: &MergeOptions<'_>,
+    schema: &[u8],
+    first: &[u8],
+    code: u8,
+)
+    ensures { Runs H.does host.old host.new (λ events. IsExplanationTold
+        (IsMergeText (files_of given.now) options.now schema.now first.now code) events) }
+{
+    tell_made(host, merge_text(alloc, given, options, schema, first, code))
+}
+
+/// Reports the error of a merge and then, if that is requested, explains it.
+fn report_unmerged<H: Host>(
+    alloc: Global,
+    host: &mut H,
+    given: &Given<'_, '_>,
+    options: &MergeOptions<'_>,
+    schema: &[u8],
+    first: &[u8],
+    refusal: Refusal,
+) -> ExitCode
+    ensures { Runs H.does host.old host.new (λ events. Explains options.now.explain
+        (IsMergeText (files_of given.now) options.now schema.now first.now refusal.code) (IsRefusalTold refusal)
+        events (exit_status result)) }
+{
+    let end = report_refusal(alloc, host, refusal);
+    if !options.explain {
+        return end;
+    }
+    explain_merge(alloc, host, given, options, schema, first, refusal.code);
+    end
+}
 
 /// Merges the contents of files, and reports the state or the error.
 fn merge_held<H: Host>(
@@ -34,7 +141,7 @@ fn merge_held<H: Host>(
         Ok(line) => report_answer(host, &line),
         Err(refusal) => {
             let given = schema_given(options.schema, schema);
-            report_rejected(alloc, host, refusal, options.explain, &given)
+            report_unmerged(alloc, host, &given, options, schema, first, refusal)
         }
     }
 }

@@ -1,9 +1,9 @@
-//! A line and bytes, built from pieces. Only their end reports a failed allocation, so no caller checks each piece.
+//! A line and bytes, built from pieces. Only `ended` reports a failed allocation, so no caller checks each piece.
 use crate::keeping::whole;
 use plain::NoMemory;
 use std::alloc::Global;
 
-/// A line of text.
+/// A line of text, built from pieces.
 #[derive(Drop)]
 pub(crate) struct Line {
     text: String,
@@ -32,7 +32,7 @@ impl Line {
         self.is_whole = self.is_whole & is_pushed;
     }
 
-    /// Appends a value, if it could be allocated.
+    /// Appends a piece, or records that its allocation failed.
     pub(crate) fn push_made(&mut self, made: Result<String, NoMemory>) {
         match made {
             Ok(piece) => self.push(piece.as_str()),
@@ -46,7 +46,7 @@ impl Line {
     }
 }
 
-/// Bytes.
+/// Bytes, built from pieces.
 #[derive(Drop)]
 pub(crate) struct Bytes {
     bytes: Vec<u8>,

@@ -22,7 +22,8 @@ abbrev pub is_numbered_at : List (List Span) → ℕ → Option ℕ → Bool
 is_numbered_at spans place None = false
 is_numbered_at spans place (Some i) = has_number_at (slice_get spans place) i
 
--- At the number of each type are those of its ancestors.
+-- `stands_below numbers spans o n` tests whether the number of the type `n` is in the ranges `spans` at the number `o`,
+-- which are those of the ancestors of that number's type.
 abbrev pub stands_below : List (List ℕ × ℕ) → List (List Span) → Option ℕ → List ℕ → Bool
 stands_below numbers spans None n = false
 stands_below numbers spans (Some place) n = is_numbered_at spans place (lookup (is_at (text_cmp n)) numbers)
@@ -31,7 +32,7 @@ stands_below numbers spans (Some place) n = is_numbered_at spans place (lookup (
 abbrev pub is_ancestor : List (List ℕ × ℕ) → List (List Span) → List ℕ → List ℕ → Bool
 is_ancestor numbers spans child parent = stands_below numbers spans (lookup (is_at (text_cmp child)) numbers) parent
 
--- At the number of each action are those of its ancestors.
+-- `stands_below_action numbers spans o above` is the same test for the action `above` and the number of an action.
 abbrev pub stands_below_action : List (EntityUid × ℕ) → List (List Span) → Option ℕ → EntityUid → Bool
 stands_below_action numbers spans None above = false
 stands_below_action numbers spans (Some place) above =

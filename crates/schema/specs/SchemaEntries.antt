@@ -1,4 +1,4 @@
--- Defines the entries of a schema: each list ascends by its keys, without duplicates.
+-- Defines the entries of a schema: the entries of its maps, which ascend by key.
 use Rattle.std.specs.Prelude.{ℕ, List}
 use Rattle.std.specs.BTreeMap.{BTreeMap}
 use Rattle.schema.specs.declared.spans.Span.{Span}
@@ -6,7 +6,7 @@ use Rattle.values.specs.declared.entity_uid.EntityUid.{EntityUid}
 use Rattle.schema.specs.declared.parts.Environment.{Environment}
 use Rattle.schema.specs.declared.parts.EntityDecl.{EntityDecl}
 
--- `SchemaEntries` are the concrete entries of a schema.
+-- `SchemaEntries` are the parts of a schema, with each map as the list of its entries.
 pub record SchemaEntries : Type 0 where
   pub label : List ℕ
   pub environments : List Environment
@@ -17,14 +17,14 @@ pub record SchemaEntries : Type 0 where
   pub member_of : List (EntityUid × List EntityUid)
   -- the number of each action
   pub action_numbers : List (EntityUid × ℕ)
-  -- for each number, those of that action's ancestors
+  -- at the index of each action's number, the ranges of its ancestors' numbers
   pub actions_above : List (List Span)
   -- the number of each entity type
   pub type_numbers : List (List ℕ × ℕ)
-  -- for each number, those of that type's ancestors
+  -- at the index of each type's number, the ranges of its ancestors' numbers
   pub types_above : List (List Span)
 
--- `kept ..` are the entries of these maps.
+-- `kept label environments ..` are these parts, with the entries of each map.
 abbrev pub kept : List ℕ → List Environment → List EntityUid → BTreeMap (List ℕ) EntityDecl
     → BTreeMap EntityUid (List EntityUid) → BTreeMap EntityUid ℕ → List (List Span) → BTreeMap (List ℕ) ℕ
     → List (List Span) → SchemaEntries

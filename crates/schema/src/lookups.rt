@@ -49,7 +49,8 @@ fn is_numbered_at(
     }
 }
 
-/// Returns whether the parent is an ancestor of the child: at the number of each type are those of its ancestors.
+/// Returns whether the type `parent` is an ancestor of `child`: at the number of each type, `spans` has the ranges of
+/// the numbers of its ancestors.
 pub fn may_have_parent(
     numbers: &BTreeMap<TypeName, usize>,
     spans: &[Items<Span>],
@@ -79,7 +80,8 @@ fn is_action_numbered_at(
     }
 }
 
-/// Returns whether an action is an ancestor of another: at the number of each action are those of its ancestors.
+/// Returns whether the action `above` is an ancestor of `action`: at the number of each action, `spans` has the ranges
+/// of the numbers of its ancestors.
 pub fn is_action_above(
     numbers: &BTreeMap<EntityUid, usize>,
     spans: &[Items<Span>],

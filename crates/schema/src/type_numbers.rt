@@ -17,7 +17,7 @@ use std::alloc::Global;
 use std::collections::BTreeMap;
 use values::{EntityUid, TypeName};
 
-/// The numbers of entity types by their names, and for each number those of its ancestors.
+/// The numbers of entity types by their names, and at each number the ranges of the numbers of the type's ancestors.
 #[derive(Drop)]
 pub(crate) struct TypeNumbers {
     pub(crate) numbers: BTreeMap<TypeName, usize>,

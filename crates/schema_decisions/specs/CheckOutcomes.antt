@@ -15,7 +15,7 @@ abbrev pub IsOutcomeOfTexts : List ℕ → List ℕ → CheckOutcome → Type 0
 IsOutcomeOfTexts schema policies (checked text some_refused) = IsChecked schema policies text some_refused
 IsOutcomeOfTexts schema policies (refused refusal) = AreChecksRefused schema policies refusal
 
--- Any two texts have exactly one outcome.
+-- `TextsHaveOneOutcome`: a schema and policies have exactly one outcome, whatever their bytes.
 abbrev pub TextsHaveOneOutcome : Type 0
 TextsHaveOneOutcome = (schema policies : List ℕ)
     → (come : CheckOutcome) × IsOutcomeOfTexts schema policies come

@@ -8,36 +8,36 @@ use Rattle.decision_texts.specs.answer_lines.declared.refusal.Refusal.{Refusal}
 use Rattle.decision_texts.specs.Decisions.{named_policies, stated, IsAnswerTo}
 use Rattle.schema_decisions.specs.Decisions.{IsDecided, IsSchemaDecisionRefused}
 
--- Four texts have at most one line.
+-- `OneLine`: four texts have at most one line.
 abbrev pub OneLine : Type 0
 OneLine = (schema policies entities request line other : List ℕ) → IsDecided schema policies entities request line
     → IsDecided schema policies entities request other → line ≡ other
 
--- Texts that have a line have no error.
+-- `NotBoth`: texts that have a line have no error.
 abbrev pub NotBoth : Type 0
 NotBoth = (schema policies entities request line : List ℕ) (refusal : Refusal)
     → IsDecided schema policies entities request line
     → IsSchemaDecisionRefused schema policies entities request refusal → ⊥
 
--- Four texts have at most one error.
+-- `OneRefusal`: four texts have at most one error.
 abbrev pub OneRefusal : Type 0
 OneRefusal = (schema policies entities request : List ℕ) (refusal other : Refusal)
     → IsSchemaDecisionRefused schema policies entities request refusal
     → IsSchemaDecisionRefused schema policies entities request other → refusal ≡ other
 
--- Four texts have a line or an error.
+-- `LineOrRefusal`: four texts have a line or an error.
 abbrev pub LineOrRefusal : Type 0
 LineOrRefusal = (schema policies entities request : List ℕ)
     → ((line : List ℕ) × IsDecided schema policies entities request line)
     ⊎ ((refusal : Refusal) × IsSchemaDecisionRefused schema policies entities request refusal)
 
--- The ids in a line's answer ascend: those of the determining policies, and those of the erroring policies.
+-- `ListsOfLinesAscend`: the ids in a line's answer ascend: those of the determining and of the erroring policies.
 abbrev pub ListsOfLinesAscend : Type 0
 ListsOfLinesAscend = (schema policies entities request line : List ℕ)
     (x : IsDecided schema policies entities request line) → let answer = x.decided.answered.answer in
     AreIdsAscending answer.reason × AreIdsAscending (map (λ e. e.policy) answer.errors)
 
--- The answer stays the same if each action has only the parents that its `memberOf` states.
+-- `MemberOfDecidesAlike`: the answer stays the same if each action has only the parents that its `memberOf` states.
 abbrev pub MemberOfDecidesAlike : Type 0
 MemberOfDecidesAlike = (schema policies entities request line : List ℕ)
     (x : IsDecided schema policies entities request line) → let under = x.decided in

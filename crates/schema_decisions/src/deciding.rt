@@ -22,9 +22,8 @@ use std::alloc::Global;
 /// - 20 to 25, without a place: the schema.
 /// - 10 to 19, at a byte offset: the file of policies.
 /// - 40 to 46, at the policy's index: the first policy, in the file's order, that does not pass validation.
-/// - 30 to 38, at the entity's index in the array: the first entity in error; 30 without a place if there is no
-///   array.
-/// - 30, at the index of the second: two entities have one uid.
+/// - 30 to 38, at the entity's index in the array: the first entity that is in error, or (30) has the uid of an earlier
+///   one; 30 without a place if there is no array.
 /// - 30 to 39, without a place: the request.
 /// - `NoMemory` (1): an allocation failed; possible at any point.
 ///

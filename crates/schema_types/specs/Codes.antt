@@ -1,4 +1,4 @@
--- Defines the codes of errors.
+-- Defines the codes of schema errors.
 -- Rules of this product: the codes.
 use Rattle.std.specs.Prelude.{ℕ}
 use Rattle.schema_types.specs.declared.fault.SchemaFault.{SchemaFault}

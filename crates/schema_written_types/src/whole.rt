@@ -19,7 +19,7 @@ use std::alloc::Global;
 ///
 /// # Errors
 ///
-/// - `TypeTooLarge` (25): the expansion is too large.
+/// - `TypeTooLarge` (25): the expansion has over 10,000 parts or is over 64 deep.
 /// - `NoMemory` (1): an allocation failed; possible at any point.
 pub fn write_whole(
     alloc: Global,

@@ -10,7 +10,7 @@ use policy_grammar::Policy;
 use std::alloc::Global;
 use std::collections::BTreeMap;
 
-/// Removes a policy. Does not allocate.
+/// Removes the policy of an id, if there is one. Does not allocate.
 pub(crate) fn forget(kept: &mut BTreeMap<String, Policy>, buckets: &mut Buckets, id: &str)
     requires { AreFiled kept.old.entries buckets.old }
     ensures filed { AreFiled kept.new.entries buckets.new }

@@ -60,8 +60,8 @@ module _ (Steps : SiteName → Store → Input → Reply → Store → Type 0) (
   abbrev pub AlwaysKeepsPromises : List SiteName → List Event → List EventReply → Type 0
   AlwaysKeepsPromises sites es rs = (w : World) → IsWorld Steps sites es rs w → KeepsPromises sites es rs w
 
-  -- The promises hold for all sites with distinct names, and for all events in any order; at every moment, since each
-  -- beginning of a list of events is a list of events.
+  -- `SystemsKeepPromises`: the promises hold for all sites with distinct names, and for all events in any order; at
+  -- every moment, since each beginning of a list of events is a list of events.
   abbrev pub SystemsKeepPromises : Type 0
   SystemsKeepPromises = (sites : List SiteName) → AreSites sites → (es : List Event) (rs : List EventReply)
       → AlwaysKeepsPromises sites es rs
@@ -82,10 +82,10 @@ abbrev pub WorldKeepsPromises : StatedSchema → List SiteName → List Event �
 WorldKeepsPromises schema sites es rs =
     AlwaysKeepsPromises (Step schema) (StatesBy schema) (IssuesBy schema) sites es rs
 
--- The promises hold for all sites of a schema.
+-- `WorldsKeepPromises schema`: the promises hold for all sites of `schema`.
 abbrev pub WorldsKeepPromises : StatedSchema → Type 0
 WorldsKeepPromises schema = SystemsKeepPromises (Step schema) (StatesBy schema) (IssuesBy schema)
 
--- This holds for each schema that bytes state, as it is kept.
+-- `AllWorldsKeepPromises`: the promises hold for all sites of each schema that bytes state.
 abbrev pub AllWorldsKeepPromises : Type 0
 AllWorldsKeepPromises = (schema : SchemaEntries) → IsStated schema → WorldsKeepPromises (schema_view schema)

@@ -133,7 +133,7 @@ module _ (Steps : SiteName → Store → Input → Reply → Store → Type 0) w
   abbrev pub IsWorld : List SiteName → List Event → List EventReply → World → Type 0
   IsWorld sites es rs w = Leads sites (start sites) es rs w
 
--- Events and replies together determine the state of a system.
+-- `AnswersFixWorlds`: events and replies together determine the state of a system.
 abbrev pub AnswersFixWorlds : Type 0
 AnswersFixWorlds = (schema : StatedSchema) (sites : List SiteName) (es : List Event) (rs : List EventReply)
     (v w : World) → IsWorld (Step schema) sites es rs v → IsWorld (Step schema) sites es rs w → v ≡ w

@@ -22,7 +22,8 @@ Replies old (rejects f) status body new =
     (((status, body) ≡ fault_reply f) ⊎ ((status, body) ≡ fault_reply fault.NoMemory)) × (new ≡ old)
 Replies old (unserved s) status body new = ((status, body) ≡ status_reply s) × (new ≡ old)
 
--- The same, with the body appended to a text.
+-- `Appends old asked status before after new` is the same relation for a body that is appended to `before`, which gives
+-- `after`.
 abbrev pub Appends : SiteView → Asked → StatusCode → List ℕ → List ℕ → SiteView → Type 0
 Appends old asked status before after new =
     (body : List ℕ) × (after ≡ before ++ body) × Replies old asked status body new

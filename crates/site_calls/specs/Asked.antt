@@ -15,7 +15,7 @@ use Rattle.site_calls.specs.site_steps.declared.fault.SiteFault.TheVariants as f
 use Rattle.site_calls.specs.site_steps.Inputs.{Input}
 use Rattle.site_calls.specs.site_steps.Inputs as input
 
--- What is asked of a site.
+-- An `Asked` is what bytes ask of a site.
 pub data Asked : Type 0 where
   -- the site is given an input
   gives : Input → Asked
@@ -24,7 +24,7 @@ pub data Asked : Type 0 where
   -- the site is not called, since there is no such operation; the status says so
   unserved : StatusCode → Asked
 
--- A policy may have this id: 1 to 256 bytes.
+-- `is_policy_id id` tests whether a policy may have the id `id`: 1 to 256 bytes.
 abbrev pub is_policy_id : List ℕ → Bool
 is_policy_id id = nat_le 1 (length id) && nat_le (length id) most_id_bytes
 
@@ -34,12 +34,12 @@ abbrev pub not_text : List ℕ → List ℕ → ReadFault
 not_text id text =
     if is_policy_id id then if nat_le (length text) most_policy_bytes then BadToken 0 else TooLong else BadId
 
--- A text is put under an id.
+-- `put_asked text id` asks to put `text` under `id`, or rejects a text that is not UTF-8.
 abbrev pub put_asked : List ℕ → List ℕ → Asked
 put_asked text id =
     if is_utf8 text then gives (input.PutPolicy id text) else rejects (fault.Policy (not_text id text))
 
--- An entity is deleted, if the JSON names one.
+-- `removal_asked o` asks to delete the entity `o`; if there is none, the error is `BadShape`.
 abbrev pub removal_asked : Option EntityUid → Asked
 removal_asked (Some uid) = gives (input.DeleteEntity uid)
 removal_asked None = rejects (fault.Entity BadShape)

@@ -12,7 +12,7 @@ use Rattle.site_calls.specs.Asked.{Asked, gives, rejects, put_asked, removal_ask
 use Rattle.site_calls.specs.declared.call.Call as code
 use Rattle.site_calls.specs.declared.call.Call.TheVariants as borrowed
 
--- A call, with its bytes.
+-- A `Call` is a call of a site, with its bytes.
 pub data Call : Type 0 where
   -- a request is decided: its JSON
   Authorize : List ℕ → Call
@@ -35,7 +35,7 @@ pub data Call : Type 0 where
   -- the updates of a message are applied
   Merge : List ℕ → Call
 
--- A call as the code borrows it.
+-- `call_of c` is the call `c` of the code, without its borrows.
 abbrev pub call_of : code.Call → Call
 call_of (borrowed.Authorize request) = Authorize request.now
 call_of (borrowed.PutPolicy id text) = PutPolicy id.now text.now
@@ -52,7 +52,7 @@ call_of (borrowed.Merge message) = Merge message.now
 abbrev pub upon : List ℕ → (List ℕ → Asked) → Asked
 upon id asks = if is_utf8 id then asks id else rejects (fault.Policy BadId)
 
--- What a call asks of a site.
+-- `asked c` is what the call `c` asks of a site.
 abbrev pub asked : Call → Asked
 asked (Authorize request) = gives (input.Authorize request)
 asked (PutPolicy id text) = upon id (put_asked text)

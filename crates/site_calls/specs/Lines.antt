@@ -13,7 +13,7 @@ stamp_line s = compact_text (object
     (member (codes "count") (number (unsigned s.count))
     (member (codes "site") (string s.site) no_members)))
 
--- `put_line s impossible` is the stamp of a put policy, with whether that is impossible:
+-- `put_line s impossible` is the stamp of a put policy, with whether the policy is impossible:
 -- {"count":1,"impossible":true,"site":"00001"}
 unfoldable pub put_line : Stamp → Bool → List ℕ
 put_line s impossible = compact_text (object
@@ -25,7 +25,7 @@ put_line s impossible = compact_text (object
 unfoldable pub taken_line : ℕ → List ℕ
 taken_line count = compact_text (object (member (codes "taken") (number (unsigned count)) no_members))
 
--- `found_line text s` is the text of a policy with its stamp, the JSON `found_json text s`:
+-- `found_json text s` is the text of a policy with its stamp, as JSON, and `found_line text s` that JSON as a line:
 -- {"count":1,"site":"00001","text":"permit(principal, action, resource);"}
 abbrev pub found_json : List ℕ → Stamp → Data
 found_json text s = object

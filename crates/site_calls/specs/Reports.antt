@@ -8,7 +8,7 @@ use Rattle.site_calls.specs.Replies.{message_reply}
 use Rattle.site_calls.specs.site_steps.declared.reply.Reply.{Reply}
 use Rattle.site_calls.specs.site_steps.declared.reply.Reply.TheVariants as reply
 
--- The status and the body of a reply.
+-- `reported r` is the status and the body of the reply `r`.
 abbrev pub reported : Reply → StatusCode × List ℕ
 reported (reply.Put r) = put_reply r
 reported (reply.Stamped r) = stamp_reply r

@@ -15,7 +15,7 @@ use schema_decisions::{Policy, Refusal, policies_in};
 use site_steps::Site;
 use std::alloc::Global;
 
-/// Puts one policy.
+/// Puts one policy, and reports an error at the index `place`.
 fn put_policy(site: &mut Site, place: usize, id: &str, text: &str) -> Result<(), Refusal>
     ensures accepted { OnOk result (Accepts (schema_of site.old) site.old.name (store_in site.old)
         (policy_put id.now text.now) (store_in site.new)) }
@@ -46,7 +46,8 @@ fn texts_of<'t>(alloc: Global, bytes: &'t [u8]) -> Result<Vec<&'t str>, NoMemory
     }
 }
 
-/// Puts policies under these names with these texts, in their order, up to the first that is rejected.
+/// Puts policies under these names with these texts, in their order, up to the first that is rejected. Those before it
+/// stay put.
 fn put_each(site: &mut Site, policies: &[(String, Policy)], texts: &[&str]) -> Result<(), Refusal>
     requires { length texts.now ≡ length policies.now }
     ensures accepted { OnOk result (AcceptsAll (schema_of site.old) site.old.name (store_in site.old)

@@ -55,20 +55,21 @@ module _ {bytes : List ℕ} {schema : StatedSchema} (stated : IsSchemaOf bytes s
 
 -- ---- theorems, for any way to parse the texts of the store
 
--- The answers over a store are those by `memberOf`.
+-- `StoredActionsAnswerAlike Policies Entities`: the answers over a store are those by `memberOf`.
 abbrev pub StoredActionsAnswerAlike : (List ℕ → List ℕ → Policy → Type 0) → (EntityUid → List ℕ → Entity → Type 0)
     → Type 0
 StoredActionsAnswerAlike Policies Entities =
     (bytes : List ℕ) (schema : StatedSchema) (stated : IsSchemaOf bytes schema) (s : Store) (q : Request) (a : Answer)
     → IsAnswerOver Policies Entities schema s q a ↔ IsAnswerByMemberOf stated Policies Entities s q a
 
--- An entity makes a cycle when it is put if and only if it makes one by `memberOf`.
+-- `StoredActionsCycleAlike Entities`: an entity makes a cycle when it is put if and only if it makes one by `memberOf`.
 abbrev pub StoredActionsCycleAlike : (EntityUid → List ℕ → Entity → Type 0) → Type 0
 StoredActionsCycleAlike Entities =
     (bytes : List ℕ) (schema : StatedSchema) (stated : IsSchemaOf bytes schema) (s : Store) (e : Entity)
     → MakesCycle Entities schema s e ↔ MakesCycleByMemberOf stated Entities s e
 
--- An entity makes no cycle when it is put if and only if it makes none by `memberOf`.
+-- `StoredActionsAllowAlike Entities`: an entity makes no cycle when it is put if and only if it makes none by
+-- `memberOf`.
 abbrev pub StoredActionsAllowAlike : (EntityUid → List ℕ → Entity → Type 0) → Type 0
 StoredActionsAllowAlike Entities =
     (bytes : List ℕ) (schema : StatedSchema) (stated : IsSchemaOf bytes schema) (s : Store) (e : Entity)

@@ -17,8 +17,11 @@ use entity_hierarchy::{Entity, Policy, actions_may_be_closed, answers_are_lawful
 use stamped_store::Readings;
 use stamped_store::laws::contents_are_told;
 
-/// Proves that a store has at most one list of policies, and at most one entity at each uid, if a text has at most
-/// one value under its name: exactly those whose name has a text. The ids of the policies ascend. No-op.
+/// Proves that a store has at most one list of policies and at most one entity at each uid, if a text has at most one
+/// value under its name.
+///
+/// The policies and entities are then exactly the values of the texts in the store. The ids of the policies ascend.
+/// No-op.
 pub fn stores_have_one_reading<R: Readings<Policy, Entity>>()
     ensures policies { (r : R) (s : Store) (ps qs : List NamedPolicy) → HaveOneReading (R.reads_policy r)
         → ArePolicies (R.reads_policy r) s ps → ArePolicies (R.reads_policy r) s qs → ps ≡ qs }
@@ -38,8 +41,8 @@ pub fn stores_have_one_reading<R: Readings<Policy, Entity>>()
     contents_are_told();
 }
 
-/// Proves that a request has one answer over a store, under a schema that bytes state: at least one if each text can
-/// be read, and at most one if a text has at most one value. So equal stores give equal answers. No-op.
+/// Proves that a request has one answer over a store, under a schema that bytes state: at least one if each text has a
+/// value, and at most one if a text has at most one value. So equal stores give equal answers. No-op.
 pub fn requests_have_one_answer<R: Readings<Policy, Entity>>()
     ensures some { (r : R) (bytes : List ℕ) (schema : StatedSchema) (s : Store) (ps : List NamedPolicy)
         (es : EntityUid → Option PlainEntity) (q : PlainRequest) → IsSchemaOf bytes schema

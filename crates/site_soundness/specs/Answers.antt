@@ -28,8 +28,9 @@ use Rattle.site_meaning.specs.StoreMeaning.{ArePolicies, AreEntities, IsAnswerOv
 abbrev pub HasPermittedErrors : Answer → Type 0
 HasPermittedErrors a = (e : ErringPolicy) → Contains a.errors e → IsPermittedError (fault_of e.error)
 
--- Over a store whose texts were each read under a schema that bytes state, and a request that the schema allows, each
--- policy gives a boolean, or one of these two errors; if it is impossible, it is never true.
+-- `StoredPoliciesAreSound`: over a store whose texts were each parsed under a schema that bytes state, and for a
+-- request that the schema allows, each policy gives a boolean, or one of these two errors; an impossible one is never
+-- true.
 abbrev pub StoredPoliciesAreSound : Type 0
 StoredPoliciesAreSound = (bytes : List ℕ) (schema : StatedSchema) → IsSchemaOf bytes schema → (s : Store)
     → (d : Data) (q : Request) → StatesRequest schema d q
@@ -39,7 +40,7 @@ StoredPoliciesAreSound = (bytes : List ℕ) (schema : StatedSchema) → IsSchema
     → EvaluatesTo (world_under schema entities) q (expression_of p.policy) r
     → Fits boolean_type r × (IsImpossible schema p.policy → r ≢ Ok (boolean true))
 
--- So an answer over such a store has no other error.
+-- `StoredAnswersAreSound`: an answer over such a store has no other error.
 abbrev pub StoredAnswersAreSound : Type 0
 StoredAnswersAreSound = (bytes : List ℕ) (schema : StatedSchema) → IsSchemaOf bytes schema → (s : Store)
     → (d : Data) (q : Request) → StatesRequest schema d q → (a : Answer)

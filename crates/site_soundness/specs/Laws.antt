@@ -17,17 +17,17 @@ use Rattle.sync_messages.specs.typing.Environment.{Environment}
 use Rattle.sync_messages.specs.typing.Membership.{Of}
 use Rattle.sync_messages.specs.type_checker.FromSchemas.{static, field_types_in, attributes_of, typing_environment_of}
 
--- A value that JSON is parsed as by a type is of that type.
+-- `ValuesAreOfTheirTypes`: if JSON is parsed as a value by a type, the value is of that type.
 abbrev pub ValuesAreOfTheirTypes : Type 0
 ValuesAreOfTheirTypes = (t : Cedar) (d : Data) (v : PlainValue) → typed_value t d ≡ Ok v → Of v (static t)
 
--- The fields of a record that is parsed from JSON are of the record's type: each required one is present, and only
--- declared ones are.
+-- `RecordsAreOfTheirTypes`: the fields of a record that is parsed from JSON are of the record's type: each required one
+-- is present, and only declared ones are.
 abbrev pub RecordsAreOfTheirTypes : Type 0
 RecordsAreOfTheirTypes = (t : Cedar) (d : Data) (fs : List Field) → record_in t d ≡ Ok fs
     → Of (record_of (fields_of fs)) (record_type (field_types_in t))
 
--- The attributes of an entity are of its entity type.
+-- `EntitiesAreOfTheirTypes`: the attributes of an entity that is parsed from JSON are those that its type declares.
 abbrev pub EntitiesAreOfTheirTypes : Type 0
 EntitiesAreOfTheirTypes = (s : StatedSchema) (d : Data) (e : Entity) → entity_stated_in s d ≡ Ok e
     → Of (record_of (fields_of e.attrs)) (record_type (attributes_of s e.uid.type_name))
@@ -40,7 +40,7 @@ pub record IsOfKind (env : Environment) (q : Request) : Type 0 where
   pub resource : q.resource.type_name ≡ env.resource
   pub context : Of (record_of (fields_of q.context)) (record_type env.context)
 
--- A request is of one of the schema's environments.
+-- `RequestsAreOfAnEnvironment`: a request that JSON states under a schema is of one of the schema's environments.
 abbrev pub RequestsAreOfAnEnvironment : Type 0
 RequestsAreOfAnEnvironment = (s : StatedSchema) (d : Data) (q : Request) → StatesRequest s d q
     → (e : EnvironmentOf) × Contains s.environments e × IsOfKind (typing_environment_of s e) q

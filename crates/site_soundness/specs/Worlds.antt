@@ -33,15 +33,15 @@ abbrev pub AreRead : StatedSchema → EntityMap → Type 0
 AreRead s entities = (u : EntityUid) (kept : EntityData) → entities u ≡ Some kept
     → (d : Data) × (entity_stated_in s d ≡ Ok (entity_kept u kept))
 
--- Under a schema that bytes state, entities that were each read, with the schema's actions, and a request that was
--- read conform to an environment of the schema.
+-- `WhatIsReadConforms`: under a schema that bytes state, entities that were each parsed, with the schema's actions, and
+-- a request that was parsed conform to an environment of the schema.
 abbrev pub WhatIsReadConforms : Type 0
 WhatIsReadConforms = (bytes : List ℕ) (s : StatedSchema) → IsSchemaOf bytes s → (entities : EntityMap)
     → AreRead s entities → (d : Data) (q : Request) → StatesRequest s d q
     → (e : EnvironmentOf) × Contains s.environments e × Conforms (typing_environment_of s e) (closed_world s entities) q
 
--- So over finitely many such entities, a policy that passes validation gives a boolean, `EntityDoesNotExist` or
--- `ArithBoundsError`; if it is impossible, it is never true.
+-- `WhatIsStoredIsSound`: over finitely many such entities, and for such a request, a policy that passes validation
+-- gives a boolean, `EntityDoesNotExist` or `ArithBoundsError`; if it is impossible, it is never true.
 abbrev pub WhatIsStoredIsSound : Type 0
 WhatIsStoredIsSound = (bytes : List ℕ) (s : StatedSchema) → IsSchemaOf bytes s → (entities : EntityMap)
     → AreRead s entities → (us : List EntityUid) → AreListed entities us → (d : Data) (q : Request)

@@ -17,23 +17,24 @@ use Rattle.site_soundness.specs.Worlds.{AreRead}
 use Rattle.site_soundness_example.specs.Example.{schema_text, schema, viewing, entities, request_json, request, policy}
 use Rattle.site_soundness_example.specs.Example.{unsure_policy}
 
--- The bytes state a schema.
+-- `SomethingIsStated`: the bytes state a schema.
 abbrev pub SomethingIsStated : Type 0
 SomethingIsStated = IsSchemaOf schema_text schema
 
--- The entities and the request are read under it.
+-- `SomethingIsRead`: the entities and the request are parsed under this schema.
 abbrev pub SomethingIsRead : Type 0
 SomethingIsRead = AreRead schema entities × AreListed entities (alice ∷ []) × StatesRequest schema request_json request
 
--- They conform to an environment of it.
+-- `SomethingConformsUnderASchema`: these entities and this request conform to an environment of the schema.
 abbrev pub SomethingConformsUnderASchema : Type 0
 SomethingConformsUnderASchema = Conforms (typing_environment_of schema viewing) (closed_world schema entities) request
 
--- A policy that tests for an optional attribute by `has` before it accesses it passes, and is true there.
+-- `SomethingPasses`: a policy that tests for an optional attribute by `has` before it accesses it passes validation,
+-- and is satisfied by this request.
 abbrev pub SomethingPasses : Type 0
 SomethingPasses = Passes schema policy
     × EvaluatesTo (closed_world schema entities) request (expression_of policy) (Ok (boolean true))
 
--- Without `has` it is rejected.
+-- `SomethingIsRefused`: the policy without this `has` is rejected.
 abbrev pub SomethingIsRefused : Type 0
 SomethingIsRefused = IsCheckRefused schema unsure_policy (of_typing attribute_may_be_missing)

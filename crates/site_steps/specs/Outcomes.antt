@@ -41,12 +41,12 @@ pub record IsOutcome (schema : StatedSchema) (n : List ℕ) (s : Store) (i : Inp
   pub step : Step schema n s i r t
   pub whole : IsWhole r
 
--- Each input has such an outcome, over any store that a site of the schema may hold.
+-- `InputsHaveAnOutcome schema`: each input has such an outcome, over any store that a site of `schema` may hold.
 abbrev pub InputsHaveAnOutcome : StatedSchema → Type 0
 InputsHaveAnOutcome schema = (n : List ℕ) (s : Store) (i : Input) → IsValidStore schema s
     → (r : Reply) × (t : Store) × IsOutcome schema n s i r t
 
--- Each input has at most one such outcome: the reply and the store are determined.
+-- `InputsHaveOneOutcome schema`: each input has at most one such outcome: the reply and the store are determined.
 abbrev pub InputsHaveOneOutcome : StatedSchema → Type 0
 InputsHaveOneOutcome schema = (n : List ℕ) (s : Store) (i : Input) (r q : Reply) (t u : Store)
     → IsOutcome schema n s i r t → IsOutcome schema n s i q u → (r ≡ q) × (t ≡ u)

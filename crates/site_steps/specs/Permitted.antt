@@ -20,7 +20,7 @@ IsPermittedReply _ = Unit {0}
 abbrev pub AreHarmlessReplies : List Reply → Type 0
 AreHarmlessReplies replies = AllByRecursion IsPermittedReply replies
 
--- Under a schema that bytes state, all replies of a run are permitted, whatever the site held before.
+-- `RunsAreSound`: under a schema that bytes state, all replies of a run are permitted, whatever the site held before.
 abbrev pub RunsAreSound : Type 0
 RunsAreSound = (bytes : List ℕ) (schema : StatedSchema) → IsSchemaOf bytes schema → (n : List ℕ) (s : Store)
     (inputs : List Input) (replies : List Reply) (t : Store) → Run schema n s inputs replies t

@@ -1,6 +1,6 @@
--- Defines the steps of a site: from the store s, with a result, to the store t.
--- Rules of this product: a local command is checked for its own errors first and for the clock last, and its stamp
--- has one more than the greatest count in the whole store; updates of another site are applied in their order;
+-- Defines the steps of a site, each from a store `s`, with a result, to a store `t`.
+-- Rules of this product: a local command is checked for its own errors first and for the clock last, and its stamp's
+-- count is one more than the greatest in the whole store; updates of another site are applied in their order;
 -- rejected inputs and queries leave the store unchanged.
 use Rattle.std.specs.Prelude.{◌≡◌, ◌↔◌, ◌<◌, ℕ, List, [], ◌∷◌, ◌++◌, length, take, Option, Some, None, IsSome}
 use Rattle.std.specs.Prelude.{IsTrue, Result, Ok, Err, option_and_then, option_map}
@@ -30,7 +30,7 @@ use Rattle.site_steps.specs.declared.outcome.Taken.TheVariants.{All, Short}
 use Rattle.site_steps.specs.Admitted.{IsPolicyUnder, IsEntityUnder, IsAdmitted, IsNotAdmitted, entity_stated}
 use Rattle.site_steps.specs.Admitted.{IsRequestOf, IsNoRequest}
 
--- ---- local commands, at the site named n
+-- ---- local commands, at the site with the name `n`
 
 -- `most_count` is the greatest count that a stamp may have.
 abbrev pub most_count : ℕ
@@ -85,9 +85,9 @@ Deletes n s name (Err _) t = ⊥
 
 -- ---- updates that another site sent
 
--- `TakesUpdates s us taken t` holds if all of the updates `us`, or exactly the first k, are applied to `s`, which
--- gives `t`: the store of the updates of `s` and of these, with the greatest entry among them at each name (as
--- `IsStoreOf` of stamped_store states).
+-- `TakesUpdates s us taken t` holds if `taken` states that all of the updates `us`, or exactly the first `k`, were
+-- applied to `s`, and `t` is the store of the updates of `s` and of these, with the greatest entry among them at each
+-- name (as `IsStoreOf` of stamped_store states).
 abbrev pub TakesUpdates : Store → List Update → taking.Taken → Store → Type 0
 TakesUpdates s us (All k) t = (k ≡ length us) × (t ≡ store_of (updates s ++ us))
 TakesUpdates s us (Short k) t = (k < length us) × (t ≡ store_of (updates s ++ take k us))

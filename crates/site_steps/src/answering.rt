@@ -88,8 +88,8 @@ pub fn take_bytes(alloc: Global, site: &mut Site, bytes: &[u8]) -> Result<Taken,
     }
 }
 
-/// Returns the answer to the request that bytes state: JSON in UTF-8. No policy in it has an error of type, of an
-/// attribute or of an extension function.
+/// Returns the answer to the request that bytes state: JSON in UTF-8. In it each policy's error is
+/// `EntityDoesNotExist` or `ArithBoundsError`.
 ///
 /// # Errors
 ///
@@ -110,7 +110,7 @@ fn authorize(
     }
 }
 
-/// Returns the text and the stamp of the policy of this id.
+/// Returns the text and the stamp of the policy of this id, or `None` if it has no text. The only error is `NoMemory`.
 fn find_policy(alloc: Global, site: &Site, id: &str) -> Result<Option<Found>, SiteFault>
     ensures { Finds (store_in site.now) id.now result }
 {
@@ -181,12 +181,14 @@ pub fn answer(alloc: Global, scratch: &mut Scratch, site: &mut Site, input: &Inp
 /// Answers inputs in their order, each with its reply.
 ///
 /// The store is then that of the updates that the site had and of those that it applied: what its commands got a
-/// stamp for, and what the messages held. No reply has an error of type, of an attribute or of an extension function.
+/// stamp for, and what it applied of the messages. In each answer a policy's error is `EntityDoesNotExist` or
+/// `ArithBoundsError`.
 ///
 /// # Errors
 ///
-/// `NoMemory` if there is no memory for the list of replies; the site is then unchanged. Any other failed allocation
-/// is a reply, and the inputs after it are still answered.
+/// - `NoMemory` (1): the list of replies could not be allocated. The site is then unchanged.
+///
+/// Any other failed allocation is reported in a reply, and the inputs after it are still answered.
 pub fn run(alloc: Global, site: &mut Site, inputs: &[Input<'_>]) -> Result<Vec<Reply>, NoMemory>
     ensures steps { IfOk result (λ replies. Run (schema_of site.old) site.old.name (store_in site.old)
         (map input_of inputs.now) replies.items (store_in site.new)) }

@@ -22,7 +22,7 @@ pub record AreCandidates (parents : Parents) (q : Request) (ps qs : List NamedPo
 abbrev pub Ascend : List NamedPolicy → Type 0
 Ascend ps = AreIdsAscending (map (λ p. p.id) ps)
 
--- The answers over candidates are those over all policies, if the ids of both ascend.
+-- `CandidatesSuffice`: the answers over candidates are those over all policies, if the ids of both ascend.
 abbrev pub CandidatesSuffice : Type 0
 CandidatesSuffice = (W : Entities) (above : EntityUid → EntityUid → Bool) → Decides W.parents above →
     (q : Request) (ps qs : List NamedPolicy) (a : Answer) → Ascend ps → Ascend qs → AreCandidates W.parents q ps qs

@@ -33,7 +33,7 @@ Issues schema _ _ u = ⊥
 abbrev pub WorldsKeepPromises : StatedSchema → Type 0
 WorldsKeepPromises schema = SystemsKeepPromises (IsStep schema) (StatesUpdates schema.label) (Issues schema)
 
--- The promises hold for each schema that bytes state, as it is kept.
+-- `AllWorldsKeepPromises`: the promises hold for all sites of each schema that bytes state.
 abbrev pub AllWorldsKeepPromises : Type 0
 AllWorldsKeepPromises = (bytes : List ℕ) (schema : SchemaEntries) → IsSchemaOf bytes (schema_view schema)
     → WorldsKeepPromises (schema_view schema)

@@ -70,7 +70,7 @@ pub record LeavesApplied (schema : StatedSchema) (s : Store) (is : List Input) (
     pub greatest : IsStoreOf (updates s ++ us) t
     pub store : t ≡ store_of (updates s ++ us)
 
--- Each run of each site leaves the join of the updates that it had and of those that it applied.
+-- `RunsLeaveApplied`: each run of each site leaves the join of the updates that it had and of those that it applied.
 abbrev pub RunsLeaveApplied : Type 0
 RunsLeaveApplied = (schema : StatedSchema) (n : List ℕ) (s : Store) (is : List Input) (rs : List Reply) (t : Store)
     → IsRun schema n s is rs t → LeavesApplied schema s is rs t
@@ -87,14 +87,14 @@ pub record Holds (schema : StatedSchema) (us : List Update) (t : Store) : Type 0
   pub applied : Applied schema inputs replies more
   pub all : us ≡ updates first ++ more
 
--- Sites of one schema that had and applied equal sets of updates hold equal stores, whatever the order, the repeats
--- and the grouping of the updates.
+-- `EqualUpdatesLeaveEqualStores`: sites of one schema that had and applied equal sets of updates hold equal stores,
+-- whatever the order, the repeats and the grouping of the updates.
 abbrev pub EqualUpdatesLeaveEqualStores : Type 0
 EqualUpdatesLeaveEqualStores = (schema : StatedSchema) (us vs : List Update) (s t : Store) → Holds schema us s
     → Holds schema vs t → ((u : Update) → Contains us u ↔ Contains vs u) → s ≡ t
 
--- Under a schema that bytes state, no reply of a run has an error of type, of an attribute or of an extension
--- function.
+-- `RunsReplyHarmlessly`: under a schema that bytes state, each policy error in a reply of a run is `EntityDoesNotExist`
+-- or `ArithBoundsError`.
 abbrev pub RunsReplyHarmlessly : Type 0
 RunsReplyHarmlessly = (bytes : List ℕ) (schema : StatedSchema) → IsSchemaOf bytes schema → (n : List ℕ) (s : Store)
     (is : List Input) (rs : List Reply) (t : Store) → IsRun schema n s is rs t → AreHarmlessReplies rs

@@ -48,7 +48,7 @@ pub record HoldsApplied (schema : StatedSchema) (k : ℕ) (es : List Event) (rs 
     pub greatest : IsStoreOf us t
     pub store : t ≡ store_of us
 
--- In each state of each system, the store of each site is the join of the updates that the site applied.
+-- `SitesHoldApplied`: in each state of each system, the store of each site is the join of the updates that it applied.
 abbrev pub SitesHoldApplied : Type 0
 SitesHoldApplied = (schema : StatedSchema) (sites : List SiteName) (es : List Event) (rs : List EventReply) (w : World)
     → IsWorld (IsStep schema) sites es rs w → (k : ℕ) (n : SiteName) → numbered sites k ≡ Some n

@@ -7,6 +7,8 @@ use Rattle.stamped_store.specs.declared.entry.Entry.{Entry}
 use Rattle.stamped_store.specs.EntryOrder.{PlainEntry, plain_entry}
 
 module _ {K N P : Type 0} (name : K → N) where
+  -- `abstract_entry e`, `abstract_entries es` and `abstract_map es` are the abstract views of an entry, of entries and
+  -- of a map with these entries.
   abbrev pub abstract_entry : K × Entry P → N × PlainEntry
   abstract_entry e = (name e.0, plain_entry e.1)
 

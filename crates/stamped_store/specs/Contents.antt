@@ -13,13 +13,14 @@ use Rattle.stamped_store.specs.Store.{Store, updates}
 abbrev pub text_under : Store → Name → Option (List ℕ)
 text_under s name = option_and_then (λ e. e.body) (get s name)
 
--- `policy_text name body` is the policy of `name` with its text, if there is one.
+-- `policy_text name body` is the id in `name` with the text `body`, if `name` is a policy's and there is a text; else
+-- `[]`.
 abbrev pub policy_text : Name → Option (List ℕ) → List (List ℕ × List ℕ)
 policy_text (Policy id) (Some text) = (id, text) ∷ []
 policy_text (Policy id) None = []
 policy_text (Entity uid) body = []
 
--- `entity_text name body` is the entity of `name` with its text, if there is one.
+-- `entity_text name body` is the same for the uid in `name`, if `name` is an entity's.
 abbrev pub entity_text : Name → Option (List ℕ) → List (EntityUid × List ℕ)
 entity_text (Entity uid) (Some text) = (uid, text) ∷ []
 entity_text (Entity uid) None = []

@@ -30,7 +30,7 @@ Summary = List (Name × Stamp)
 abbrev pub summary_of : Store → Summary
 summary_of s = map (λ u. (u.0, stamp_of u.1)) (updates s)
 
--- `is_unseen known e` tests whether the entry `e` has no known stamp, or a greater one than the known one.
+-- `is_unseen known e` tests whether the entry `e` has a greater stamp than `known`; true if either is missing.
 abbrev pub is_unseen : Option Stamp → Option PlainEntry → Bool
 is_unseen known None = true
 is_unseen None (Some e) = true

@@ -10,22 +10,24 @@ use Rattle.message_format.specs.declared.bodies.BodyFault.TheVariants.{OtherName
 use Rattle.message_format.specs.Bodies.{HasOneOutcome, HasOutcome}
 use Rattle.sync_messages.specs.Texts.{ReadsPolicy, RefusesPolicy, ReadsEntity, RefusesEntity}
 
--- Each text of a policy has exactly one outcome: one policy that passes validation, or one error.
+-- `PoliciesHaveOneReading`: each text of a policy has exactly one outcome: one policy that passes validation, or one
+-- error.
 abbrev pub PoliciesHaveOneReading : Type 0
 PoliciesHaveOneReading = (s : StatedSchema) (text : List ℕ) → HasOneOutcome (ReadsPolicy s text) (RefusesPolicy s text)
     × HasOutcome (ReadsPolicy s text) (RefusesPolicy s text)
 
--- Each text of an entity has exactly one outcome under each uid: one entity, or one error.
+-- `EntitiesHaveOneReading`: each text of an entity has exactly one outcome under each uid: one entity, or one error.
 abbrev pub EntitiesHaveOneReading : Type 0
 EntitiesHaveOneReading = (s : StatedSchema) (uid : EntityUid) (text : List ℕ)
     → HasOneOutcome (ReadsEntity s uid text) (RefusesEntity s uid text)
     × HasOutcome (ReadsEntity s uid text) (RefusesEntity s uid text)
 
--- No text of a policy is rejected as that of another name.
+-- `PoliciesHaveNoOtherName`: no text of a policy is rejected as that of another name.
 abbrev pub PoliciesHaveNoOtherName : Type 0
 PoliciesHaveNoOtherName = (s : StatedSchema) (text : List ℕ) → RefusesPolicy s text OtherName → ⊥
 
--- The canonical text of an entity that was parsed from bytes is parsed as that entity, under its uid.
+-- `CanonicalTextsAreRead`: the canonical text of an entity that was parsed from bytes is parsed as that entity, under
+-- its uid.
 abbrev pub CanonicalTextsAreRead : Type 0
 CanonicalTextsAreRead = (s : StatedSchema) (bytes : List ℕ) (e : Entity) → IsWellFormed s → IsReadFrom s bytes e
     → ReadsEntity s e.uid (canonical_text e) e

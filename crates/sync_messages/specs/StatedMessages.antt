@@ -23,7 +23,7 @@ use Rattle.sync_messages.specs.StatedTexts.{StatesText, RefusesText}
 abbrev pub HasTextsOf : StatedSchema → List (Update Policy Entity) → Type 0
 HasTextsOf s us = AllByRecursion (IsUpdateRead (λ id. ReadsPolicy s) (StatesText s)) us
 
--- `HasBody s u` holds if the body of `u` is null or such a text.
+-- `HasBody s u` holds if the body of `u` is missing (a tombstone) or such a text.
 abbrev pub HasBody : StatedSchema → PlainUpdate → Type 0
 HasBody s u = IsValid (λ id. ReadsPolicy s) (StatesText s) u
 

@@ -1,7 +1,7 @@
 -- Defines which text is the canonical text of which entity, and the error of other texts.
 -- Source: Cedar reference guide 4.0, "Entities and context: JSON format".
 -- Rules of this product: the order of the errors: 30 for a text that is not JSON, the error of the entity, 57 for
--- another spelling than the canonical one, and the uid of another entity.
+-- another spelling than the canonical one, and last that the uid is another entity's.
 use Rattle.std.specs.Prelude.{◌≡◌, ℕ, List, Some, None}
 use Rattle.serde_json.specs.Data.{Data}
 use Rattle.json_words.specs.Json.{json_of}
@@ -24,7 +24,7 @@ pub record StatesText (s : StatedSchema) (uid : EntityUid) (text : List ℕ) (e 
   pub canonical : canonical_text e ≡ text
   pub named : e.uid ≡ uid
 
--- `RefusesText s uid text fault` holds if it is not, and `fault` is the first error.
+-- `RefusesText s uid text fault` holds if `text` is not such a text for any entity, and `fault` is its first error.
 pub data RefusesText (s : StatedSchema) (uid : EntityUid) (text : List ℕ) : BodyFault → Type 0 where
   not_json : json_of text ≡ None → RefusesText s uid text (Refused 30)
   no_entity : (d : Data) (fault : EntityFault) → json_of text ≡ Some d → RefusesEntity s d fault

@@ -1,4 +1,4 @@
-//! Theorems: reading gives what the relations on bytes say. The functions are no-ops.
+//! Theorems: parsing gives what the relations on bytes state. The functions are no-ops.
 ghost use Rattle.sync_messages.specs.AsStated.{UpdatesAreRead, UpdatesHaveOneOutcome, UpdatesAreWritten};
 ghost use Rattle.sync_messages.specs.AsStated.{SummariesAreRead, SummariesHaveOneOutcome, SummariesAreWritten};
 ghost use Rattle.sync_messages.specs.AsStated.{TextsAreRead, MessagesAreRead, MessagesHaveOneOutcome};
@@ -40,8 +40,8 @@ pub fn summaries_are_read_as_stated()
     site_names_are_told();
 }
 
-/// Proves that parsing the text of an entity gives the entity of which it is the canonical text, under a schema and a
-/// uid, or the error of the text. No-op.
+/// Proves that parsing a text under a schema and a uid gives the entity with this uid whose canonical text it is, or
+/// the first error of the text. No-op.
 pub fn entity_texts_are_read_as_stated()
     ensures { TextsAreRead }
 {

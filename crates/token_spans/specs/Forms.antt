@@ -24,7 +24,7 @@ use Rattle.token_spans.specs.declared.forms.Part.{Part}
 use Rattle.token_spans.specs.declared.forms.Part.TheVariants as part
 use Rattle.token_spans.specs.declared.forms.Form as code
 
--- A core node, by the form that it is written as, and the tokens from the form's first one on.
+-- A `Form` is a core node, by the form that it is written as, and the tokens from the form's first one on.
 pub record Form : Type 0 where
   pub tree : ExprTree
   pub part : Part
@@ -142,12 +142,12 @@ three_at f g h i =
 abbrev pub part_of : Form → Part → Form
 part_of f p = record { tree = f.tree; part = p; tokens = f.tokens }
 
--- A minus joins a number; before anything else it is an operator.
+-- `behind_minus x a ts i` is the operand `i` of a minus before `a`: none before a number, which the minus belongs to.
 abbrev pub behind_minus : tree ExprTree → ExprTree → List Token → ℕ → Option Form
 behind_minus (tree.Number t) a ts i = None
 behind_minus _ a ts i = one_at a ts i
 
--- The negation of another comparison has one operand, which is written as the same form.
+-- `is_negated c` tests whether the comparison `c` is the negation of another one, which is written as the same form.
 abbrev pub is_negated : Comparison → Bool
 is_negated is.Less = false
 is_negated is.LessOrEqual = false

@@ -25,7 +25,7 @@ use Rattle.policy_grammar.specs.Whole.{expression_of}
 use Rattle.typing.specs.Places.{follow}
 use Rattle.token_spans.specs.Names.{named_at}
 
--- The name that a core node has itself.
+-- An `OwnName` is the name that a core node has itself.
 pub data OwnName : Type 0 where
   entity : EntityUid → OwnName
   tested_type : List ℕ → OwnName
@@ -38,7 +38,7 @@ abbrev pub name_of_operator : Unary → Option OwnName
 name_of_operator (Is n) = Some (tested_type n)
 name_of_operator op = None
 
--- `name_of (out-Expr e)` is the name of the core node e itself.
+-- `name_of (out-Expr e)` is the name that the core node `e` has itself, if it has one.
 abbrev pub name_of : Expr-F Expr → Option OwnName
 name_of (Expr-F.Literal l) = name_of_literal l
 name_of (Expr-F.Unary op a) = name_of_operator op

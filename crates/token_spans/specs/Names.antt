@@ -35,7 +35,7 @@ uid_tokens uid ts = up_to ts (drop (uid_count uid) ts)
 abbrev pub tested : ExprTree → PathTree → List Token → List Token
 tested a path ts = path_tokens path (drop 1 (drop (tree_count a) ts))
 
--- `in_test p ts` is these tokens of the type in `a is path in b`, which the test has and no other node.
+-- `in_test p ts` is the tokens `ts` of the type in `a is path in b`, if the node `p` is the test; no other has them.
 abbrev pub in_test : Part → List Token → Option (List Token)
 in_test node.Whole ts = None
 in_test (node.First n) ts = None
@@ -52,7 +52,8 @@ name_step _ f = None
 abbrev pub own_name : Form → Option (List Token)
 own_name f = name_step (out-ExprTree f.tree) f
 
--- `name_in x ts path` is those of the core node at a path of the expression x, which the tokens ts begin with.
+-- `name_in x ts path` is the tokens of the name that the core node at a path of the expression x has itself; the tokens
+-- ts begin with x.
 abbrev pub name_in : ExprTree → List Token → List ℕ → Option (List Token)
 name_in x ts path = option_and_then own_name (node_at (unwrapped (whole x ts)) path)
 

@@ -24,8 +24,8 @@ use Rattle.token_spans.specs.Forms.{tokens_at, up_to}
 
 -- ## Turns
 
--- The first step of a path at a form with two operands: it ends, leads to the first or the second operand or into it,
--- or to another.
+-- A `Turn` is the first step of a path at a form with two operands: the path ends, or leads to the first or the second
+-- operand or into it, or to another one.
 pub data Turn : Type 0 where
   stop : Turn
   left : List ℕ → Turn
@@ -62,13 +62,13 @@ action_count (action.Equal uid) = 2 + uid_count uid
 action_count (action.In uid) = 2 + uid_count uid
 action_count (action.InList uids) = 3 + row_count (map uid_count uids)
 
--- `when { e }` and `unless { e }` have three tokens more than e.
+-- `condition_count c` is how many tokens the condition `c` is written with: three more than its expression.
 abbrev pub condition_count : Condition → ℕ
 condition_count c = 2 + tree_count c.expression + 1
 
 -- ## Places
 
--- The place of a core node of a policy's expression.
+-- A `Place` is the place of a core node of a policy's expression.
 pub data Place : Type 0 where
   -- it joins parts or conditions of the policy, whose tokens from its effect on are these
   whole_policy : List Token → Place
@@ -101,7 +101,7 @@ joint_at off policy here there = nowhere
 
 -- ## Conditions
 
--- `unless { e }` means `!e`: that negation is written with the whole condition.
+-- `unless_at t c ts` is the place in `unless { e }`, which means `!e`: that negation has the whole condition's tokens.
 abbrev pub unless_at : Turn → Condition → List Token → Place
 unless_at stop c ts = in_unless c ts
 unless_at (left path) c ts = in_expression c.expression (drop 2 ts) path

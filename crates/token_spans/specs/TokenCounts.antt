@@ -80,7 +80,8 @@ count_step (tree.If a b c) = ((1 + a + 1) + b + 1) + c
 abbrev pub tree_count : ExprTree → ℕ
 tree_count = fold-ExprTree ℕ count_step
 
--- The counts of the parts of an expression.
+-- `access_tree_count`, `term_count` and `entry_count` are the counts of an access, of a sum's term and of a record's
+-- entry.
 abbrev pub access_tree_count : Access (List ExprTree) → ℕ
 access_tree_count (access.Field (Word word)) = 2
 access_tree_count (access.Field (Quoted quoted)) = 3

@@ -9,28 +9,28 @@ use crate::leaves::{behind_path, skip};
 use crate::parts::behind_uid;
 use grammar_trees::{ExprTree, PathTree, Token, UidTree};
 
-/// Returns the tokens of a Path that these begin with.
+/// Returns the tokens of `path`, which `tokens` begin with.
 pub(crate) fn path_tokens<'t>(path: &PathTree, tokens: &'t [Token]) -> &'t [Token]
     ensures { result.now ≡ spec.path_tokens path.now tokens.entry.now }
 {
     up_to(tokens, behind_path(path, tokens))
 }
 
-/// Returns the tokens of a Uid that these begin with.
+/// Returns the tokens of `uid`, which `tokens` begin with.
 pub(crate) fn uid_tokens<'t>(uid: &UidTree, tokens: &'t [Token]) -> &'t [Token]
     ensures { result.now ≡ spec.uid_tokens uid.now tokens.entry.now }
 {
     up_to(tokens, behind_uid(uid, tokens))
 }
 
-/// Returns the tokens of the type after `operand is`.
+/// Returns the tokens of the type `path` after `operand is`; `tokens` begin with the operand.
 fn tested<'t>(operand: &ExprTree, path: &PathTree, tokens: &'t [Token]) -> &'t [Token]
     ensures { result.now ≡ spec.tested operand.now path.now tokens.entry.now }
 {
     path_tokens(path, skip(behind_tree(operand, tokens), 1))
 }
 
-/// Returns the tokens of the type in `operand is path in ancestor`, if `part` is the test.
+/// Returns `tokens`, those of the type in `operand is path in ancestor`, if `part` is the test.
 fn in_test<'t>(part: Part, tokens: &'t [Token]) -> Option<&'t [Token]>
     ensures { option_map (λ ts. ts.now) result ≡ spec.in_test part tokens.entry.now }
 {

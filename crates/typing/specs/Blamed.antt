@@ -18,6 +18,7 @@ use Rattle.typing.specs.Faults.{left_of_or_no_boolean, fault_right_of_or, right_
 use Rattle.typing.specs.Faults.{fault_in_test, test_no_boolean, fault_in_then, fault_in_only_else}
 use Rattle.typing.specs.Faults.{fault_in_else, branches_differ, fault_here, fault_later}
 
+-- A `Blame` is the place of a typing error in an expression, with the unmet demand.
 pub record Blame : Type 0 where
   -- the indexes of operands that lead from the whole expression to the blamed one
   pub path : List ℕ
@@ -26,15 +27,15 @@ pub record Blame : Type 0 where
   -- the types of the operands that the demand is about
   pub types : List StaticType
 
--- the form itself is blamed, whose operands have these types
+-- `at_itself x ts` blames the expression `x` itself, whose operands have the types `ts`.
 abbrev pub at_itself : Expr → List StaticType → Blame
 at_itself x ts = record { path = []; form = x; types = ts }
 
--- its operand of this index is blamed
+-- `at_operand i x ts` blames the operand `i` of the expression `x`, whose demand is about the types `ts`.
 abbrev pub at_operand : ℕ → Expr → List StaticType → Blame
 at_operand i x ts = record { path = i ∷ []; form = x; types = ts }
 
--- what is blamed in the operand of this index
+-- `under i b` blames what `b` blames in the operand `i`.
 abbrev pub under : ℕ → Blame → Blame
 under i b = record { path = i ∷ b.path; form = b.form; types = b.types }
 

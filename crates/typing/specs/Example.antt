@@ -43,11 +43,11 @@ view = uid (codes "Action") (codes "view")
 abbrev pub readers : EntityUid
 readers = uid (codes "Action") (codes "readers")
 
--- a user has an optional age
+-- `user_attributes`: a user has an optional age.
 abbrev pub user_attributes : FieldTypes
 user_attributes = field_type (codes "age") long_type false no_field_types
 
--- the context of a request says whether its sender is known
+-- `environment`: the context of a request says whether its sender is known.
 abbrev pub environment : Environment
 environment = record {
   principal = codes "User";
@@ -78,14 +78,14 @@ world = record { stored = stored; parents = parents }
 abbrev pub request : Request
 request = record { principal = alice; action = view; resource = plan; context = (codes "known", boolean true) ∷ [] }
 
--- the capability that the principal has an age
+-- `age_of_principal` is the capability that the principal has an age.
 abbrev pub age_of_principal : Capability
 age_of_principal = (form.Variable Principal, codes "age")
 
--- `principal has age`
+-- `has_age` is `principal has age`.
 abbrev pub has_age : Expr
 has_age = form.Has (form.Variable Principal) (codes "age")
 
--- `0 < principal.age`
+-- `is_aged` is `0 < principal.age`.
 abbrev pub is_aged : Expr
 is_aged = form.Binary Less (form.Literal (literal.Long (pos 0))) (form.Field (form.Variable Principal) (codes "age"))

@@ -7,7 +7,7 @@ use Rattle.grammar_core.specs.declared.expr.Expr.{Expr}
 use Rattle.grammar_core.specs.declared.expr.Expr.TheOpen.{Expr-F}
 use Rattle.grammar_core.specs.declared.expr.Expr.TheViews.{out-Expr}
 
--- the operands of a form
+-- `operands_in f` are the operands of the form `f`.
 abbrev pub operands_in : Expr-F Expr → List Expr
 operands_in (Expr-F.Literal l) = []
 operands_in (Expr-F.Variable x) = []
@@ -30,7 +30,7 @@ abbrev pub and_then : Option Expr → (Expr → Option Expr) → Option Expr
 and_then None f = None
 and_then (Some x) f = f x
 
--- the expression to which the path leads, if it leads to one
+-- `follow p x` is the expression to which the path `p` leads from `x`, if it leads to one.
 abbrev pub follow : List ℕ → Expr → Option Expr
 follow [] x = Some x
 follow (i ∷ p) x = and_then (slice_get (operands_of x) i) (λ y. follow p y)

@@ -64,13 +64,14 @@ abbrev pub if_common : Option StaticType → Row
 if_common None = Err no_common_type
 if_common (Some t) = Ok boolean_type
 
--- `equal_type s t`: two unequal entity types give False; otherwise a common type is required.
+-- `equal_type s t` is the type of `==` on operands of these types: False for two different entity types; else Bool, if
+-- they have a common type.
 abbrev pub equal_type : StaticType → StaticType → Row
 equal_type (entity_type m) (entity_type n) = Ok (if bytes_eq m n then boolean_type else false_type)
 equal_type s t = if_common (common s t)
 
--- `may_be_in env m n`: an entity of type `m` in one of type `n` is False if neither is an action type, they differ,
--- and `n` is not an ancestor type of `m`.
+-- `may_be_in env m n` tests whether an entity of type `m` may be in one of type `n`: one of them is an action type, or
+-- they are equal, or `n` is an ancestor type of `m`.
 abbrev pub may_be_in : Environment → List ℕ → List ℕ → Bool
 may_be_in env m n =
     env.is_action_type m || (env.is_action_type n || (bytes_eq m n || env.may_be_below m n))
@@ -79,7 +80,7 @@ may_be_in env m n =
 abbrev pub in_type : Environment → List ℕ → List ℕ → StaticType
 in_type env m n = if may_be_in env m n then boolean_type else false_type
 
--- `of_numbers t r s` is `t` for two integers.
+-- `of_numbers t r s` is the type `t`, if the operand types `r` and `s` are both Long.
 abbrev pub of_numbers : StaticType → StaticType → StaticType → Row
 of_numbers t long_type long_type = Ok t
 of_numbers t r s = Err unexpected
@@ -123,7 +124,7 @@ abbrev pub or_type : StaticType → StaticType
 or_type true_type = true_type
 or_type t = boolean_type
 
--- ---- fields; the test says whether the capability is known
+-- ---- fields; `is_known` says whether there is a capability for the field
 
 -- `access_type is_known declared` is the type of `e.f`: of a required field, or of an optional one with a capability.
 abbrev pub access_type : Bool → Declared → Row
@@ -144,7 +145,7 @@ record_has undeclared = false_type
 record_has (required t) = true_type
 record_has (optional t) = boolean_type
 
--- `entity_has declared` is that for an entity, which may not be stored.
+-- `entity_has declared` is that for an entity: Bool also for a required field, since the entity may not be stored.
 abbrev pub entity_has : Declared → StaticType
 entity_has undeclared = false_type
 entity_has (required t) = boolean_type
@@ -159,7 +160,7 @@ has_type env is_known k t = Err unexpected
 
 -- ---- sets
 
--- `set_of_common o` is the type of sets with the common type `o`, if there is one.
+-- `set_of_common o` is the type of sets whose members have the common type `o`, if there is one.
 abbrev pub set_of_common : Option StaticType → Row
 set_of_common None = Err no_common_type
 set_of_common (Some t) = Ok (set_type t)
@@ -171,12 +172,12 @@ set_literal_type (t ∷ ts) = set_of_common (common_of t ts)
 
 -- ---- calls
 
--- `address_test_type t` is the type of a test of an IP address.
+-- `address_test_type t` is the type of a test of an IP address on an operand of the type `t`.
 abbrev pub address_test_type : StaticType → Row
 address_test_type ipaddr_type = Ok boolean_type
 address_test_type t = Err unexpected
 
--- `of_decimals s t` is Bool for two decimals, and `of_addresses s t` for two IP addresses.
+-- `of_decimals s t` is Bool if the types `s` and `t` are both decimal, and `of_addresses s t` if they are both ipaddr.
 abbrev pub of_decimals : StaticType → StaticType → Row
 of_decimals decimal_type decimal_type = Ok boolean_type
 of_decimals s t = Err unexpected

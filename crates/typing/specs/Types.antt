@@ -23,7 +23,7 @@ mutual
     decimal_type : StaticType
     ipaddr_type : StaticType
 
-  -- each key with its type, and whether it is required; keys ascend
+  -- `FieldTypes` are the keys of a record, ascending, each with its type and whether it is required.
   pub data FieldTypes : Type 0 where
     no_field_types : FieldTypes
     field_type : List ℕ → StaticType → Bool → FieldTypes → FieldTypes

@@ -28,17 +28,18 @@ abbrev pub IsCheckResult : StatedSchema → Policy → CheckResult → Type 0
 IsCheckResult s policy (passes impossible) = IsVerdict s policy impossible
 IsCheckResult s policy (refused f) = IsCheckRefused s policy f
 
--- Each policy has exactly one outcome under each schema.
+-- `PoliciesHaveOneOutcome`: each policy has exactly one outcome under each schema.
 abbrev pub PoliciesHaveOneOutcome : Type 0
 PoliciesHaveOneOutcome = (s : StatedSchema) (policy : Policy)
     → (o : CheckResult) × IsCheckResult s policy o × ((p : CheckResult) → IsCheckResult s policy p → p ≡ o)
 
--- A policy that passes is not rejected.
+-- `PassingIsNotRefused`: a policy that passes validation is not rejected.
 abbrev pub PassingIsNotRefused : Type 0
 PassingIsNotRefused = (s : StatedSchema) (policy : Policy) (f : TypeFault) → Passes s policy
     → IsCheckRefused s policy f → ⊥
 
--- If a schema has no environment, a policy whose names are all declared passes and is impossible.
+-- `NoEnvironmentIsImpossible`: if a schema has no environment, a policy whose names are all declared passes and is
+-- impossible.
 abbrev pub NoEnvironmentIsImpossible : Type 0
 NoEnvironmentIsImpossible = (s : StatedSchema) (policy : Policy) → s.environments ≡ []
     → All (IsKnown s) (names_of policy) → IsCheckResult s policy (passes true)

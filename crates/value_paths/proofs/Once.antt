@@ -1,17 +1,24 @@
--- What is said of the part at fault of an entity is determined.
-use Rattle.std.proofs.Common.{◌≡◌, ◌∙◌, ℕ, Bool, true, false, List, Option, None, Some, Result, Ok, Err, sym, ap, subst, refl}
+-- What is said of the part at fault of an entity or a request is determined.
+use Rattle.std.proofs.Common.{◌≡◌, ◌∙◌, ℕ, Bool, true, false, if◌then◌else◌, List, ◌++◌, Option, None, Some, Result, Ok, Err, codes, sym, ap, subst, refl}
+use Rattle.std.specs.Prelude.{option_and_then}
 use Rattle.std.proofs.lemmas.Bool.{false≢true}
 use Rattle.serde_json.specs.Data.{Data}
+use Rattle.serde_json.specs.Find.{get}
+use Rattle.schema_types.specs.Cedar.{Cedar}
 use Rattle.entities.specs.schema.Schemas.{StatedSchema}
 use Rattle.entities.specs.Entities.{entity_stated_in}
+use Rattle.entities.specs.Requests.{RequestRefused}
+use Rattle.entities.specs.Requests as request
+use Rattle.entities.specs.Laws.{NotBoth, OneRefusal}
 use Rattle.entities.specs.declared.fault.EntityFault.{EntityFault}
 use Rattle.value_paths.specs.declared.placed.PlacedFault.{PlacedFault}
 use Rattle.value_paths.specs.declared.steps.Step.{Step}
-use Rattle.value_paths.specs.EntityPaths.{IsPathOf}
-use Rattle.value_paths.specs.Outcomes.{IsEntityFault}
+use Rattle.value_paths.specs.EntityPaths.{shape_at, IsPathOf}
+use Rattle.value_paths.specs.RequestPaths.{IsContextType, IsRequestPathOf}
+use Rattle.value_paths.specs.Outcomes.{IsEntityFault, IsRequestFault}
 use Rattle.value_paths.specs.Pointers.{pointer_of}
-use Rattle.value_paths.specs.Laws.{HasPathOf, EntitiesHavePaths, EntitiesAreToldOnce}
-use Rattle.value_paths.specs.Told.{pointer_words, part_words}
+use Rattle.value_paths.specs.Laws.{HasPathOf, EntitiesHavePaths, EntitiesAreToldOnce, RequestsHavePaths, RequestsAreToldOnce}
+use Rattle.value_paths.specs.Told.{pointer_words, declared_words, is_of_value, type_behind, part_words}
 
 abbrev fault_in : {A : Type 0} → EntityFault → Result A EntityFault → EntityFault
 fault_in f (Ok x) = f
@@ -27,8 +34,9 @@ is_read (Err f) = false
 not_both : {A : Type 0} (r : Result A EntityFault) (x : A) (f : EntityFault) → r ≡ Ok x → r ≡ Err f → ⊥
 not_both r x f e d = false≢true (sym (ap is_read d) ∙ ap is_read e)
 
-abbrev at_path : List Step → List ℕ
-at_path path = pointer_words (pointer_of path)
+-- what is said of an error with this path
+abbrev said : EntityFault → Option Cedar → List Step → List ℕ
+said f whole path = pointer_words (pointer_of path) ++ declared_words (if is_of_value f then option_and_then (λ t. type_behind t path) whole else None)
 
 same_path : {A : Type 0} (r : Result A EntityFault) (LeadsTo : EntityFault → List Step → Type 0) (f g : EntityFault) (p q : List Step) → HasPathOf r LeadsTo
     → r ≡ Err f → LeadsTo f p → r ≡ Err g → LeadsTo g q → p ≡ q
@@ -37,14 +45,46 @@ same_path r LeadsTo f g p q law e a d b =
     let moved = subst (λ (h : EntityFault). LeadsTo h q) (one_fault r f g e d) b in
     one.2 p a ∙ sym (one.2 q moved)
 
-module _ (law : EntitiesHavePaths) (s : StatedSchema) (d : Data) where
-  same_words : (o p : Option PlacedFault) → IsEntityFault s d o → IsEntityFault s d p → part_words o ≡ part_words p
+module _ (law : EntitiesHavePaths) (s : StatedSchema) (d : Data) (whole : Option Cedar) where
+  same_words : (o p : Option PlacedFault) → IsEntityFault s d o → IsEntityFault s d p → part_words o whole ≡ part_words p whole
   same_words None None a b = refl
   same_words None (Some y) a b = absurd (not_both (entity_stated_in s d) a.0 y.fault a.1 b.0)
   same_words (Some x) None a b = absurd (not_both (entity_stated_in s d) b.0 x.fault b.1 a.0)
   same_words (Some x) (Some y) a b =
-      ap at_path (same_path (entity_stated_in s d) (IsPathOf s d) x.fault y.fault x.path y.path (law s d) a.0 a.1 b.0 b.1)
+      ap (said x.fault whole) (same_path (entity_stated_in s d) (IsPathOf s d) x.fault y.fault x.path y.path (law s d) a.0 a.1 b.0 b.1)
+      ∙ ap (λ (f : EntityFault). said f whole y.path) (sym (one_fault (entity_stated_in s d) x.fault y.fault a.0 b.0))
 
 pub told_once : EntitiesHavePaths → EntitiesAreToldOnce
 told_once law s None words others h g = h ∙ sym g
-told_once law s (Some d) words others h g = h.2 ∙ same_words law s d h.0 g.0 h.1 g.1 ∙ sym g.2
+told_once law s (Some d) words others h g =
+    h.2 ∙ same_words law s d (shape_at s (get (codes "uid") d)) h.0 g.0 h.1 g.1 ∙ sym g.2
+
+-- ---- requests
+
+-- only an error of a value is said with a type, and then the context has one
+same_said : (s : StatedSchema) (d : Data) (t u : Option Cedar) (path : List Step) (f : EntityFault) → RequestRefused s d f → IsContextType s d t → IsContextType s d u
+    → said f t path ≡ said f u path
+same_said s d t u path f (request.shape none) a b = refl
+same_said s d t u path f (request.context asked g asks e) a b =
+    ap (λ (whole : Option Cedar). said g whole path) (a asked asks ∙ sym (b asked asks))
+
+module _ (law : RequestsHavePaths) (either : NotBoth) (one : OneRefusal) (s : StatedSchema) (d : Data) where
+  same_place : (x y : PlacedFault) → RequestRefused s d x.fault × IsRequestPathOf s d x.fault x.path → RequestRefused s d y.fault × IsRequestPathOf s d y.fault y.path → x.path ≡ y.path
+  same_place x y a b =
+      let found = law s d x.fault a.0 in
+      let moved = subst (λ (f : EntityFault). IsRequestPathOf s d f y.path) (one s d y.fault x.fault b.0 a.0) b.1 in
+      found.2 x.path a.1 ∙ sym (found.2 y.path moved)
+
+  same_request_words : (o p : Option PlacedFault) (t u : Option Cedar) → IsRequestFault s d o → IsRequestFault s d p → IsContextType s d t → IsContextType s d u
+      → part_words o t ≡ part_words p u
+  same_request_words None None t u a b i j = refl
+  same_request_words None (Some y) t u a b i j = absurd (either s d a.0 y.fault a.1 b.0)
+  same_request_words (Some x) None t u a b i j = absurd (either s d b.0 x.fault b.1 a.0)
+  same_request_words (Some x) (Some y) t u a b i j =
+      ap (said x.fault t) (same_place x y a b) ∙ same_said s d t u y.path x.fault a.0 i j
+      ∙ ap (λ (f : EntityFault). said f u y.path) (one s d x.fault y.fault a.0 b.0)
+
+pub requests_told_once : RequestsHavePaths → NotBoth → OneRefusal → RequestsAreToldOnce
+requests_told_once law either one s None words others h g = h ∙ sym g
+requests_told_once law either one s (Some d) words others h g =
+    h.4 ∙ same_request_words law either one s d h.0 g.0 h.1 g.1 h.2 g.2 h.3 g.3 ∙ sym g.4

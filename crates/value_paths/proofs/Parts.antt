@@ -28,7 +28,7 @@ use Rattle.value_paths.specs.EntityPaths.{to_key, to_parent, first_unmet, form_d
 use Rattle.value_paths.specs.EntityPaths as says
 use Rattle.value_paths.specs.Laws.{HasPathOf, EntitiesHavePaths}
 use Rattle.value_paths.specs.inner.FoundPaths.{under, record_path}
-use Rattle.value_paths.specs.inner.FoundParts.{uid_at, fits, unfit_path, shape_at, attributes_path, parents_path, path_of}
+use Rattle.value_paths.specs.inner.FoundParts.{fits, unfit_path, attributes_path, parents_path, path_of}
 use Rattle.value_paths.proofs.Agreeing.{Found, some_is, record_is_found, record_path_only}
 use Rattle.value_paths.proofs.EntityForms.{HasForm, form_found, AreUids, States, stated_parts}
 

@@ -24,10 +24,10 @@ use Rattle.value_paths.specs.declared.steps.Step.{Step}
 use Rattle.value_paths.specs.declared.steps.Step.TheVariants.{Key}
 use Rattle.value_paths.specs.Paths.{RecordFaultAt}
 use Rattle.value_paths.specs.EntityPaths.{to_key, first_unmet}
-use Rattle.value_paths.specs.RequestPaths.{FormFaultAt, context_type, IsInContext, IsRequestPathOf}
+use Rattle.value_paths.specs.RequestPaths.{FormFaultAt, context_type, IsContextType, IsInContext, IsRequestPathOf}
 use Rattle.value_paths.specs.RequestPaths as says
 use Rattle.value_paths.specs.inner.FoundPaths.{under, record_path}
-use Rattle.value_paths.specs.inner.FoundNames.{Names, IsNamed, request_demands, IsFormSearched, context_path, named_path, IsContextSearched, IsPartSearched}
+use Rattle.value_paths.specs.inner.FoundNames.{Names, IsNamed, request_demands, IsFormSearched, context_path, path_under, named_type, IsContextSearched, IsPartSearched}
 use Rattle.value_paths.proofs.Agreeing.{Found, record_is_found}
 
 -- ---- the three that are asked for
@@ -45,29 +45,23 @@ same_asked one d a b h k =
     ∙ ap (λ (x : EntityUid). made b.principal x a.resource) (names_one one (get (codes "action") d) a.action b.action h.action k.action)
     ∙ ap (λ (x : EntityUid). made b.principal b.action x) (names_one one (get (codes "resource") d) a.resource b.resource h.resource k.resource)
 
-pub same_context : OneName → (s : StatedSchema) (d : Data) (p a r : EntityUid) (o : Option (List Step)) → Names (get (codes "principal") d) p → Names (get (codes "action") d) a
-    → Names (get (codes "resource") d) r → o ≡ context_path s (made p a r) d → IsContextSearched s d o
-same_context one s d p a r o hp ha hr e asked asks =
+same_type : OneName → (s : StatedSchema) (d : Data) (p a r : EntityUid) (t : Option Cedar) → Names (get (codes "principal") d) p → Names (get (codes "action") d) a
+    → Names (get (codes "resource") d) r → t ≡ context_type s (made p a r) → IsContextType s d t
+same_type one s d p a r t hp ha hr e asked asks =
     e
-    ∙ ap (λ (x : EntityUid). context_path s (made x a r) d) (names_one one (get (codes "principal") d) p asked.principal hp asks.principal)
-    ∙ ap (λ (x : EntityUid). context_path s (made asked.principal x r) d) (names_one one (get (codes "action") d) a asked.action ha asks.action)
-    ∙ ap (λ (x : EntityUid). context_path s (made asked.principal asked.action x) d) (names_one one (get (codes "resource") d) r asked.resource hr asks.resource)
+    ∙ ap (λ (x : EntityUid). context_type s (made x a r)) (names_one one (get (codes "principal") d) p asked.principal hp asks.principal)
+    ∙ ap (λ (x : EntityUid). context_type s (made asked.principal x r)) (names_one one (get (codes "action") d) a asked.action ha asks.action)
+    ∙ ap (λ (x : EntityUid). context_type s (made asked.principal asked.action x)) (names_one one (get (codes "resource") d) r asked.resource hr asks.resource)
 
-pub no_principal : (s : StatedSchema) (d : Data) (o : Option (List Step)) → ((uid : EntityUid) → Names (get (codes "principal") d) uid → ⊥) → IsContextSearched s d o
-no_principal s d o none asked asks = absurd (none asked.principal asks.principal)
+pub type_searched : OneName → (s : StatedSchema) (d : Data) (p a r : Option EntityUid) (t : Option Cedar) → IsRead (Names (get (codes "principal") d)) p → IsRead (Names (get (codes "action") d)) a
+    → IsRead (Names (get (codes "resource") d)) r → t ≡ named_type s p a r → IsContextType s d t
+type_searched one s d None a r t hp ha hr e = λ asked asks. absurd (hp asked.principal asks.principal)
+type_searched one s d (Some p) None r t hp ha hr e = λ asked asks. absurd (ha asked.action asks.action)
+type_searched one s d (Some p) (Some a) None t hp ha hr e = λ asked asks. absurd (hr asked.resource asks.resource)
+type_searched one s d (Some p) (Some a) (Some r) t hp ha hr e = same_type one s d p a r t hp ha hr e
 
-pub no_action : (s : StatedSchema) (d : Data) (o : Option (List Step)) → ((uid : EntityUid) → Names (get (codes "action") d) uid → ⊥) → IsContextSearched s d o
-no_action s d o none asked asks = absurd (none asked.action asks.action)
-
-pub no_resource : (s : StatedSchema) (d : Data) (o : Option (List Step)) → ((uid : EntityUid) → Names (get (codes "resource") d) uid → ⊥) → IsContextSearched s d o
-no_resource s d o none asked asks = absurd (none asked.resource asks.resource)
-
-pub context_searched : OneName → (s : StatedSchema) (d : Data) (p a r : Option EntityUid) (o : Option (List Step)) → IsRead (Names (get (codes "principal") d)) p → IsRead (Names (get (codes "action") d)) a
-    → IsRead (Names (get (codes "resource") d)) r → o ≡ named_path s p a r d → IsContextSearched s d o
-context_searched one s d None a r o hp ha hr e = no_principal s d o hp
-context_searched one s d (Some p) None r o hp ha hr e = no_action s d o ha
-context_searched one s d (Some p) (Some a) None o hp ha hr e = no_resource s d o hr
-context_searched one s d (Some p) (Some a) (Some r) o hp ha hr e = same_context one s d p a r o hp ha hr e
+pub context_searched : (s : StatedSchema) (d : Data) (t : Option Cedar) (o : Option (List Step)) → IsContextType s d t → o ≡ path_under t d → IsContextSearched s d o
+context_searched s d t o is e asked asks = e ∙ ap (λ (x : Option Cedar). path_under x d) (is asked asks)
 
 pub named_by : (o : Option Data) (read : Option EntityUid) (given : Bool) → IsRead (Names o) read → given ≡ is_some read → IsNamed o given
 named_by o None given h e = subst (IsNamed o) (sym e) (λ n. h n.0 n.1)

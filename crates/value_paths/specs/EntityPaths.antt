@@ -4,7 +4,7 @@
 -- `uid`, 38 to `tags`; 33, 34 and 35 into `attrs`; 36 and 37 to the first parent that the entity may not have.
 use Rattle.std.specs.Prelude.{◌≡◌, ℕ, ◌+◌, List, [], ◌∷◌, Bool, true}
 use Rattle.std.specs.Prelude.{false, is_some, Option, Some, None, Ok, Err, codes}
-use Rattle.std.specs.Prelude.{if◌then◌else◌}
+use Rattle.std.specs.Prelude.{if◌then◌else◌, option_and_then}
 use Rattle.serde_json.specs.Data.{Data, Items, no_items, item}
 use Rattle.serde_json.specs.Find.{get, as_array, as_object}
 use Rattle.values.specs.declared.entity_uid.EntityUid.{EntityUid}
@@ -73,6 +73,13 @@ form_demands d =
     ∷ parents_demands (get (codes "parents") d)
 
 -- ---- attributes and parents
+
+-- `uid_at o` is the uid that a value names, and `shape_at s o` the shape of the type of that entity.
+abbrev pub uid_at : Option Data → Option EntityUid
+uid_at o = option_and_then uid_in o
+
+abbrev pub shape_at : StatedSchema → Option Data → Option Cedar
+shape_at s o = option_and_then (λ uid. s.shape uid.type_name) (uid_at o)
 
 -- `IsInAttributes s d path` holds if `path` leads to the fault of the attributes, read by the shape of the entity's
 -- type.

@@ -1,5 +1,5 @@
 -- Defines the theorems that a rejected value has exactly one path to its fault, that an accepted one has no path, and
--- that the words on an entity's part are determined.
+-- that the words on the part of an entity or a request are determined.
 use Rattle.std.specs.Prelude.{◌≡◌, ℕ, List, Option, Result, Ok, Err}
 use Rattle.serde_json.specs.Data.{Data}
 use Rattle.schema_types.specs.Cedar.{Cedar}
@@ -12,7 +12,7 @@ use Rattle.value_paths.specs.declared.steps.Step.{Step}
 use Rattle.value_paths.specs.Paths.{FaultAt, RecordFaultAt}
 use Rattle.value_paths.specs.EntityPaths.{IsPathOf}
 use Rattle.value_paths.specs.RequestPaths.{IsRequestPathOf}
-use Rattle.value_paths.specs.Told.{IsEntityTold}
+use Rattle.value_paths.specs.Told.{IsEntityTold, IsRequestTold}
 
 -- `HasPath r LeadsTo` holds if `r` is an error, and `LeadsTo` holds of exactly one path; or `r` is a value, and
 -- `LeadsTo` holds of no path.
@@ -49,3 +49,8 @@ RequestsHavePaths = (s : StatedSchema) (d : Data) (f : EntityFault) → RequestR
 abbrev pub EntitiesAreToldOnce : Type 0
 EntitiesAreToldOnce = (s : StatedSchema) (o : Option Data) (words others : List ℕ) → IsEntityTold s o words
     → IsEntityTold s o others → words ≡ others
+
+-- `RequestsAreToldOnce`: two texts that say where a value is at fault as a request are the same.
+abbrev pub RequestsAreToldOnce : Type 0
+RequestsAreToldOnce = (s : StatedSchema) (o : Option Data) (words others : List ℕ) → IsRequestTold s o words
+    → IsRequestTold s o others → words ≡ others

@@ -40,6 +40,10 @@ abbrev pub context_type : StatedSchema → Asked → Option Cedar
 context_type s asked =
     context_where (is_place asked.action asked.principal.type_name asked.resource.type_name) s.environments
 
+-- `IsContextType s d t` holds if `t` is that type for the three that `d` names, if it has the form of a request.
+abbrev pub IsContextType : StatedSchema → Data → Option Cedar → Type 0
+IsContextType s d t = (asked : Asked) → Asks d asked → t ≡ context_type s asked
+
 -- `IsInContext s d path` holds if `path` leads to the fault of the context, read by that type.
 pub data IsInContext (s : StatedSchema) (d : Data) : List Step → Type 0 where
   in_context : (asked : Asked) (t : Cedar) (path : List Step) → Asks d asked → context_type s asked ≡ Some t

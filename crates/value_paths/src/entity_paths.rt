@@ -7,7 +7,8 @@ ghost use Rattle.entities.specs.Entities.{entity_stated_in};
 ghost use Rattle.entities.specs.Stated.{or_empty};
 ghost use Rattle.value_paths.specs.Outcomes.{IsEntityFault};
 ghost use Rattle.value_paths.specs.inner.FoundPaths.{record_path, under};
-ghost use Rattle.value_paths.specs.inner.FoundParts.{attributes_path, path_of, shape_at};
+ghost use Rattle.value_paths.specs.EntityPaths.{shape_at};
+ghost use Rattle.value_paths.specs.inner.FoundParts.{attributes_path, path_of};
 
 use crate::finding::find_in_record;
 use crate::forms::find_in_form;
@@ -21,7 +22,7 @@ use serde_json::{Map, Value};
 use std::alloc::Global;
 
 /// Returns the shape of the type of the entity that a value names.
-fn shape_at<'s>(
+pub(crate) fn shape_at<'s>(
     alloc: Global,
     schema: &'s Schema,
     found: Option<&Value>,

@@ -1,8 +1,8 @@
 //! Theorems. The functions are no-ops.
 ghost use Rattle.value_paths.specs.Laws.{ValuesHavePaths, RecordsHavePaths, EntitiesHavePaths};
-ghost use Rattle.value_paths.specs.Laws.{RequestsHavePaths, EntitiesAreToldOnce};
+ghost use Rattle.value_paths.specs.Laws.{RequestsHavePaths, EntitiesAreToldOnce, RequestsAreToldOnce};
 
-use entities::{names_read_back, texts_have_one_reading};
+use entities::{names_read_back, requests_have_one_outcome, texts_have_one_reading};
 
 /// Proves that a value that a type rejects has exactly one path to the part at fault, and a value of the type has no
 /// path; and the same of attributes and contexts. No-op.
@@ -29,4 +29,12 @@ pub fn entities_are_told_once()
     ensures { EntitiesAreToldOnce }
 {
     rejected_entities_have_one_path();
+}
+
+/// Proves that the schema and the JSON determine the words on the part at fault of a request. No-op.
+pub fn requests_are_told_once()
+    ensures { RequestsAreToldOnce }
+{
+    rejected_requests_have_one_path();
+    requests_have_one_outcome();
 }

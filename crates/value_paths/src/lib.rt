@@ -21,7 +21,7 @@ pub use entities::Schema;
 pub use entity_paths::entity_fault;
 pub use laws::{
     entities_are_told_once, rejected_entities_have_one_path, rejected_requests_have_one_path,
-    rejected_values_have_one_path,
+    rejected_values_have_one_path, requests_are_told_once,
 };
 pub use placed::PlacedFault;
 pub use pointers::pointer;

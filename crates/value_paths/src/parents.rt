@@ -4,8 +4,8 @@ ghost use Rattle.serde_json.specs.View.{view, items_view};
 ghost use Rattle.serde_json.specs.Find.{get};
 ghost use Rattle.entities.specs.Typing.{with_or};
 ghost use Rattle.entities.specs.schema.Views.{schema_view};
-ghost use Rattle.value_paths.specs.EntityPaths.{items_at};
-ghost use Rattle.value_paths.specs.inner.FoundParts.{uid_at, fits, unfit_path, parents_path};
+ghost use Rattle.value_paths.specs.EntityPaths.{items_at, uid_at};
+ghost use Rattle.value_paths.specs.inner.FoundParts.{fits, unfit_path, parents_path};
 
 use crate::forms::at_parent;
 use crate::steps::Trail;

@@ -9,7 +9,9 @@ ghost use Rattle.entities.specs.Requests.{RequestRefused};
 ghost use Rattle.value_paths.specs.EntityPaths.{first_unmet};
 ghost use Rattle.value_paths.specs.Outcomes.{IsRequestFault};
 ghost use Rattle.value_paths.specs.inner.FoundNames.{Names, IsNamed, IsFormSearched, IsContextSearched, IsPartSearched};
-ghost use Rattle.value_paths.specs.inner.FoundNames.{context_path, named_path, request_demands};
+ghost use Rattle.value_paths.specs.inner.FoundNames.{path_under, named_type, request_demands, IsTypeForResource};
+ghost use Rattle.value_paths.specs.inner.FoundNames.{IsTypeForAction};
+ghost use Rattle.value_paths.specs.RequestPaths.{IsContextType};
 
 use crate::entity_paths::find_in_fields;
 use crate::forms::{is_absent_or_object, is_object};
@@ -112,19 +114,80 @@ fn context_type<'s>(
     None
 }
 
-/// Returns the path to the fault of the context of a request for these three, if there is one.
+/// Returns the same if all three names are given.
+fn named_type<'s>(
+    schema: &'s Schema,
+    principal: &Option<EntityUid>,
+    action: &Option<EntityUid>,
+    resource: &Option<EntityUid>,
+) -> Option<&'s CedarType>
+    ensures { option_map (λ t. cedar_view t.now) result
+        ≡ named_type (schema_view schema.now) principal.now action.now resource.now }
+{
+    let Some(principal) = principal else {
+        return None;
+    };
+    let Some(action) = action else {
+        return None;
+    };
+    let Some(resource) = resource else {
+        return None;
+    };
+    context_type(schema, principal, action, resource)
+}
+
+/// Returns the same for the resource that a request names.
+fn type_for_resource<'s>(
+    alloc: Global,
+    schema: &'s Schema,
+    value: &Value,
+    principal: &Option<EntityUid>,
+    action: &Option<EntityUid>,
+) -> Result<Option<&'s CedarType>, NoMemory>
+    ensures { IfOk result (λ o. IsTypeForResource (schema_view schema.now) (view value.now) principal.now action.now
+        (option_map (λ t. cedar_view t.now) o)) }
+{
+    let resource = name_at(alloc, value.get("resource"))?;
+    Ok(named_type(schema, principal, action, &resource))
+}
+
+/// Returns the same for the action and the resource that a request names.
+fn type_for_action<'s>(
+    alloc: Global,
+    schema: &'s Schema,
+    value: &Value,
+    principal: &Option<EntityUid>,
+) -> Result<Option<&'s CedarType>, NoMemory>
+    ensures { IfOk result (λ o. IsTypeForAction (schema_view schema.now) (view value.now) principal.now
+        (option_map (λ t. cedar_view t.now) o)) }
+{
+    let action = name_at(alloc, value.get("action"))?;
+    type_for_resource(alloc, schema, value, principal, &action)
+}
+
+/// Returns the type of the context of a request, if its action applies to its principal and its resource.
+pub(crate) fn asked_type<'s>(
+    alloc: Global,
+    schema: &'s Schema,
+    value: &Value,
+) -> Result<Option<&'s CedarType>, NoMemory>
+    ensures { IfOk result (λ o.
+        IsContextType (schema_view schema.now) (view value.now) (option_map (λ t. cedar_view t.now) o)) }
+{
+    names_read_back();
+    let principal = name_at(alloc, value.get("principal"))?;
+    type_for_action(alloc, schema, value, &principal)
+}
+
+/// Returns the path to the fault of a context of this type, if there is one.
 fn find_in_context_of(
     alloc: Global,
-    schema: &Schema,
     value: &Value,
-    principal: &EntityUid,
-    action: &EntityUid,
-    resource: &EntityUid,
+    ty: Option<&CedarType>,
 ) -> Result<Option<Trail>, NoMemory>
-    ensures { IfOk result (λ o. o ≡ context_path (schema_view schema.now)
-        (record { principal = principal.now; action = action.now; resource = resource.now }) (view value.now)) }
+    ensures { IfOk result (λ o. o ≡ path_under (option_map (λ t. cedar_view t.now) ty.entry) (view value.now)) }
 {
-    let Some(ty) = context_type(schema, principal, action, resource) else {
+    let Some(ty) = ty else {
         return Ok(None);
     };
     match find_in_fields(alloc, value.get("context"), ty)? {
@@ -133,39 +196,12 @@ fn find_in_context_of(
     }
 }
 
-/// Returns the path to the fault of the context of a request, if all three names are given and there is a fault.
-fn find_in_context_named(
-    alloc: Global,
-    schema: &Schema,
-    value: &Value,
-    principal: &Option<EntityUid>,
-    action: &Option<EntityUid>,
-    resource: &Option<EntityUid>,
-) -> Result<Option<Trail>, NoMemory>
-    ensures { IfOk result
-        (λ o. o ≡ named_path (schema_view schema.now) principal.now action.now resource.now (view value.now)) }
-{
-    let Some(principal) = principal else {
-        return Ok(None);
-    };
-    let Some(action) = action else {
-        return Ok(None);
-    };
-    let Some(resource) = resource else {
-        return Ok(None);
-    };
-    find_in_context_of(alloc, schema, value, principal, action, resource)
-}
-
 /// Returns the path to the fault of the context, if there is one.
 fn find_in_context(alloc: Global, schema: &Schema, value: &Value) -> Result<Option<Trail>, NoMemory>
     ensures { IfOk result (IsContextSearched (schema_view schema.now) (view value.now)) }
 {
-    names_read_back();
-    let principal = name_at(alloc, value.get("principal"))?;
-    let action = name_at(alloc, value.get("action"))?;
-    let resource = name_at(alloc, value.get("resource"))?;
-    find_in_context_named(alloc, schema, value, &principal, &action, &resource)
+    let ty = asked_type(alloc, schema, value)?;
+    find_in_context_of(alloc, value, ty)
 }
 
 /// Returns the path to the part that an error is about.

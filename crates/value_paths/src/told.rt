@@ -1,57 +1,140 @@
 //! The part at fault, in words.
-ghost use Rattle.std.specs.Prelude.{◌≡◌, [], IfOk, Some, option_and_then, option_map};
+ghost use Rattle.std.specs.Prelude.{◌≡◌, ◌++◌, IfOk, OnOk, option_and_then, option_map, string_bytes};
 ghost use Rattle.serde_json.specs.Find.{at};
 ghost use Rattle.serde_json.specs.View.{view};
+ghost use Rattle.schema_types.specs.CedarViews.{cedar_view};
 ghost use Rattle.entities.specs.schema.Views.{schema_view};
-ghost use Rattle.value_paths.specs.Told.{pointer_words, part_words, IsEntityTold, IsItemTold, IsRequestTold};
+ghost use Rattle.value_paths.specs.Told.{type_word, is_of_value, type_behind, type_of_part, declared_words};
+ghost use Rattle.value_paths.specs.Told.{pointer_words, part_words, IsEntityTold, IsRequestTold, IsItemTold};
 ghost use Rattle.value_paths.specs.Told.{IsAskedTold};
 
-use crate::entity_paths::entity_fault;
+use crate::entity_paths::{entity_fault, shape_at};
 use crate::placed::PlacedFault;
 use crate::pointers::pointer;
-use crate::request_paths::request_fault;
-use entities::Schema;
+use crate::request_paths::{asked_type, request_fault};
+use crate::steps::Step;
+use crate::type_paths::type_at;
+use entities::{EntityFault, Schema};
 use json_words::read_json;
 use plain::{NoMemory, Text};
+use schema_types::CedarType;
 use serde_json::Value;
 use std::alloc::Global;
 
-/// Returns an empty text.
-fn no_words(alloc: Global) -> Text
-    ensures { result ≡ [] }
+/// Returns the word for a type.
+fn type_word(ty: &CedarType) -> &str
+    ensures { result.now ≡ type_word (cedar_view ty.now) }
 {
-    Text::from_string(String::new(alloc))
+    match ty {
+        CedarType::Text => "String",
+        CedarType::Long => "Long",
+        CedarType::Boolean => "Boolean",
+        CedarType::Decimal => "decimal",
+        CedarType::Ipaddr => "ipaddr",
+        CedarType::Set(_) => "Set",
+        CedarType::Record(_) => "Record",
+        CedarType::Entity(name) => name.as_str(),
+    }
 }
 
-/// Returns the words on a part at this pointer.
-fn pointer_words(alloc: Global, pointer: &str) -> Result<Text, NoMemory>
-    ensures { IfOk result (λ words. words ≡ pointer_words pointer.now) }
+/// Returns whether an error is that of an attribute or of a context.
+fn is_of_value(fault: EntityFault) -> bool
+    ensures { result ≡ is_of_value fault }
+{
+    match fault {
+        EntityFault::Undeclared => true,
+        EntityFault::Missing => true,
+        EntityFault::WrongType => true,
+        _ => false,
+    }
+}
+
+/// Returns the declared type of the part to which a path leads, behind its first step.
+fn type_behind<'s>(whole: &'s CedarType, path: &[Step]) -> Option<&'s CedarType>
+    ensures { option_map (λ t. cedar_view t.now) result ≡ type_behind (cedar_view whole.now) path.now }
+{
+    match path.split_first() {
+        Some((_, path)) => type_at(whole, path),
+        None => None,
+    }
+}
+
+/// Returns the declared type of the part that an error is about, where `whole` is that of the attributes or of the
+/// context.
+fn type_of_part<'s>(found: &PlacedFault, whole: Option<&'s CedarType>) -> Option<&'s CedarType>
+    ensures { option_map (λ t. cedar_view t.now) result
+        ≡ type_of_part found.now (option_map (λ t. cedar_view t.now) whole.entry) }
+{
+    if !is_of_value(found.fault) {
+        return None;
+    }
+    match whole {
+        Some(whole) => type_behind(whole, found.path.as_slice()),
+        None => None,
+    }
+}
+
+/// Appends the words on a part at this pointer.
+fn push_pointer(out: &mut String, pointer: &str) -> Result<(), NoMemory>
+    ensures { OnOk result (string_bytes out.new ≡ string_bytes out.old ++ pointer_words pointer.now) }
 {
     if pointer.is_empty() {
-        return Ok(no_words(alloc));
+        return Ok(());
     }
-    let mut out = String::new(alloc);
     out.push_str("at ")?;
     out.push_str(pointer)?;
-    Ok(Text::from_string(out))
+    Ok(())
 }
 
-/// Returns the words on the part that an error is about.
-fn fault_words(alloc: Global, found: &PlacedFault) -> Result<Text, NoMemory>
-    ensures { IfOk result (λ words. words ≡ part_words (Some found.now)) }
+/// Appends that a type is declared, if there is one.
+fn push_declared(out: &mut String, ty: Option<&CedarType>) -> Result<(), NoMemory>
+    ensures { OnOk result (string_bytes out.new
+        ≡ string_bytes out.old ++ declared_words (option_map (λ t. cedar_view t.now) ty.entry)) }
 {
-    let pointer = pointer(alloc, found.path.as_slice())?;
-    pointer_words(alloc, pointer.as_str())
+    match ty {
+        Some(ty) => {
+            out.push_str(": ")?;
+            out.push_str(type_word(ty))?;
+            out.push_str(" is declared")?;
+            Ok(())
+        }
+        None => Ok(()),
+    }
 }
 
-/// Returns the words on the part that an error is about, if there is one.
-fn part_words(alloc: Global, found: &Option<PlacedFault>) -> Result<Text, NoMemory>
-    ensures { IfOk result (λ words. words ≡ part_words found.now) }
+/// Appends the words on the part that an error is about, if there is one.
+fn push_part(
+    alloc: Global,
+    out: &mut String,
+    found: &Option<PlacedFault>,
+    whole: Option<&CedarType>,
+) -> Result<(), NoMemory>
+    ensures { OnOk result (string_bytes out.new ≡ string_bytes out.old
+        ++ part_words found.now (option_map (λ t. cedar_view t.now) whole.entry)) }
 {
     match found {
-        Some(found) => fault_words(alloc, found),
-        None => Ok(no_words(alloc)),
+        Some(found) => {
+            let pointer = pointer(alloc, found.path.as_slice())?;
+            push_pointer(out, pointer.as_str())?;
+            push_declared(out, type_of_part(found, whole))?;
+            Ok(())
+        }
+        None => Ok(()),
     }
+}
+
+/// Returns these words.
+fn part_words(
+    alloc: Global,
+    found: &Option<PlacedFault>,
+    whole: Option<&CedarType>,
+) -> Result<Text, NoMemory>
+    ensures { IfOk result
+        (λ words. words ≡ part_words found.now (option_map (λ t. cedar_view t.now) whole.entry)) }
+{
+    let mut out = String::new(alloc);
+    push_part(alloc, &mut out, found, whole)?;
+    Ok(Text::from_string(out))
 }
 
 /// Returns the words on the part at fault of a value as an entity.
@@ -61,10 +144,11 @@ fn told_entity(alloc: Global, schema: &Schema, value: Option<&Value>) -> Result<
 {
     match value {
         Some(value) => {
+            let shape = shape_at(alloc, schema, value.get("uid"))?;
             let found = entity_fault(alloc, schema, value)?;
-            part_words(alloc, &found)
+            part_words(alloc, &found, shape)
         }
-        None => Ok(no_words(alloc)),
+        None => Ok(Text::from_string(String::new(alloc))),
     }
 }
 
@@ -75,10 +159,11 @@ fn told_request(alloc: Global, schema: &Schema, value: Option<&Value>) -> Result
 {
     match value {
         Some(value) => {
+            let context = asked_type(alloc, schema, value)?;
             let found = request_fault(alloc, schema, value)?;
-            part_words(alloc, &found)
+            part_words(alloc, &found, context)
         }
-        None => Ok(no_words(alloc)),
+        None => Ok(Text::from_string(String::new(alloc))),
     }
 }
 
@@ -97,8 +182,8 @@ fn item_of(value: Option<&Value>, index: Option<usize>) -> Option<&Value>
 }
 
 /// Returns the words on the entity at an index of an array of entities, which a schema rejects: `at ` and the JSON
-/// pointer, from that item on, of the part at fault. They are empty if the whole item is at fault, if no item is at
-/// this index, or if the item alone is an entity.
+/// pointer, from that item on, of the part at fault, with the type that is declared for a part of the attributes. They
+/// are empty if the whole item is at fault, if no item is at this index, or if the item alone is an entity.
 ///
 /// # Errors
 ///
@@ -115,8 +200,9 @@ pub fn entity_part(
     told_entity(alloc, schema, item_of(value.as_ref(), index))
 }
 
-/// Returns the words on a request that a schema rejects: `at ` and the JSON pointer of the part at fault. They are
-/// empty if the whole is at fault, if the text is not JSON, or if it is a request.
+/// Returns the words on a request that a schema rejects: `at ` and the JSON pointer of the part at fault, with the type
+/// that is declared for a part of the context. They are empty if the whole is at fault, if the text is not JSON, or if
+/// it is a request.
 ///
 /// # Errors
 ///

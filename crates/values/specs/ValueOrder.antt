@@ -1,7 +1,7 @@
 -- Defines the order of values.
--- Rules of this product: by kind, and then false before true, integers by size, strings by bytes, entities by uid,
--- sets by their members and records by their fields, item by item, a prefix first, decimals by size, IP addresses by
--- version, address and prefix.
+-- Rules of this product: values are ordered by kind, and within a kind: false before true, integers and decimals by
+-- value, strings by bytes, entities by uid, sets by their members and records by their fields, item by item, a prefix
+-- first, and IP addresses by version, address and prefix.
 use Rattle.std.specs.Prelude.{◌≡◌, ℕ, pos, List, [], ◌∷◌, ◌++◌, Bool, true, false, refl}
 use Rattle.std.proofs.Common.{ap, sym, ◌∙◌, append_assoc}
 use Rattle.std.proofs.lemmas.List.{append-nil}
@@ -32,6 +32,8 @@ kind_rank (record_of fs) = 6
 kind_rank (decimal z) = 7
 kind_rank (ipaddr n) = 8
 
+-- `value_cmp v w` orders values; `values_cmp vs ws` and `fields_cmp fs gs` order lists of values and of fields, item by
+-- item, a prefix first, and a field by its key and then by its value.
 abbrev mutual
   pub value_cmp : PlainValue → PlainValue → Ordering
   value_cmp (boolean a) (boolean b) = bool_cmp a b
@@ -276,7 +278,7 @@ record_cmp a b = fields_cmp (fields_of a) (fields_of b)
 abbrev pub field_cmp : List ℕ × PlainValue → List ℕ × PlainValue → Ordering
 field_cmp f g = ordering_then (text_cmp f.0 g.0) (value_cmp f.1 g.1)
 
--- They are the orders of lists in std.
+-- `set_cmp` and `record_cmp` are the lexicographic orders of lists in std, by `value_cmp` and by `field_cmp`.
 pub set_cmp-is : (a b : List PlainValue) → set_cmp a b ≡ slice_cmp value_cmp a b
 set_cmp-is [] [] = refl
 set_cmp-is [] (w ∷ b) = refl
@@ -291,6 +293,7 @@ record_cmp-is (f ∷ a) (g ∷ b) =
     sym (then_assoc (text_cmp f.0 g.0) (value_cmp f.1 g.1) (record_cmp a b))
     ∙ ap (ordering_then (field_cmp f g)) (record_cmp-is a b)
 
+-- Both orders are total, and only equal lists compare as equal.
 pub set_cmp-IsTotalOrder : IsTotalOrder set_cmp
 set_cmp-IsTotalOrder = on_total (λ vs. set (values_of vs)) value_cmp-IsTotalOrder
 

@@ -6,7 +6,7 @@ use Rattle.values.specs.declared.value.Kind.TheVariants.{Boolean, Long, Text, En
 use Rattle.values.specs.Values.{PlainValue, boolean, long, text, entity, set, record_of, decimal, ipaddr, values_of}
 use Rattle.values.specs.Values.{fields_of}
 
--- `of_kind k` is the value of a kind with its content.
+-- `of_kind k` is the abstract value of the kind `k` with its content.
 abbrev pub of_kind : Kind → PlainValue
 of_kind (Boolean b) = boolean b
 of_kind (Long z) = long z
@@ -17,6 +17,6 @@ of_kind (Record r) = record_of (fields_of r)
 of_kind (Decimal d) = decimal d
 of_kind (IpAddr n) = ipaddr n
 
--- `of_entries es` are the fields of a record of the code.
+-- `of_entries es` are the abstract fields of a record whose entries in the code are `es`.
 abbrev pub of_entries : List (String Global × PlainValue) → List (List ℕ × PlainValue)
 of_entries es = map (λ e. (string_bytes e.0, e.1)) es

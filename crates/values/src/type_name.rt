@@ -15,7 +15,7 @@ use std::alloc::Global;
 use std::cmp::Ordering;
 use std::marker::Model;
 
-/// The name of an entity type: identifiers with `::` between them, as `User` or `Photos::Album`. Contracts see its
+/// The name of an entity type: identifiers with `::` between them, such as `User` or `Photos::Album`. Contracts see its
 /// bytes.
 ///
 /// Each identifier is `_` or an ASCII letter, followed by `_`, ASCII letters and digits, and is not a reserved word
@@ -50,7 +50,7 @@ impl TypeName {
         Ok(Some(TypeName { text }))
     }
 
-    /// Returns the type name of these identifiers, with `::` between each two, as of a Path that was parsed with
+    /// Returns the type name of these identifiers, with `::` between each two. They may be those of a Path that has
     /// whitespace or comments between its words. The only error is `NoMemory`.
     pub fn from_words(alloc: Global, words: &[&str]) -> Result<TypeName, NoMemory>
         requires some { 0 < length words.now }

@@ -19,8 +19,8 @@ use std::alloc::Global;
 use std::cmp::Ordering;
 use std::marker::Model;
 
-/// A value of the policy language. Contracts see an algebraic data type: values are equal if and only if that data
-/// is. The data is well formed at every depth; `stays_well_formed` proves this for a value.
+/// A value of the policy language. Contracts see it as a `PlainValue`, an algebraic data type: values are equal if and
+/// only if their `PlainValue`s are. These are well formed at every depth; `stays_well_formed` proves this for a value.
 #[cycle(value)]
 #[derive(Drop)]
 pub struct Value {
@@ -109,7 +109,7 @@ impl Value {
         }
     }
 
-    /// Returns the set of these values, in any order and with repeats, or `NoMemory`.
+    /// Returns the set of these values, which may be in any order and repeat; or `NoMemory`.
     pub fn set(members: Vec<Value>) -> Result<Value, NoMemory>
         ensures { IfOk result (λ v. v ≡ set (values_of (set_list members.items))) }
     {

@@ -1,5 +1,5 @@
 -- Defines an opened site, and why a site is not opened.
--- Sources: docs/formats.md, of schemas and of names of sites; docs/codes.md, of the numbers of a schema.
+-- Sources: docs/formats.md, of schemas and of names of sites; docs/codes.md, of the codes of a schema's errors.
 -- Rules of this product: the name is checked before the schema; a new site has nothing stored; the number of a name's
 -- error is 2.
 use Rattle.std.specs.Prelude.{◌≡◌, ℕ, List, []}
@@ -21,8 +21,8 @@ pub record IsOpened (schema name : List ℕ) (e : EmbeddedSite) : Type 0 where
   pub empty : store_in e.site ≡ store_of []
   pub fresh : e.body.items ≡ []
 
--- `IsOpenError schema name f` holds if `f` is why no site of this name is opened under these bytes. `NoMemory` may be
--- the cause for any bytes.
+-- `IsOpenError schema name f` holds if opening a site of the name `name` under the bytes `schema` may fail with `f`.
+-- `NoMemory` may be the error for any bytes.
 abbrev pub IsOpenError : List ℕ → List ℕ → OpenError → Type 0
 IsOpenError schema name SiteName = IsSiteName name → ⊥
 IsOpenError schema name (Schema r) = (r ≡ no_memory → ⊥) → IsSiteName name × IsSchemaRefused schema r

@@ -11,7 +11,7 @@ use Rattle.weirbowl.specs.declared.call_result.CallResult.{CallResult}
 use Rattle.weirbowl.specs.declared.embedded.EmbeddedSite.{EmbeddedSite}
 use Rattle.weirbowl.specs.declared.opening.OpenError.{OpenError}
 
--- The result if no site is open.
+-- `not_open` is the result if no site is open.
 abbrev pub not_open : CallResult
 not_open = record { status = 0; length = 0 }
 

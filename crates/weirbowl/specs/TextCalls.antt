@@ -12,7 +12,7 @@ use Rattle.schema_decisions.specs.Decisions as typed
 use Rattle.weirbowl.specs.Copies.{copied}
 use Rattle.weirbowl.specs.declared.call_result.CallResult.{CallResult}
 
--- The result if out of memory.
+-- `no_memory` is the result if an allocation failed.
 abbrev pub no_memory : CallResult
 no_memory = record { status = 503; length = 0 }
 
@@ -28,23 +28,24 @@ abbrev pub Rejects : (Refusal → Type 0) → CallResult → List ℕ → List �
 Rejects IsDue r before after =
     ((f : Refusal) × IsDue f × Returns 422 (error_line f) r before after) ⊎ ((r ≡ no_memory) × (after ≡ before))
 
--- Policies, entities and a request without a schema: the line of the answer.
+-- `Decides policies entities request r before after` holds if the call may return `r` and turn the memory `before` into
+-- `after`: the line of the answer without a schema, or an error.
 abbrev pub Decides : List ℕ → List ℕ → List ℕ → CallResult → List ℕ → List ℕ → Type 0
 Decides policies entities request r before after =
     ((line : List ℕ) × bare.IsDecided bare_reading policies entities request line × Returns 200 line r before after)
     ⊎ Rejects (bare.IsDecisionRefused bare_reading policies entities request) r before after
 
--- Policies, entities and a request under a schema: the line of the answer.
+-- `DecidesUnder schema policies entities request r before after` is the same relation under a schema.
 abbrev pub DecidesUnder : List ℕ → List ℕ → List ℕ → List ℕ → CallResult → List ℕ → List ℕ → Type 0
 DecidesUnder schema policies entities request r before after =
     ((line : List ℕ) × typed.IsDecided schema policies entities request line × Returns 200 line r before after)
     ⊎ Rejects (typed.IsSchemaDecisionRefused schema policies entities request) r before after
 
--- The status of checked policies, by whether one of them does not pass.
+-- `checked_status some_rejected` is the status of checked policies, by whether one of them does not pass.
 abbrev pub checked_status : Bool → ℕ
 checked_status some_rejected = if some_rejected then 422 else 200
 
--- Policies under a schema: a line for each.
+-- `Checks schema policies r before after` is the same relation for the lines of the checked policies, one for each.
 abbrev pub Checks : List ℕ → List ℕ → CallResult → List ℕ → List ℕ → Type 0
 Checks schema policies r before after =
     ((text : List ℕ) × (some_rejected : Bool) × IsChecked schema policies text some_rejected

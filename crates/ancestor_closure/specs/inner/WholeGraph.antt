@@ -1,10 +1,11 @@
--- Defines the lists of a whole graph, built from scratch.
+-- Defines the lists of ancestors that are built from scratch for the entities of a graph.
 use Rattle.std.specs.Prelude.{◌≡◌, ◌⊎◌, List, [], Contains}
 use Rattle.values.specs.declared.entity_uid.EntityUid.{EntityUid}
 use Rattle.ancestor_search.specs.Hierarchy.{Parents}
 use Rattle.ancestor_closure.specs.Lists.{IsListOf}
 
--- `AreListsOf parents us ancestors` holds if each of the entities `us` has its list, and no other has one.
+-- `AreListsOf parents us ancestors` holds if `ancestors` has for each of the entities `us` the list of its ancestors,
+-- and `[]` for every other entity.
 abbrev pub AreListsOf : Parents → List EntityUid → (EntityUid → List EntityUid) → Type 0
 AreListsOf parents us ancestors = (b : EntityUid) →
     (Contains us b × IsListOf parents b (ancestors b)) ⊎ ((Contains us b → ⊥) × (ancestors b ≡ []))

@@ -9,7 +9,7 @@ use Rattle.evaluator.specs.Operators.{Entities}
 use Rattle.evaluator.specs.Evaluation.{EvaluatesTo}
 use Rattle.evaluator.specs.inner.Computing.{decided_world, meaning}
 
--- `GivesOnly W q x m` holds if `m` is the only outcome of `x`.
+-- `GivesOnly W q x m` holds if `m` is the only outcome of `x` on the request `q` over the entities `W`.
 pub record GivesOnly (W : Entities) (q : Request) (x : Expr) (m : EvaluationResult) : Type 0 where
   pub given : EvaluatesTo W q x m
   pub only : (r : EvaluationResult) → EvaluatesTo W q x r → r ≡ m

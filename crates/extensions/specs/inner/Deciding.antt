@@ -7,7 +7,7 @@ use Rattle.std.specs.Str.{bytes_eq}
 use Rattle.std.proofs.lemmas.Slice.Eq.{bytes_eq-Decides}
 use Rattle.extensions.specs.Decided.{Decided}
 
--- Equivalent facts are decided alike.
+-- `decided_as there back d` decides a fact by the decision `d` of an equivalent one.
 pub decided_as : {P Q : Type 0} → (P → Q) → (Q → P) → Decided P → Decided Q
 decided_as there back (inl p) = inl (there p)
 decided_as there back (inr n) = inr (λ q. n (back q))
@@ -37,7 +37,7 @@ text_decided s t = elim (cases_Bool (bytes_eq s t)) [
   | inr e ↦ inr (λ same. false≢true (let h : bytes_eq s t ≡ true = (bytes_eq-Decides s t).1 same in cc))
 ]
 
--- Decides whether there is such a number below `n`.
+-- `below_decided n P d` decides whether `P` holds of a number below `n`.
 pub below_decided : (n : ℕ) (P : ℕ → Type 0) → ((k : ℕ) → Decided (P k)) → Decided ((k : ℕ) × (k < n) × P k)
 below_decided zero P d = inr (λ h. absurd (omega (arith, h.1)))
 below_decided (suc n) P d = elim (d n) [
@@ -51,7 +51,7 @@ below_decided (suc n) P d = elim (d n) [
       (below_decided n P d)
 ]
 
--- Decides whether there is such a way to cut a string in two.
+-- `parted_decided P d text` decides whether `text` can be cut into two strings of which `P` holds.
 pub parted_decided : (P : List ℕ → List ℕ → Type 0) → ((a b : List ℕ) → Decided (P a b)) → (text : List ℕ)
     → Decided ((a b : List ℕ) × (text ≡ a ++ b) × P a b)
 parted_decided P d [] = decided_as
@@ -81,7 +81,7 @@ parted_decided P d (c ∷ cs) = elim (d [] (c ∷ cs)) [
         tail_of : c ∷ cs ≡ x ∷ (a ++ b) → cs ≡ a ++ b
         tail_of e = cc
 
--- Decides the rest of a string after a first byte.
+-- `behind_decided c P d text` decides whether `text` is the byte `c` and a string of which `P` holds.
 pub behind_decided : (c : ℕ) (P : List ℕ → Type 0) → ((xs : List ℕ) → Decided (P xs)) → (text : List ℕ)
     → Decided ((xs : List ℕ) × (text ≡ c ∷ xs) × P xs)
 behind_decided c P d [] = inr (λ h. absurd (let e = h.1 in cc))

@@ -17,28 +17,28 @@ use Rattle.grammar_trees.specs.grammar_tokens.Kinds.{Kinds, only}
 use Rattle.grammar_trees.specs.grammar_tokens.Grammar.{identifiers}
 use Rattle.grammar_trees.specs.Parts.{parts_of}
 
--- `TokenIn text kinds token` holds if `token` is spelled in `text`, and of these kinds.
+-- `TokenIn text kinds token` holds if `token` is spelled in `text`, and its kind is one of `kinds`.
 pub record TokenIn (text : List ℕ) (kinds : Kinds) (token : Token) : Type 0 where
   pub spelled : IsSpelledIn text token
   pub kind : kinds token.kind ≡ true
 
--- `WellFormed text x` holds if the tree `x` is made of tokens of `text`.
+-- `WellFormed text x` holds if each token of the tree `x` is spelled in `text`, and of a kind that its position allows.
 pub record WellFormed (text : List ℕ) (x : ExprTree) : Type 0 where
   pub parts : AllByRecursion (λ p. TokenIn text p.kinds p.token) (parts_of x)
 
 -- ## The same for the parts of a tree
 
--- `KeyIn text key` holds if the key is a token of `text`.
+-- `KeyIn text key` holds if `key` is an identifier or a String of `text`.
 abbrev pub KeyIn : List ℕ → KeyTree → Type 0
 KeyIn text (Word word) = TokenIn text identifiers word
 KeyIn text (Quoted quoted) = TokenIn text (only k.Text) quoted
 
--- `PathIn text path` holds if the words of the Path are tokens of `text`.
+-- `PathIn text path` holds if the words of the Path are identifiers of `text`.
 pub record PathIn (text : List ℕ) (path : PathTree) : Type 0 where
   pub first : TokenIn text identifiers path.first
   pub more : AllByRecursion (TokenIn text identifiers) path.more
 
--- `UidIn text uid` holds if the words and the id of the Uid are tokens of `text`.
+-- `UidIn text uid` holds if the words of the Uid are identifiers of `text`, and its id is a String of `text`.
 pub record UidIn (text : List ℕ) (uid : UidTree) : Type 0 where
   pub path : PathIn text uid.path
   pub id : TokenIn text (only k.Text) uid.id

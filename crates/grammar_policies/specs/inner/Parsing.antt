@@ -25,7 +25,7 @@ use Rattle.grammar_policies.specs.Grammar.{identifiers, words, effects, is_in, c
 unfoldable pub maybe_text : Parser (Option Token)
 maybe_text = optional (only k.Text) (token k.Text)
 
--- `annotation_value` parses maybe a String in parentheses.
+-- `annotation_value` parses parentheses, and the String in them, if there is one.
 unfoldable pub annotation_value : Parser (Option Token)
 annotation_value = do
   token k.LParen
@@ -33,7 +33,7 @@ annotation_value = do
   token k.RParen
   pure text
 
--- `maybe_value` parses these if "(" comes next.
+-- `maybe_value` parses `annotation_value` if "(" comes next, and else nothing.
 unfoldable pub maybe_value : Parser (Option Token)
 maybe_value = either (only k.LParen) annotation_value (pure None)
 
@@ -98,11 +98,11 @@ uid_list = do
   token k.RBracket
   pure (action.InList found)
 
--- `list_or_uid` parses such a list, or one Uid.
+-- `list_or_uid` parses `uid_list` if "[" comes next, and else one Uid.
 unfoldable pub list_or_uid : Parser ActionTree
 list_or_uid = either (only k.LBracket) uid_list (uid >>= (λ entity. pure (action.In entity)))
 
--- `in_actions` parses "in" and such a list or a Uid.
+-- `in_actions` parses "in" and `list_or_uid`.
 unfoldable pub in_actions : Parser ActionTree
 in_actions = token k.In >> list_or_uid
 
@@ -147,7 +147,7 @@ module _ (levels : ℕ) where
   unfoldable pub conditions : Parser (List Condition)
   conditions = many condition_words condition
 
-  -- what follows the scope
+  -- `scope_tail` parses what follows the scope: ")", the conditions and ";".
   unfoldable pub scope_tail : Parser (List Condition)
   scope_tail = do
     token k.RParen
@@ -155,7 +155,8 @@ module _ (levels : ℕ) where
     token k.Semicolon
     pure cs
 
-  -- the same, with what precedes it
+  -- `policy_of notes effect found` parses the same, and gives the policy with the annotations `notes`, the effect
+  -- `effect` and the scope `found`.
   unfoldable pub policy_of : List Annotation → Token → ScopeTree → Parser PolicyTree
   policy_of notes effect found = do
     token k.RParen

@@ -10,21 +10,21 @@ use Rattle.program_drills.specs.Lines.{lines}
 use Rattle.program_drills.specs.ScriptLines.{Asked, ScriptLine, IsOperationOf, IsEventOf}
 use Rattle.program_drills.specs.Scripts.{said_from, script_of}
 
--- the operation that is asked for, or `None` if nothing is
+-- `IsReadAs asked d` holds if `d` is the operation that `asked` states, or both are `None`.
 abbrev pub IsReadAs : Option Asked → Option Operation → Type 0
 IsReadAs None None = Unit {0}
 IsReadAs None (Some d) = ⊥
 IsReadAs (Some asked) None = ⊥
 IsReadAs (Some asked) (Some d) = IsOperationOf asked d
 
--- the event that a line states, or `None` if it states nothing
+-- `IsLineRead said e` holds if `e` is the event that the line `said` states, or both are `None`.
 abbrev pub IsLineRead : Option ScriptLine → Option Event → Type 0
 IsLineRead None None = Unit {0}
 IsLineRead None (Some e) = ⊥
 IsLineRead (Some said) None = ⊥
 IsLineRead (Some said) (Some e) = IsEventOf said e
 
--- bytes that state the value, if there is one
+-- `AreBytesOf d bytes` holds if `bytes` are JSON of the value `d`, or both are `None`.
 abbrev pub AreBytesOf : Option Data → Option (List ℕ) → Type 0
 AreBytesOf None None = Unit {0}
 AreBytesOf None (Some bytes) = ⊥
@@ -33,12 +33,13 @@ AreBytesOf (Some d) (Some bytes) = json_of bytes ≡ Some d
 
 -- ---- the whole script
 
--- what the earlier lines state, followed by the rest
+-- `onto said rest` are the earlier lines `said`, followed by those of `rest`, unless it is an error.
 abbrev pub onto : List ScriptLine → Result (List ScriptLine) ℕ → Result (List ScriptLine) ℕ
 onto said (Ok more) = Ok (said ++ more)
 onto said (Err place) = Err place
 
--- the lines up to `rest` are parsed: they state these events, and make this many messages and summaries
+-- `IsReadUpTo n script made rest events` holds if the lines of `script` up to `rest`, for `n` sites, are parsed: they
+-- state `events`, and make as many messages and summaries as `made` states.
 pub record IsReadUpTo (n : ℕ) (script : List ℕ) (made : Made) (rest : List ℕ) (events : List Event) : Type 0 where
   pub said : List ScriptLine
   pub is : script_of n script ≡ onto said (said_from n made (length events) (lines rest))

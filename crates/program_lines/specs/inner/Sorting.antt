@@ -7,11 +7,13 @@ use Rattle.program_lines.specs.declared.fault.LineFault.TheVariants.{Help, Words
 use Rattle.program_lines.specs.Lines.{IsOfNoSite}
 use Rattle.program_lines.specs.Faults.{is_help, is_memory}
 
+-- `sorted error` is the error as which the error `error` of clap is reported.
 abbrev pub sorted : Error → LineFault
 sorted error = if is_help (kind_of error) then Help error
     else if is_memory (kind_of error) then NoMemory else Words error
 
--- the named command lacks a valid site name, or something else
+-- `IsLackOf named f` holds if `f` says what the command `named` lacks: `Site` if it has an invalid site name, else
+-- `Incomplete`.
 abbrev pub IsLackOf : Option (Text × List Row) → LineFault → Type 0
 IsLackOf named (Help error) = ⊥
 IsLackOf named (Words error) = ⊥

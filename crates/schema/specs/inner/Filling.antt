@@ -10,7 +10,7 @@ pub record Adds {K V : Type 0} (May : K → V → Type 0) (Must : K → Type 0) 
   pub kept : (k : K) → IsSome (old k) → IsSome (new k)
   pub told : Told
 
--- The same for each item of a list.
+-- `SomeMay may xs k v` holds if `may x k v` does for some `x` of `xs`.
 abbrev pub SomeMay : {X K V : Type 0} → (X → K → V → Type 0) → List X → K → V → Type 0
 SomeMay {X = X} may xs k v = (x : X) × Contains xs x × may x k v
 

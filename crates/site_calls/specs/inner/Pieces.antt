@@ -8,6 +8,6 @@ abbrev pub number_or_null : Option ℕ → List ℕ
 number_or_null None = codes "null"
 number_or_null (Some n) = decimal n
 
--- the end of a line with a stamp: ,"site":"00001"}
+-- `site_end site` is the end of a line with a stamp: ,"site":"00001"}
 abbrev pub site_end : List ℕ → List ℕ
 site_end site = codes ",\"site\":\"" ++ site ++ codes "\"}"

@@ -8,7 +8,7 @@ use Rattle.site_calls.specs.site_steps.declared.reply.Reply.{Reply}
 use Rattle.site_calls.specs.site_steps.declared.reply.Reply.TheVariants as reply
 use Rattle.site_calls.specs.Reports.{reported}
 
--- The reply in its stead if there is no memory for its body: to a query `NoMemory`, to a change the reply itself.
+-- `lacking r` is the reply in place of `r` if its body cannot be allocated: `NoMemory` for a query, `r` for a change.
 abbrev pub lacking : Reply → Reply
 lacking (reply.Put r) = reply.Put r
 lacking (reply.Stamped r) = reply.Stamped r

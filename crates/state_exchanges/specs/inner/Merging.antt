@@ -8,7 +8,7 @@ use Rattle.state_exchanges.specs.Messages.{IsReadBack}
 use Rattle.state_exchanges.specs.Merges.{IsStoreOfBoth}
 use Rattle.state_exchanges.specs.declared.joining.Joined.{Joined}
 
--- the other message was joined into a store, and this is the join of the first store and that one
+-- `IsJoinWith store other both` holds if `other` is a joined store, and `both` is the join of `store` and that one.
 pub record IsJoinWith (store : Store) (other : Result Joined Refusal) (both : Store) : Type 0 where
   pub joined : Joined
   pub other_is : other ≡ Ok joined

@@ -8,8 +8,8 @@ use Rattle.token_spans.specs.declared.forms.Part.TheVariants as part
 abbrev pub Node : Type 0
 Node = Part
 
--- `Whole` is the form's own node, `First n` that of a chain with n further pieces, `Test` is `e is T` of `e is T in f`,
--- and `Inner` is `e in f` there, and what `!` negates in `!=`, `>` and `>=`.
+-- `Whole` is the node of the whole form; `First n` is that of a chain's first operand with `n` further pieces; `Test`
+-- is `e is T` of `e is T in f`; `Inner` is `e in f` of that form, or what `!` negates in `!=`, `>` and `>=`.
 abbrev pub Whole : Node
 Whole = part.Whole
 

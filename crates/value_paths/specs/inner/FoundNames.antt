@@ -3,7 +3,8 @@ use Rattle.std.specs.Prelude.{◌≡◌, List, [], ◌∷◌, Bool, true, false,
 use Rattle.serde_json.specs.Data.{Data}
 use Rattle.serde_json.specs.Find.{get, as_object}
 use Rattle.values.specs.declared.entity_uid.EntityUid.{EntityUid}
-use Rattle.entities.specs.entity_uids.Uids.{NamesEntity}
+use Rattle.schema_types.specs.Cedar.{Cedar}
+use Rattle.entities.specs.entity_uids.Uids.{NamesEntity, IsRead}
 use Rattle.entities.specs.Typing.{with_or}
 use Rattle.entities.specs.schema.Schemas.{StatedSchema}
 use Rattle.entities.specs.declared.fault.EntityFault.{EntityFault}
@@ -39,16 +40,29 @@ request_demands d principal action resource =
 abbrev pub IsFormSearched : Data → Option (List Step) → Type 0
 IsFormSearched d o = MatchOption o ((asked : Asked) × Asks d asked) (FormFaultAt d)
 
--- `context_path s asked d` is the path to the fault of the context.
-abbrev pub context_path : StatedSchema → Asked → Data → Option (List Step)
-context_path s asked d = under (Key (codes "context"))
-    (with_or (context_type s asked) (λ t. record_path t (or_empty (get (codes "context") d))) None)
+-- `named_type s principal action resource` is the type of the context of a request for these, if all three are named.
+abbrev pub named_type : StatedSchema → Option EntityUid → Option EntityUid → Option EntityUid → Option Cedar
+named_type s principal action resource = with_or principal (λ p. with_or action (λ a. with_or resource
+    (λ r. context_type s (record { principal = p; action = a; resource = r })) None) None) None
 
--- `named_path s principal action resource d` is that path, if the three are named.
-abbrev pub named_path : StatedSchema → Option EntityUid → Option EntityUid → Option EntityUid → Data
-    → Option (List Step)
-named_path s principal action resource d = with_or principal (λ p. with_or action (λ a. with_or resource
-    (λ r. context_path s (record { principal = p; action = a; resource = r }) d) None) None) None
+-- `IsTypeForResource s d principal action t` holds if `t` is that type for the resource that `d` names, and
+-- `IsTypeForAction s d principal t` if it is that for the action and the resource.
+abbrev pub IsTypeForResource : StatedSchema → Data → Option EntityUid → Option EntityUid → Option Cedar → Type 0
+IsTypeForResource s d principal action t = (resource : Option EntityUid)
+    × IsRead (Names (get (codes "resource") d)) resource × (t ≡ named_type s principal action resource)
+
+abbrev pub IsTypeForAction : StatedSchema → Data → Option EntityUid → Option Cedar → Type 0
+IsTypeForAction s d principal t = (action : Option EntityUid) × IsRead (Names (get (codes "action") d)) action
+    × IsTypeForResource s d principal action t
+
+-- `path_under t d` is the path to the fault of the context under the type `t`, if there is one;
+-- `context_path s asked d` is that under the type of the context of a request for `asked`.
+abbrev pub path_under : Option Cedar → Data → Option (List Step)
+path_under type d = under (Key (codes "context"))
+    (with_or type (λ t. record_path t (or_empty (get (codes "context") d))) None)
+
+abbrev pub context_path : StatedSchema → Asked → Data → Option (List Step)
+context_path s asked d = path_under (context_type s asked) d
 
 -- `IsContextSearched s d o` holds if `o` is that path, whatever three are asked for.
 abbrev pub IsContextSearched : StatedSchema → Data → Option (List Step) → Type 0

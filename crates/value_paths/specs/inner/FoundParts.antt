@@ -1,9 +1,8 @@
 -- Defines the search for the part of an entity that is at fault, as a function on data.
-use Rattle.std.specs.Prelude.{ℕ, ◌+◌, List, Bool, not, ◌&&◌, Option, Some, None, option_and_then, codes, if◌then◌else◌}
+use Rattle.std.specs.Prelude.{ℕ, ◌+◌, List, Bool, not, ◌&&◌, Option, Some, None, codes, if◌then◌else◌}
 use Rattle.serde_json.specs.Data.{Data, Items, no_items, item}
 use Rattle.serde_json.specs.Find.{get}
 use Rattle.values.specs.declared.entity_uid.EntityUid.{EntityUid}
-use Rattle.schema_types.specs.Cedar.{Cedar}
 use Rattle.entities.specs.entity_uids.Uids.{uid_in}
 use Rattle.entities.specs.Typing.{with_or}
 use Rattle.entities.specs.entity_data.ancestor_search.Decided.{is_same}
@@ -14,12 +13,8 @@ use Rattle.entities.specs.declared.fault.EntityFault.TheVariants.{BadParent, Sel
 use Rattle.entities.specs.Stated.{or_empty}
 use Rattle.value_paths.specs.declared.steps.Step.{Step}
 use Rattle.value_paths.specs.declared.steps.Step.TheVariants.{Key}
-use Rattle.value_paths.specs.EntityPaths.{to_key, to_parent, first_unmet, form_demands, items_at}
+use Rattle.value_paths.specs.EntityPaths.{to_key, to_parent, first_unmet, form_demands, items_at, uid_at, shape_at}
 use Rattle.value_paths.specs.inner.FoundPaths.{under, record_path}
-
--- `uid_at o` is the uid that a value names.
-abbrev pub uid_at : Option Data → Option EntityUid
-uid_at o = option_and_then uid_in o
 
 -- `fits s uid parent` tests whether `uid` may have this parent.
 abbrev pub fits : StatedSchema → EntityUid → EntityUid → Bool
@@ -30,10 +25,6 @@ unfoldable pub unfit_path : StatedSchema → EntityUid → ℕ → Items → Opt
 unfit_path s uid i no_items = None
 unfit_path s uid i (item d ds) =
     with_or (uid_in d) (λ parent. if fits s uid parent then unfit_path s uid (i + 1) ds else Some (to_parent i)) None
-
--- `shape_at s o` is the shape of the type of the entity that a uid names.
-abbrev pub shape_at : StatedSchema → Option Data → Option Cedar
-shape_at s o = option_and_then (λ uid. s.shape uid.type_name) (uid_at o)
 
 -- `attributes_path s d` is the path to the fault of the attributes.
 unfoldable pub attributes_path : StatedSchema → Data → Option (List Step)

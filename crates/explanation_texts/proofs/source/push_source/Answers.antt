@@ -12,7 +12,8 @@ returns c =
       record {
         says = says;
         advice = advice;
-        clean = c.says_and_advice.ensures;
+        words = c.says_and_advice.ensures.words;
+        clean = c.says_and_advice.ensures.clean;
         place = place;
         end = end;
         begins = record {

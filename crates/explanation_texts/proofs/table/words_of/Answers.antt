@@ -1,14 +1,20 @@
-use Rattle.std.proofs.Common.{◌==◌, ◌∙◌, is_some, ap}
-use Rattle.std.specs.List.{list_any}
-use Rattle.explanation_texts.specs.Printable.{is_clean}
-use Rattle.explanation_texts.proofs.FoundCodes.{known_if_found, some_behind, found_has}
+use Rattle.explanation_texts.specs.Codes.{codes_of_kind}
+use Rattle.explanation_texts.specs.CodeText.{rows_of_kind}
+use Rattle.explanation_texts.proofs.FoundCodes.{found_texts, rows_codes, rows_clean, is_known, found_clean}
 use Rattle.explanation_texts.proofs.table.words_of.Goals as goal
+
+pub returns-clause-found : goal.returns-clause-found
+returns-clause-found c =
+    found_texts c.args.code c.rows_of.result.now (rows_of_kind c.args.code) c.found_in.result c.found_in.ensures c.rows_of.ensures
 
 pub returns-clause-known : goal.returns-clause-known
 returns-clause-known c =
-    some_behind c.found_in.result ∙ ap is_some c.found_in.ensures.found ∙ known_if_found c.rows_of.result.now c.args.code
-    ∙ ap (list_any (λ k. k == c.args.code)) c.rows_of.ensures.codes
+    let table = rows_of_kind c.args.code in
+    is_known c.args.code table c.found_in.result (codes_of_kind c.args.code)
+    (found_texts c.args.code c.rows_of.result.now table c.found_in.result c.found_in.ensures c.rows_of.ensures) (rows_codes c.args.code)
 
 pub returns-clause-clean : goal.returns-clause-clean
 returns-clause-clean c =
-    found_has is_clean (λ w. w.code == c.args.code) c.rows_of.result.now c.found_in.result c.rows_of.ensures.clean c.found_in.ensures.found
+    let table = rows_of_kind c.args.code in
+    found_clean c.args.code table c.found_in.result
+    (found_texts c.args.code c.rows_of.result.now table c.found_in.result c.found_in.ensures c.rows_of.ensures) (rows_clean c.args.code)

@@ -7,6 +7,6 @@ returns c =
     let says = c.says_and_advice.result.0.now in
     let advice = c.says_and_advice.result.1.now in (
       whole_text c.args.file.now c.args.finding.now says advice,
-      record { says = says; advice = advice; clean = c.says_and_advice.ensures; is = refl },
+      record { says = says; advice = advice; words = c.says_and_advice.ensures.words; clean = c.says_and_advice.ensures.clean; is = refl },
       c.in_ok-push_parts.ensures,
     )

@@ -1,10 +1,11 @@
 use Rattle.std.proofs.Common.{inl, inr}
+use Rattle.explanations.specs.explanation_texts.CodeText.{texts_of}
 use Rattle.program.proofs.EventLemmas.{runs_as}
 use Rattle.program.proofs.explaining.explain_code.Goals as goal
 
 pub returns-in-Ok : goal.returns-in-Ok
 returns-in-Ok g c =
-    runs_as g.H.Host.does _ _ _ _ (λ events told. inl (c.in-Some.words.now, c.in-Some.ensures, told))
+    runs_as g.H.Host.does _ _ _ _ (λ events told. inl (texts_of c.in-Some.words.now, c.in-Some.ensures, told))
     (rw (c.as_bytes.ensures.value, c.as_str.ensures.value, c.in-Ok.ensures) at c.report_answer.ensures)
 
 pub returns-in-Err : goal.returns-in-Err

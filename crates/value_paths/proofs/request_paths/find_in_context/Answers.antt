@@ -1,10 +1,10 @@
-use Rattle.std.proofs.Common.{◌≡◌, List, Option, subst}
-use Rattle.serde_json.specs.Data.{Data}
+use Rattle.std.proofs.Common.{◌≡◌, List, Option, option_map}
 use Rattle.serde_json.specs.View.{view}
-use Rattle.entities.specs.entity_uids.Uids.{IsRead}
+use Rattle.schema_types.specs.Cedar.{Cedar}
+use Rattle.schema_types.specs.CedarViews.{cedar_view}
 use Rattle.entities.specs.schema.Views.{schema_view}
 use Rattle.value_paths.specs.declared.steps.Step.{Step}
-use Rattle.value_paths.specs.inner.FoundNames.{Names, named_path, IsContextSearched}
+use Rattle.value_paths.specs.inner.FoundNames.{path_under, IsContextSearched}
 use Rattle.value_paths.proofs.Going.{if_ok}
 use Rattle.value_paths.proofs.Requests.{context_searched}
 use Rattle.value_paths.proofs.request_paths.find_in_context.Goals as goal
@@ -13,9 +13,6 @@ pub returns : goal.returns
 returns c =
     let s = schema_view c.args.schema.now in
     let d = view c.args.value.now in
-    if_ok c.find_in_context_named.result (λ (o : Option (List Step)). o ≡ named_path s c.in_ok-principal.principal c.in_ok-action.action c.in_ok-resource.resource d) (IsContextSearched s d)
-    (λ o e. context_searched c.names_read_back.ensures.name s d c.in_ok-principal.principal c.in_ok-action.action c.in_ok-resource.resource o
-    (subst (λ (x : Option Data). IsRead (Names x) c.in_ok-principal.principal) c.get.ensures c.in_ok-principal.ensures)
-    (subst (λ (x : Option Data). IsRead (Names x) c.in_ok-action.action) c.get-2.ensures c.in_ok-action.ensures)
-    (subst (λ (x : Option Data). IsRead (Names x) c.in_ok-resource.resource) c.get-3.ensures c.in_ok-resource.ensures) e)
-    c.find_in_context_named.ensures
+    let type : Option Cedar = option_map (λ t. cedar_view t.now) c.in_ok-ty.ty in
+    if_ok c.find_in_context_of.result (λ (o : Option (List Step)). o ≡ path_under type d) (IsContextSearched s d)
+    (λ o e. context_searched s d type o c.in_ok-ty.ensures e) c.find_in_context_of.ensures
