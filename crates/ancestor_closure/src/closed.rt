@@ -20,9 +20,9 @@ use values::EntityUid;
 
 /// A hierarchy: the parents of each stored entity, and an ancestor cache. Contracts see the parents.
 ///
-/// It is meant for single changes: each change rewrites the lists of all descendants of its entity, so filling it with
-/// parents before their children costs one search for each entity, and with children first one for each descendant of
-/// each entity. [`AncestorCache::of_graph`] builds the cache of a whole graph at once.
+/// It is meant for single changes: each change rewrites the lists of all descendants of its entity. Filling it with
+/// parents before their children costs one search for each entity. Filling it with children first costs one search for
+/// each descendant of each entity. [`AncestorCache::of_graph`] builds the cache of a whole graph at once.
 #[derive(Drop)]
 pub struct Closed {
     alloc: Global,
@@ -44,7 +44,7 @@ impl Model for Closed {
     ghost invariant = { λ c. IsCacheOf (parents_of c.edges) c.kept };
 }
 
-// Adds an empty entry for the parents of an entity, if it has none.
+// Adds an empty entry for the parents of an entity, if there is no entry for them.
 fn reserve_edges(
     alloc: Global,
     edges: &mut BTreeMap<EntityUid, Vec<EntityUid>>,

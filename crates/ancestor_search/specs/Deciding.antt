@@ -1,4 +1,4 @@
--- Defines the proof that the test for a path decides: a theorem of Decided.
+-- Defines the proof of a theorem of Decided: the test for a path decides the ancestor relation.
 use Rattle.std.proofs.Common.{◌≡◌, Bool, true, false, List, [], ◌∷◌, refl, ap, sym, subst, inl, inr}
 use Rattle.std.proofs.Common.{◌||◌, Option, Some, None}
 use Rattle.std.specs.Prelude.{Contains, IsTrue, ◌&&◌, ◌⊎◌, Vec, IsSome}
@@ -99,7 +99,7 @@ module _ (parents : Parents) where
         ]
   ]
 
-  -- an edge that begins at one of the entities is found, and one more edge before a found path
+  -- the test finds an edge that begins at one of the entities, alone or followed by a path that the test finds
   more : (us : List EntityUid) (b c : EntityUid) → Contains us b → Contains (parents b) c → (a : EntityUid) →
       (c ≡ a) ⊎ IsTrue (reaches parents us a c) → IsTrue (reaches parents us a b)
   unfolding reaches
@@ -146,7 +146,7 @@ paths_are_decided parents stored all = decided parents stored all
 pub map_has_all : (edges : BTreeMap EntityUid (Vec EntityUid Global)) → HaveAllParents (parents_of edges) (keys edges)
 map_has_all edges = λ b a h. parent_is_stored edges b a h
 
--- The edges of a map are decided.
+-- For the parents in a map, the test over the map's keys decides the ancestor relation.
 pub edges_are_decided : (edges : BTreeMap EntityUid (Vec EntityUid Global)) →
     Decides (parents_of edges) (reaches (parents_of edges) (keys edges))
 edges_are_decided edges = decided (parents_of edges) (keys edges) (map_has_all edges)

@@ -19,7 +19,7 @@ pub record IsPlainUid (d : Data) (uid : EntityUid) : Type 0 where
   pub path : IsPath uid.type_name
   pub id : text_at (codes "id") d ≡ Some uid.id
 
--- `IsUnderEntity d inner uid` holds if `d` has such an object as its one member `__entity`.
+-- `IsUnderEntity d inner uid` holds if `d` is an object without other keys than `__entity`, and `IsPlainUid inner uid`.
 pub record IsUnderEntity (d inner : Data) (uid : EntityUid) : Type 0 where
   pub alone : has_only (codes "__entity" ∷ []) d ≡ true
   pub is : IsPlainUid inner uid

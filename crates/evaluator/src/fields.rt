@@ -35,7 +35,7 @@ fn copy_found<'a>(alloc: Global, found: Option<&Value>) -> Result<BorrowedOrOwne
     }
 }
 
-/// Returns the value of an attribute, borrowed; without fields the entity is not stored.
+/// Returns the value of an attribute, borrowed. `fields` is `None` for an entity that is not stored.
 fn attribute_at<'a>(fields: Option<&'a Record>, name: &str) -> Result<&'a Value, EvalFault>
     ensures { let due = attribute (option_map (λ r. r.now) fields.entry) name.now in
         MatchResult result (λ v. due ≡ Ok v.now) (λ e. due ≡ Err e) }
@@ -70,8 +70,8 @@ fn attribute<'a, L: Lookup>(
     lent(attribute_at(store.attrs_of(uid), name))
 }
 
-/// Returns the value of a field or an attribute of a variable. Most conditions access these, so no value is made of
-/// the variable.
+/// Returns the value of a field or an attribute of a variable. Most conditions have such an access, so it builds no
+/// value for the variable.
 #[tactic(auto, using(crate::proofs::Variables::field_under))]
 pub(crate) fn variable_field<'a, L: EvalEnv>(
     store: &'a L,

@@ -10,7 +10,7 @@ use Rattle.explanation_texts.specs.Printable.{are_printable}
 use Rattle.explanation_texts.specs.CodeText.{Texts, words_on}
 use Rattle.explanation_texts.specs.LineAndColumn.{is_line_feed, column_behind, IsStartAt}
 use Rattle.explanation_texts.specs.Excerpt.{excerpt, shown, mark_if}
-use Rattle.explanation_texts.specs.declared.places.Place.{Place}
+use Rattle.explanation_texts.specs.declared.places.TextPosition.{TextPosition}
 use Rattle.explanation_texts.specs.declared.finding.SourceFinding.{SourceFinding}
 use Rattle.explanation_texts.specs.declared.finding.WholeFinding.{WholeFinding}
 
@@ -53,14 +53,14 @@ AreClean says advice = (are_printable says ≡ true) × (are_printable advice �
 -- ---- an error in a part of a text
 
 -- `IsPlaceOf text at place` holds if `place` is the line and column of the byte `at`.
-pub record IsPlaceOf (text : List ℕ) (at : ℕ) (place : Place) : Type 0 where
+pub record IsPlaceOf (text : List ℕ) (at : ℕ) (place : TextPosition) : Type 0 where
   pub start : IsStartAt text at place.start
   pub line : place.line ≡ 1 + count_by is_line_feed (take place.start text)
   pub column : place.column ≡ column_behind (chars (take place.start text))
 
 -- `span_between place end` is the number of characters from one place up to another; that of the rest of the line if
 -- the other is on another line.
-abbrev pub span_between : Place → Place → ℕ
+abbrev pub span_between : TextPosition → TextPosition → ℕ
 span_between place end = if place.line == end.line then end.column - place.column else 18446744073709551615
 
 -- `rest_text finding advice` has what else is known, what the place is, and a hint.
@@ -68,13 +68,13 @@ abbrev pub rest_text : SourceFinding → List ℕ → List ℕ
 rest_text finding advice = detail_line finding.detail.now ++ detail_line finding.note.now ++ hint_line advice
 
 -- `place_text file text place span` shows the place.
-abbrev pub place_text : List ℕ → List ℕ → Place → ℕ → List ℕ
+abbrev pub place_text : List ℕ → List ℕ → TextPosition → ℕ → List ℕ
 place_text file text place span =
     excerpt file (slice_index_or (lines text) (place.line - 1) []) place.line place.column span
 
 -- `source_text file text finding says advice place span` has what is wrong, the place, what else is known, what the
 -- place is, and a hint.
-abbrev pub source_text : List ℕ → List ℕ → SourceFinding → List ℕ → List ℕ → Place → ℕ → List ℕ
+abbrev pub source_text : List ℕ → List ℕ → SourceFinding → List ℕ → List ℕ → TextPosition → ℕ → List ℕ
 source_text file text finding says advice place span = says_line finding.code says finding.cause.now
     ++ place_text file text place span ++ rest_text finding advice
 
@@ -85,8 +85,8 @@ pub record IsSourceText (file text : List ℕ) (finding : SourceFinding) (bytes 
   pub advice : List ℕ
   pub words : AreWordsOf (words_on finding.code) says advice
   pub clean : AreClean says advice
-  pub place : Place
-  pub end : Place
+  pub place : TextPosition
+  pub end : TextPosition
   pub begins : IsPlaceOf text finding.start place
   pub ends : IsPlaceOf text finding.end end
   pub is : bytes ≡ source_text file text finding says advice place (span_between place end)

@@ -5,7 +5,7 @@ ghost use Rattle.std.specs.Str.Lines.{lines};
 ghost use Rattle.explanation_texts.specs.Excerpt.{blank_char, repeated, blanks, place_in};
 ghost use Rattle.explanation_texts.specs.Excerpt.{cut_before, end_of, mark_if, heading, line_row, caret_row, excerpt};
 
-use crate::places::{Place, line_at};
+use crate::places::{TextPosition, line_at};
 use crate::shown::{push_number, push_shown};
 use plain::NoMemory;
 use std::alloc::Global;
@@ -81,7 +81,7 @@ pub(crate) fn push_mark(out: &mut String, is_cut: bool, mark: &str) -> Result<()
     Ok(())
 }
 
-fn push_heading(out: &mut String, file: &str, place: Place) -> Result<(), NoMemory>
+fn push_heading(out: &mut String, file: &str, place: TextPosition) -> Result<(), NoMemory>
     ensures { OnOk result (string_bytes out.new ≡ string_bytes out.old ++ heading file.now place.line place.column) }
 {
     out.push_str(" --> ")?;
@@ -132,7 +132,7 @@ fn push_rows(
     out: &mut String,
     file: &str,
     line: &str,
-    place: Place,
+    place: TextPosition,
     cut: &Cut,
     digits: usize,
     carets: usize,
@@ -167,7 +167,7 @@ pub fn push_excerpt(
     out: &mut String,
     file: &str,
     text: &str,
-    place: Place,
+    place: TextPosition,
     span: usize,
 ) -> Result<(), NoMemory>
     ensures ok { OnOk result (string_bytes out.new ≡ string_bytes out.old

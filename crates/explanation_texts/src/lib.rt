@@ -18,7 +18,7 @@ mod whole;
 pub use excerpts::push_excerpt;
 pub use finding::{SourceFinding, WholeFinding};
 pub use laws::explanations_are_readable;
-pub use places::{Place, line_at, place_of};
+pub use places::{TextPosition, line_at, place_of};
 pub use print::code_text;
 pub use source::push_source;
 pub use table::{CodeWords, words_of};

@@ -5,7 +5,7 @@ ghost use Rattle.explanation_texts.specs.LineAndColumn.{is_line_feed, column_beh
 
 /// A place in a text, by line and column.
 #[derive(Clone, Copy)]
-pub struct Place {
+pub struct TextPosition {
     /// The line, counted from 1.
     pub line: usize,
     /// The column, counted from 1 in characters.
@@ -14,10 +14,10 @@ pub struct Place {
     pub start: usize,
 }
 
-impl Place {
+impl TextPosition {
     /// Returns the number of characters from this place up to `end`, a place of the same text and not before it; the
     /// greatest number if `end` is on another line, since then the whole rest of this line is meant.
-    pub fn span_to(&self, end: &Place) -> usize
+    pub fn span_to(&self, end: &TextPosition) -> usize
         ensures { result ≡ (if self.now.line == end.now.line then end.now.column - self.now.column else usize.MAX) }
     {
         if self.line == end.line {
@@ -53,14 +53,14 @@ fn column_of(before: &str) -> usize
 /// The line feed at a line's end, and a carriage return before it, are characters of that line.
 ///
 /// O(`at`). Does not allocate.
-pub fn place_of(text: &str, at: usize) -> Place
+pub fn place_of(text: &str, at: usize) -> TextPosition
     ensures start { IsStartAt text.now at result.start }
     ensures line { result.line ≡ 1 + count_by is_line_feed (take result.start text.now) }
     ensures column { result.column ≡ column_behind (chars (take result.start text.now)) }
 {
     let start = text.floor_char_boundary(at);
     let (before, _) = text.split_at(start);
-    Place {
+    TextPosition {
         line: 1 + count_line_feeds(before),
         column: column_of(before),
         start,

@@ -7,7 +7,7 @@ ghost use Rattle.explanation_texts.specs.CodeText.{words_on};
 
 use crate::excerpts::{count_chars, push_excerpt, push_mark};
 use crate::finding::SourceFinding;
-use crate::places::{Place, place_of};
+use crate::places::{TextPosition, place_of};
 use crate::shown::{push_number, push_shown};
 use crate::table::words_of;
 use plain::NoMemory;
@@ -30,7 +30,7 @@ pub(crate) fn says_and_advice(code: u16) -> (&'static str, &'static str)
     }
 }
 
-// Appends at most so many characters of a text, and `..` if it has more.
+// Appends the first `most` characters of a text, and `..` if it has more.
 fn push_cut(out: &mut String, text: &str, most: usize) -> Result<(), NoMemory>
     ensures { OnOk result (string_bytes out.new ≡ string_bytes out.old ++ cut_text text.now most) }
 {
@@ -79,7 +79,7 @@ pub(crate) fn push_hint(out: &mut String, advice: &str) -> Result<(), NoMemory>
     Ok(())
 }
 
-/// Appends what else is known, if anything is.
+/// Appends the line of a detail, cut after 400 characters; nothing if the detail is empty.
 pub(crate) fn push_detail(out: &mut String, detail: &str) -> Result<(), NoMemory>
     ensures { OnOk result (string_bytes out.new ≡ string_bytes out.old ++ detail_line detail.now) }
 {
@@ -92,10 +92,10 @@ pub(crate) fn push_detail(out: &mut String, detail: &str) -> Result<(), NoMemory
     Ok(())
 }
 
-// The place that is shown, and the words on it.
+// The place that is shown with its span, and the words on the code.
 #[derive(Clone, Copy)]
 struct Shown<'t> {
-    place: Place,
+    place: TextPosition,
     span: usize,
     says: &'t str,
     advice: &'t str,
@@ -142,10 +142,10 @@ fn push_at(
     Ok(())
 }
 
-/// Appends the text that explains an error in a text, which is that of the file `file`: what is wrong, the line of its
-/// place with carets under it, and a hint.
+/// Appends the explanation of an error in `text`, the text of the file `file`: what is wrong, the line of the error's
+/// place with carets under it, any detail and note, and a hint.
 ///
-/// O(length of `text` and of `file`).
+/// O(length of `text`, of `file` and of the texts of `finding`).
 ///
 /// # Errors
 ///

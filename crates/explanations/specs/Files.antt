@@ -1,7 +1,7 @@
 -- Defines the files that are explained: their names and contents.
 -- Rules of this product: policies are always given, each of the others may be.
 use Rattle.std.specs.Prelude.{ℕ, List, Option, option_map}
-use Rattle.explanations.specs.declared.given.Source.{Source}
+use Rattle.explanations.specs.declared.given.NamedText.{NamedText}
 use Rattle.explanations.specs.declared.given.Given.{Given}
 
 -- A `File` is a name with a content.
@@ -17,7 +17,7 @@ pub record Files : Type 0 where
   pub request : Option File
 
 -- `file_of source` and `files_of given` are the files of the code.
-abbrev pub file_of : Source → File
+abbrev pub file_of : NamedText → File
 file_of source = record { name = source.name.now; text = source.text.now }
 
 abbrev pub files_of : Given → Files

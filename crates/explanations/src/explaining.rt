@@ -6,7 +6,7 @@ ghost use Rattle.explanations.specs.Parts.{AppendsSome};
 ghost use Rattle.explanations.specs.Explained.{IsTextOf, AreTokensOf, IsFileExplained, AreOthersExplained, IsExplained};
 ghost use Rattle.explanations.specs.Explained.{IsUnreadExplained, IsExplainedUnder};
 
-use crate::given::{Given, Source};
+use crate::given::{Given, NamedText};
 use crate::others::{explain_entities, explain_request};
 use crate::parts::{no_want_of_memory, push_refusal};
 use crate::pieces::{Piece, pieces_of};
@@ -67,7 +67,7 @@ fn explain_file(
     alloc: Global,
     out: &mut String,
     schema: Option<&Schema>,
-    source: Source<'_, '_>,
+    source: NamedText<'_, '_>,
 ) -> Result<(), NoMemory>
     ensures { OnOk result (AppendsSome (IsFileExplained (option_map (λ s. schema_view s.now) schema.entry)
         source.entry.name.now source.entry.text.now) (string_bytes out.old) (string_bytes out.new)) }
@@ -98,7 +98,7 @@ fn explain_file(
 }
 
 /// Returns the text of a schema.
-fn text_of_source<'t>(source: Option<Source<'_, 't>>) -> Option<&'t [u8]>
+fn text_of_source<'t>(source: Option<NamedText<'_, 't>>) -> Option<&'t [u8]>
     ensures { option_map (λ s. s.now) result ≡ option_map (λ s. s.text) (option_map file_of source.entry) }
 {
     match source {
@@ -133,7 +133,7 @@ fn explain_others(
 fn explain_under(
     alloc: Global,
     out: &mut String,
-    schema: Source<'_, '_>,
+    schema: NamedText<'_, '_>,
     given: &Given<'_, '_>,
 ) -> Result<(), NoMemory>
     ensures { OnOk result (AppendsSome (IsExplainedUnder (file_of schema.entry) (files_of given.now))

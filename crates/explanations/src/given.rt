@@ -2,7 +2,7 @@
 
 /// A text, and the name of its file.
 #[derive(Clone, Copy)]
-pub struct Source<'n, 't> {
+pub struct NamedText<'n, 't> {
     /// The name of the file, as it is shown.
     pub name: &'n str,
     /// The content of the file.
@@ -13,11 +13,11 @@ pub struct Source<'n, 't> {
 #[derive(Clone, Copy)]
 pub struct Given<'n, 't> {
     /// A schema, if there is one.
-    pub schema: Option<Source<'n, 't>>,
+    pub schema: Option<NamedText<'n, 't>>,
     /// Policies.
-    pub policies: Source<'n, 't>,
+    pub policies: NamedText<'n, 't>,
     /// Entities, if there are any.
-    pub entities: Option<Source<'n, 't>>,
+    pub entities: Option<NamedText<'n, 't>>,
     /// A request, if there is one.
-    pub request: Option<Source<'n, 't>>,
+    pub request: Option<NamedText<'n, 't>>,
 }

@@ -14,6 +14,6 @@ mod unread;
 
 pub use explaining::explain_texts;
 pub use explanation_texts::{CodeWords, code_text, words_of};
-pub use given::{Given, Source};
+pub use given::{Given, NamedText};
 pub use laws::explained_texts_are_readable;
 pub use messages::explain_message;

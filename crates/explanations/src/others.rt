@@ -10,7 +10,7 @@ ghost use Rattle.explanations.specs.Others.{AreEntitiesRead, AreEntitiesRefused,
 ghost use Rattle.explanations.specs.Others.{IsRequestRefused, IsJudgedText, AreEntitiesExplained, IsRequestExplained};
 ghost use Rattle.explanations.specs.Others.{IsEntityPartTold, IsRequestPartTold};
 
-use crate::given::Source;
+use crate::given::NamedText;
 use crate::parts::{no_want_of_memory, push_refusal};
 use plain::{NoMemory, Text};
 use schema_decisions::{Refusal, Schema, UnderSchema, decide_texts, decide_under, judge_entities};
@@ -104,7 +104,7 @@ fn push_entity(
     alloc: Global,
     out: &mut String,
     schema: Option<&Schema>,
-    source: Source<'_, '_>,
+    source: NamedText<'_, '_>,
     refusal: Refusal,
 ) -> Result<(), NoMemory>
     ensures { OnOk result (AppendsSome (IsWholeAt source.entry.name.now refusal.code refusal.place
@@ -121,7 +121,7 @@ fn push_request(
     alloc: Global,
     out: &mut String,
     schema: Option<&Schema>,
-    source: Source<'_, '_>,
+    source: NamedText<'_, '_>,
     refusal: Refusal,
 ) -> Result<(), NoMemory>
     ensures { OnOk result (AppendsSome (IsWholeAt source.entry.name.now refusal.code refusal.place
@@ -138,7 +138,7 @@ fn explain_array(
     alloc: Global,
     out: &mut String,
     schema: Option<&Schema>,
-    source: Source<'_, '_>,
+    source: NamedText<'_, '_>,
     judged: Result<(), Refusal>,
 ) -> Result<(), NoMemory>
     ensures { OnOk result (AppendsSome (IsJudgedText source.entry.name.now
@@ -160,7 +160,7 @@ fn explain_asked(
     alloc: Global,
     out: &mut String,
     schema: Option<&Schema>,
-    source: Source<'_, '_>,
+    source: NamedText<'_, '_>,
     judged: Result<(), Refusal>,
 ) -> Result<(), NoMemory>
     ensures { OnOk result (AppendsSome (IsJudgedText source.entry.name.now
@@ -182,7 +182,7 @@ pub(crate) fn explain_entities(
     alloc: Global,
     out: &mut String,
     schema: Option<&Schema>,
-    entities: Option<Source<'_, '_>>,
+    entities: Option<NamedText<'_, '_>>,
 ) -> Result<(), NoMemory>
     ensures { OnOk result (AppendsSome
         (AreEntitiesExplained (option_map (λ s. schema_view s.now) schema.entry) (option_map file_of entities.entry))
@@ -204,7 +204,7 @@ pub(crate) fn explain_request(
     out: &mut String,
     schema: Option<&Schema>,
     stated: Option<&[u8]>,
-    request: Option<Source<'_, '_>>,
+    request: Option<NamedText<'_, '_>>,
 ) -> Result<(), NoMemory>
     ensures { OnOk result (AppendsSome (IsRequestExplained (option_map (λ s. schema_view s.now) schema.entry)
         (option_map (λ s. s.now) stated.entry) (option_map file_of request.entry))

@@ -8,7 +8,7 @@ ghost use Rattle.validator.specs.Passing.{environments_of, HasBooleanType};
 ghost use Rattle.fault_paths.specs.Told.{IsTypeBlame};
 ghost use Rattle.fault_paths.specs.inner.Judging.{IsBlamedIn, IsFaultyIn, IsToldIn};
 
-use crate::descending::{Place, descend};
+use crate::descending::{BlamedForm, descend};
 use grammar_core::Expr;
 use plain::NoMemory;
 use std::alloc::Global;
@@ -26,7 +26,7 @@ pub struct TypeBlame<'a> {
     /// The index of the first environment of the schema with an error.
     pub environment: usize,
     /// What is blamed in it.
-    pub place: Place<'a>,
+    pub place: BlamedForm<'a>,
 }
 
 /// Returns the reported error, or `None` if the expression has a type.

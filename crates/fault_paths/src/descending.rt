@@ -15,7 +15,7 @@ use type_checker::{StaticType, TypingEnvironment};
 
 /// What an error blames in one environment.
 #[derive(Drop)]
-pub struct Place<'a> {
+pub struct BlamedForm<'a> {
     /// The indexes of operands that lead from the whole expression to the blamed one.
     pub path: Vec<usize>,
     /// The form whose demand is not met: the blamed expression, or the form that it is an operand of.
@@ -42,7 +42,7 @@ pub(crate) fn descend<'a>(
     alloc: Global,
     env: TypingEnvironment<'a>,
     whole: &'a Expr,
-) -> Result<Place<'a>, NoMemory>
+) -> Result<BlamedForm<'a>, NoMemory>
     ensures { IfOk result (λ place. (n : typing.ExpressionFault)
         (h : Faults (typing_environment env.entry) [] whole.entry.now n) → blamed h ≡ place_view place) }
 {
@@ -57,7 +57,7 @@ pub(crate) fn descend<'a>(
             }
             Step::Stop(operand, types) => {
                 close(&mut path, operand)?;
-                return Ok(Place {
+                return Ok(BlamedForm {
                     path,
                     form: expr,
                     types,

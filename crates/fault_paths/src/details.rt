@@ -8,7 +8,7 @@ ghost use Rattle.fault_paths.specs.Words.{declaration_words, declared_words, wha
 use crate::attributes::is_declared;
 use crate::blaming::TypeBlame;
 use crate::causes::{attribute_of, is_missing};
-use crate::descending::Place;
+use crate::descending::BlamedForm;
 use crate::wording::{push_environment, push_type, push_types};
 use plain::NoMemory;
 use type_checker::{Environment, Schema, StaticType};
@@ -61,7 +61,7 @@ fn push_what<'a>(
     schema: &'a Schema,
     environment: &'a Environment,
     fault: TypeFault,
-    place: &Place<'a>,
+    place: &BlamedForm<'a>,
 ) -> Result<(), NoMemory>
     ensures { OnOk result (string_bytes out.new ≡ string_bytes out.old
         ++ what_words (typing_environment_of (schema_view schema.entry.now)

@@ -19,7 +19,7 @@ mod wording;
 
 pub use attributes::is_declared;
 pub use blaming::{TypeBlame, blame_type};
-pub use descending::Place;
+pub use descending::BlamedForm;
 pub use explaining::{PolicyFault, explain_fault};
 pub use laws::{first_faults_blame_one_place, unknown_names_have_one_place};
 pub use names::{NameBlame, UnknownName, blame_name};

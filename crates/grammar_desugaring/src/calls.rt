@@ -93,7 +93,7 @@ fn call_method(
     }
 }
 
-/// Returns a call of a method, given the list of its arguments.
+/// Returns a call of a method, or the error if the arguments are one.
 pub(crate) fn call_with_row(
     alloc: Global,
     method: Option<Method>,

@@ -20,8 +20,8 @@ use values::paths_are_told;
 
 /// Proves the round trip of summaries.
 ///
-/// If the names and stamps of a summary are in their ranges and its names ascend, its JSON is parsed as that summary;
-/// the JSON of such a summary of version 1 as the summary in which each site's number is replaced by its five digits.
+/// If the names and stamps of a summary are in their ranges and its names ascend, its JSON is parsed as that summary.
+/// The JSON of such a summary of version 1 is parsed as the summary in which five digits replace each site's number.
 /// A parsed summary has names and stamps in their ranges, and its names ascend. So do the names of a store's summary.
 /// For a label in UTF-8, the text of a summary that may be written is parsed as that summary, and two such summaries
 /// with one text are equal. No-op.

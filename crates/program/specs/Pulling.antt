@@ -24,9 +24,9 @@ use Rattle.program.specs.Reports.{IsAnswerReported, IsFailureReported, IsMemoryR
 use Rattle.program.specs.Reports.{taken_report_line}
 use Rattle.program.specs.Courses.{Course, Reads, ReadsIfThere, Connects, Stores}
 
--- `IsPullTold options r` is the course after a pull with the result `r`: the new state is written, then the number of
--- updates printed, if that line can be allocated; or the address is reported at which the network failed; or the error
--- of a text or of the message.
+-- `IsPullTold options r` is the course after a pull with the result `r`. If it succeeded, the new state is written, and
+-- then the number of updates printed. If the network failed, the address is reported. Otherwise the error of a text or
+-- of the message is reported. Unless the network failed, out of memory may be reported instead of all this.
 abbrev pub IsPullTold : {L : Type 0} → PullOptions → Result Pulled PullFault → Course L
 IsPullTold options (Ok pulled) events end =
     Stores options.state.now pulled.state.items (IsAnswerReported (taken_report_line pulled.taken)) events end

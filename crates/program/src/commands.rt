@@ -13,7 +13,7 @@ use crate::host::Host;
 use crate::reading::{lent, read_file, read_if_named};
 use crate::rejecting::{report_checked, report_rejected};
 use crate::report::report_answer;
-use explanations::{Given, Source};
+use explanations::{Given, NamedText};
 use program_drills::Refusal;
 use program_lines::{CheckOptions, DecideOptions};
 use site_loading::{check_texts, decide_texts, decide_under};
@@ -52,15 +52,15 @@ fn decide_given<'n, 't>(
 {
     Given {
         schema: source_of(options.schema, schema),
-        policies: Source {
+        policies: NamedText {
             name: options.policies,
             text: policies,
         },
-        entities: Some(Source {
+        entities: Some(NamedText {
             name: options.entities,
             text: entities,
         }),
-        request: Some(Source {
+        request: Some(NamedText {
             name: options.request,
             text: request,
         }),
@@ -134,11 +134,11 @@ fn check_given<'n, 't>(
     ensures { files_of result ≡ check_files options.now schema.entry.now policies.entry.now }
 {
     Given {
-        schema: Some(Source {
+        schema: Some(NamedText {
             name: options.schema,
             text: schema,
         }),
-        policies: Source {
+        policies: NamedText {
             name: options.policies,
             text: policies,
         },

@@ -13,7 +13,7 @@ ghost use Rattle.program.specs.Explaining.{IsExplainRun};
 use crate::host::Host;
 use crate::reading::{lent, read_file, read_if_named};
 use crate::report::{report_answer, report_explained, report_memory, report_no_code};
-use explanations::{CodeWords, Given, Source, code_text, explain_texts, words_of};
+use explanations::{CodeWords, Given, NamedText, code_text, explain_texts, words_of};
 use program_lines::ExplainOptions;
 use std::alloc::Global;
 use std::process::ExitCode;
@@ -73,13 +73,13 @@ fn explain_code<H: Host>(alloc: Global, host: &mut H, word: &str) -> ExitCode
 pub(crate) fn source_of<'n, 't>(
     name: Option<&'n str>,
     text: Option<&'t [u8]>,
-) -> Option<Source<'n, 't>>
+) -> Option<NamedText<'n, 't>>
     ensures { option_map file_of result ≡ file_named (option_map (λ s. s.now) name.entry)
         (option_map (λ s. s.now) text.entry) }
 {
     match name {
         Some(name) => match text {
-            Some(text) => Some(Source { name, text }),
+            Some(text) => Some(NamedText { name, text }),
             None => None,
         },
         None => None,
@@ -102,7 +102,7 @@ fn given_of<'n, 't>(options: &ExplainOptions<'n>, held: Held<'t>) -> Given<'n, '
 {
     Given {
         schema: source_of(options.schema, held.schema),
-        policies: Source {
+        policies: NamedText {
             name: options.what,
             text: held.policies,
         },

@@ -11,7 +11,7 @@ use crate::host::Host;
 use crate::reading::{lent, read_file, read_if_named};
 use crate::rejecting::{policies_of, report_rejected, schema_given};
 use crate::report::report_answer;
-use explanations::{Given, Source};
+use explanations::{Given, NamedText};
 use program_drills::Site;
 use program_lines::LoadOptions;
 use site_loading::loaded_state;
@@ -29,7 +29,7 @@ fn load_given<'n, 't>(
         (option_map (λ e. e.now) entities.entry) }
 {
     Given {
-        schema: Some(Source {
+        schema: Some(NamedText {
             name: options.schema,
             text: schema,
         }),

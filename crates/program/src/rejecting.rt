@@ -13,7 +13,7 @@ use crate::device::Stream;
 use crate::explaining::is_some_text;
 use crate::host::Host;
 use crate::report::{report_lines, report_refusal, without_end};
-use explanations::{Given, Source, code_text, explain_texts, words_of};
+use explanations::{Given, NamedText, code_text, explain_texts, words_of};
 use plain::NoMemory;
 use program_drills::Refusal;
 use std::alloc::Global;
@@ -23,12 +23,12 @@ use std::process::ExitCode;
 const NO_EXPLANATION: &str = "explanation: out of memory";
 
 /// Returns the given policies; if they are absent, an empty file.
-pub(crate) fn policies_of<'n, 't>(source: Option<Source<'n, 't>>) -> Source<'n, 't>
+pub(crate) fn policies_of<'n, 't>(source: Option<NamedText<'n, 't>>) -> NamedText<'n, 't>
     ensures { file_of result ≡ policies_of (option_map file_of source.entry) }
 {
     match source {
         Some(source) => source,
-        None => Source {
+        None => NamedText {
             name: "",
             text: b"",
         },
@@ -40,7 +40,7 @@ pub(crate) fn schema_given<'n, 't>(name: &'n str, schema: &'t [u8]) -> Given<'n,
     ensures { files_of result ≡ schema_files name.entry.now schema.entry.now }
 {
     Given {
-        schema: Some(Source { name, text: schema }),
+        schema: Some(NamedText { name, text: schema }),
         policies: policies_of(None),
         entities: None,
         request: None,

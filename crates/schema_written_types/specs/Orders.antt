@@ -42,13 +42,14 @@ times a (b ∷ bs) = one_if_same a b + times a bs
 abbrev pub IsBehind : Graph → List ℕ → ℕ → Type 0
 IsBehind g before a = (b : ℕ) → Contains (ends_of g a) b → b < length g → Contains before b ⊎ Leads g b a
 
--- `AreBehind g before rest` holds if this is so for each node of `rest`, with those before it.
+-- `AreBehind g before rest` holds if `IsBehind` holds for each node of `rest`, after `before` and the nodes of `rest`
+-- that precede it.
 abbrev pub AreBehind : Graph → List ℕ → List ℕ → Type 0
 AreBehind g before [] = ⊤
 AreBehind g before (a ∷ rest) = IsBehind g before a × AreBehind g (before ++ a ∷ []) rest
 
--- `IsEndsFirst g order` holds if `order` has exactly the nodes of the graph, without duplicates, each after its
--- successors.
+-- `IsEndsFirst g order` holds if `order` has exactly the nodes of the graph, without duplicates, each after those of
+-- its successors that do not lead back to it.
 pub record IsEndsFirst (g : Graph) (order : List ℕ) : Type 0 where
   pub once : (a : ℕ) → a < length g → times a order ≡ 1
   pub inside : (a : ℕ) → length g ≤ a → times a order ≡ 0

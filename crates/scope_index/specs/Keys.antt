@@ -33,7 +33,7 @@ entity_named (In e) = Some e
 entity_named (Is t) = None
 entity_named (IsOfTypeIn t e) = Some e
 
--- `key_by p r` is the key of the entity named for the principal, else of that for the resource.
+-- `key_by p r` is the key of the entity `p` named for the principal, else of `r` named for the resource, else `Always`.
 abbrev pub key_by : Option EntityUid → Option EntityUid → IndexKey
 key_by (Some e) r = Principal e
 key_by None (Some e) = Resource e
@@ -65,7 +65,7 @@ Offer = List ℕ × Policy
 abbrev pub lent : List (Bor (List ℕ) × Bor Policy) → List Offer
 lent ps = map (λ p. (p.0.now, p.1.now)) ps
 
--- `ids os` are the ids of candidates.
+-- `ids os` are the ids of the policies `os`.
 abbrev pub ids : List Offer → List (List ℕ)
 ids os = map (λ o. o.0) os
 

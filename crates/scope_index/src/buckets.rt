@@ -110,7 +110,7 @@ fn take_named(named: &mut Named, entity: &SharedText, id: &str)
     }
 }
 
-// Removes the policy of an id from the bucket of an entity; returns whether its type then has no bucket.
+// Removes the policy of an id from the bucket of an entity; returns whether its type then has an entry without buckets.
 fn strike_type(under: &mut Under, uid: &EntityUid, id: &str) -> bool
     ensures turns { Turns uid.now id.now None under.old under.new }
     ensures none { IsTrue result → (u : PlainUid) (q : List ℕ) → IsTrue (is_text uid.now.type_name u.type_name)

@@ -1,5 +1,5 @@
 -- Defines how a reply of a site is reported: by a status and a body.
--- Source: docs/formats.md, of the replies of the routes.
+-- Source: docs/formats.md, "Routes of a site".
 -- Rules of this product: the status and the body of each reply.
 use Rattle.std.specs.Prelude.{ℕ, List, Ok, Err, option_map}
 use Rattle.http.specs.declared.status.StatusCode.{StatusCode}

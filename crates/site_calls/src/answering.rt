@@ -43,7 +43,7 @@ pub fn reply_to(
     report_reply(alloc, text, &reply)
 }
 
-/// Returns the answer to the request that JSON states; `None` is of bytes that are not JSON.
+/// Returns the answer to the request that JSON states; `json` is `None` if the bytes are not JSON.
 fn decided(site: &Site, json: &Option<Value>) -> Result<Answer, SiteFault>
     ensures { Answers (schema_of site.now) (store_in site.now) (option_map view json.now) result }
 {
@@ -53,10 +53,11 @@ fn decided(site: &Site, json: &Option<Value>) -> Result<Answer, SiteFault>
     }
 }
 
-/// Answers a request whose body was parsed as this JSON, and appends the body of the reply. Returns the status.
+/// Answers a request whose body was parsed as `json`, `None` if it is not JSON, and appends the body of the reply.
+/// Returns the status.
 ///
-/// The reply is one of [`reply_to`] to each body that is parsed so; `None` is of bytes that are not JSON. So a caller
-/// that uses the JSON too parses the body once.
+/// For each such body, the reply is one that [`reply_to`] may give. A caller that uses the JSON too can thus parse the
+/// body once.
 pub fn reply_to_request(
     alloc: Global,
     site: &Site,
@@ -97,7 +98,7 @@ fn not_text(id: &str, text: &[u8]) -> ReadFault
     }
 }
 
-/// Puts the policy whose text bytes are, and appends the body of the reply. Returns the status.
+/// Puts the policy with the text `policy` under `id`, and appends the body of the reply. Returns the status.
 pub fn put_text(
     alloc: Global,
     scratch: &mut Scratch,
@@ -116,7 +117,7 @@ pub fn put_text(
     }
 }
 
-/// Puts a policy under the id that bytes are.
+/// Puts a policy under the id `id`.
 fn put_policy(
     alloc: Global,
     scratch: &mut Scratch,
@@ -136,7 +137,7 @@ fn put_policy(
     }
 }
 
-/// Looks up the policy whose id these bytes are.
+/// Looks up the policy with the id `id`.
 fn get_policy(
     alloc: Global,
     scratch: &mut Scratch,
@@ -155,7 +156,7 @@ fn get_policy(
     }
 }
 
-/// Deletes the policy whose id these bytes are.
+/// Deletes the policy with the id `id`.
 fn delete_policy(
     alloc: Global,
     scratch: &mut Scratch,
@@ -174,7 +175,7 @@ fn delete_policy(
     }
 }
 
-/// Returns the uid that JSON is, or None.
+/// Returns the uid that bytes name as JSON, or `None` if they do not name one.
 fn named_entity(
     alloc: Global,
     scratch: &mut Scratch,
@@ -188,7 +189,7 @@ fn named_entity(
     }
 }
 
-/// Deletes the entity whose uid JSON is, and appends the body of the reply. Returns the status.
+/// Deletes the entity that `uid` names as JSON, and appends the body of the reply. Returns the status.
 pub fn delete_entity(
     alloc: Global,
     scratch: &mut Scratch,

@@ -86,8 +86,8 @@ Deletes n s name (Err _) t = ⊥
 -- ---- updates that another site sent
 
 -- `TakesUpdates s us taken t` holds if `taken` states that all of the updates `us`, or exactly the first `k`, were
--- applied to `s`, and `t` is the store of the updates of `s` and of these, with the greatest entry among them at each
--- name (as `IsStoreOf` of stamped_store states).
+-- applied, and `t` is the store of the updates of `s` and the applied ones. At each name it has the greatest entry
+-- among them (`IsStoreOf` of stamped_store).
 abbrev pub TakesUpdates : Store → List Update → taking.Taken → Store → Type 0
 TakesUpdates s us (All k) t = (k ≡ length us) × (t ≡ store_of (updates s ++ us))
 TakesUpdates s us (Short k) t = (k < length us) × (t ≡ store_of (updates s ++ take k us))

@@ -155,8 +155,8 @@ impl Site {
     }
 
     /// Returns the answer to the request that JSON states, over what is stored: the policies and entities that the
-    /// texts of the store are parsed as, and the actions of the schema. No policy in it has an error of type, of an
-    /// attribute or of an extension function.
+    /// texts of the store are parsed as, and the actions of the schema. Each error in the answer is
+    /// `EntityDoesNotExist` or `ArithBoundsError`.
     ///
     /// Evaluates only the policies whose key in the index matches the request, and looks up ancestors in the cache. If
     /// the index is absent, every policy is evaluated; if the cache is absent, the hierarchy is searched for cycles.

@@ -51,8 +51,8 @@ pub fn read_entries_are_joined<P: Drop>()
         ↔ (plain_entry a ≡ plain_entry b) }
 {}
 
-/// Proves that each implementation of `Join` has an order, and a join that is associative, commutative, idempotent
-/// and the least upper bound, up to being at most each other. No-op.
+/// Proves that each implementation of `Join` has a preorder, and a join that is a least upper bound, and associative,
+/// commutative and idempotent if values that are at most each other count as equal. No-op.
 pub fn joins_have_laws<V: Join>()
     ensures { IsJoin (λ a b. V.is_below a b ≡ true) V.joined }
 {}
@@ -106,8 +106,8 @@ pub fn stamps_are_issued()
         ≡ Some (issued (issue s site) body) }
 {}
 
-/// Proves that the policies of a store are exactly those whose name has a text, each with that text, and so are its
-/// entities. No-op.
+/// Proves that the policies and the entities of a store are exactly those whose name has a text, each with that text.
+/// No-op.
 pub fn contents_are_told()
     ensures policies { (s : Store) (id text : List ℕ) → Contains (policies_of s) (id, text)
         ↔ (text_under s (policy_name id) ≡ Some text) }
@@ -119,8 +119,9 @@ pub fn contents_are_told()
 ///
 /// - `news`: a delta has exactly the entries of its store that the summary lacks or has with a smaller stamp.
 /// - `summary`: a summary has the stamp of each entry of its store.
-/// - `whole`: joined into a store, a delta against a summary of this store, or of one that is at most this one (an
-///   earlier state of it), has the same effect as the whole other store, if equal stamps mean equal entries.
+/// - `whole`: let `old` be a store that is at most `s`, such as `s` or an earlier state of it. The delta of a store `t`
+///   against the summary of `old`, joined into `s`, has the same effect as the whole of `t`, if equal stamps mean equal
+///   entries in `old` and `t`.
 pub fn deltas_are_joined()
     ensures news { (t : Store) (m : Summary) (q : Name) (e : PlainEntry) → (get (delta t m) q ≡ Some e)
         ↔ ((get t q ≡ Some e) × (is_unseen (value_at name_cmp m q) (Some e) ≡ true)) }
@@ -164,12 +165,13 @@ pub fn site_names_are_told()
     ensures apart { (m n : ℕ) → m < 100000 → n < 100000 → five_digits m ≡ five_digits n → m ≡ n }
 {}
 
-/// Proves that stores of numbered sites correspond to those of named sites. No-op.
+/// Proves that stores of numbered sites correspond to those of named sites. To raise updates or a store is to replace
+/// each site's number by its five digits. No-op.
 ///
 /// - `greatest`, `only`: such a store is the only store of its updates, as one of named sites is.
 /// - `least`: the join of two is their least upper bound.
 ///
-/// If each number is one that a site had (`updates` needs no such condition):
+/// If each site's number is from 1 to 65,535 (`updates` needs no such condition):
 ///
 /// - `store`, `updates`: the store of raised updates is the raised store, which has exactly the raised updates.
 /// - `joined`, `join`: the raise of a join is the join of the raised stores.

@@ -1,8 +1,8 @@
 -- Defines the summary that bytes state, and the error of bytes that state none.
 -- Source: docs/formats.md, "Messages between sites".
 -- Rules of this product: a summary and each of its stamps have exactly the keys below (the keys of parsed JSON ascend:
--- `json_keys_ascend`); names ascend strictly. After these, the error is that of the first stamp out of range: of its
--- count, else of its name.
+-- `json_keys_ascend`); names ascend strictly. If all this holds, the error is that of the first stamp out of range: of
+-- its count, else of its name.
 use Rattle.std.specs.Prelude.{◌≡◌, ◌≤◌, ℕ, suc, List, ◌∷◌, ⊤, length, map, codes}
 use Rattle.std.specs.List.{AllZip, AllByRecursion}
 use Rattle.std.specs.List.Sorted.{IsStrictlySortedBy}
@@ -62,8 +62,8 @@ pub record Fits (u : Name × Stamp) : Type 0 where
   pub count : CountFits u.1.count
   pub id : IdFits u.0
 
--- `RefusesRanges place u fault` holds if one of them is not, and `fault` is the error of `u` at the index `place`: that
--- of its count, else that of its name.
+-- `RefusesRanges place u fault` holds if the count or the name of `u` is out of its range, and `fault` is the error of
+-- `u` at the index `place`: that of its count, else that of its name.
 pub data RefusesRanges (place : ℕ) (u : Name × Stamp) : MessageFault → Type 0 where
   bad_count : (CountFits u.1.count → ⊥) → RefusesRanges place u (CountRange place)
   bad_id : CountFits u.1.count → (IdFits u.0 → ⊥) → RefusesRanges place u (BadEntry place 19)

@@ -9,13 +9,13 @@ Tells join.Apart t o = o ≡ None
 Tells join.Left t o = o ≡ Some t
 Tells join.Wider t o = IsSome o × (o ≡ Some t → ⊥)
 
--- `widened j` is `j`, no longer the left type.
+-- `widened j` is `j`, but `Wider` instead of `Left`.
 abbrev pub widened : Join → Join
 widened join.Apart = join.Apart
 widened join.Left = join.Wider
 widened join.Wider = join.Wider
 
--- `join_with more j` is the join of further fields and those before them.
+-- `join_with more j` is the join of all fields, if `more` is that of further fields and `j` that of those before them.
 abbrev pub join_with : Join → Join → Join
 join_with join.Apart j = join.Apart
 join_with join.Left j = j
