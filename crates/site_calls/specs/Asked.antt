@@ -39,7 +39,7 @@ abbrev pub put_asked : List ℕ → List ℕ → Asked
 put_asked text id =
     if is_utf8 text then gives (input.PutPolicy id text) else rejects (fault.Policy (not_text id text))
 
--- `removal_asked o` asks to delete the entity `o`; if there is none, the error is `BadShape`.
+-- `removal_asked o` is the deletion of the entity `o`, or the error `BadShape` if `o` is `None`.
 abbrev pub removal_asked : Option EntityUid → Asked
 removal_asked (Some uid) = gives (input.DeleteEntity uid)
 removal_asked None = rejects (fault.Entity BadShape)
